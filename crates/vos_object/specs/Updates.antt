@@ -10,7 +10,14 @@ use Rattle.base_types.specs.Operations.{write_path}
 use Rattle.base_types.specs.Paths.{record_size}
 use Rattle.daos_model.specs.declared.durable.Version.{Version}
 use Rattle.daos_model.specs.Forms.{is_unit, is_write_in_form}
-use Rattle.vos_path.specs.Writes.{NamesAreKeys, data_blocks, object_pairs}
+use Rattle.pmem_pages.specs.Blocks.{Blocks}
+use Rattle.vos_values.specs.declared.keys.ObjectKey.{ObjectKey}
+use Rattle.vos_levels.specs.Levels.{HasMore, hung_root}
+use Rattle.vos_path.specs.declared.stamp.Stamp.{Stamp}
+use Rattle.vos_path.specs.Calls.{Turns}
+use Rattle.vos_path.specs.Nodes.{ObjectsNoted}
+use Rattle.vos_path.specs.Objects.{Objects, objects_owner, objects_versions}
+use Rattle.vos_path.specs.Writes.{IsAtObject, NamesAreKeys, data_blocks, object_pairs}
 
 -- A write that objects can take: its number is below 64, its form is right, the record size of its object is from 1 to 64, and
 -- its names are keys.
@@ -35,3 +42,14 @@ is_value_read (read.Extent p low len) = true
 is_value_read (read.Dkeys p) = false
 is_value_read (read.Akeys p) = false
 is_value_read (read.Exists p) = false
+
+-- when a write is made, and whose it is
+abbrev pub stamp_of : Epoch → AttemptId → MinorWrite → Stamp
+stamp_of epoch by w = record { at = record { epoch = epoch; minor = w.minor }; by = by }
+
+-- There is one version more, and no other changed. An update's creation came into each log on its way, or in the place of the
+-- creation of its moment; a punch came into the log of its own path. All other entries and nodes stay.
+abbrev pub Added : Epoch → AttemptId → MinorWrite → Blocks → Objects → Blocks → ℕ → Type 0
+Added epoch by w m g n at =
+    (o : ObjectKey) → IsAtObject o (write_path w.write)
+    → Turns objects_owner hung_root objects_versions m g n at (HasMore (new_version epoch by w)) (ObjectsNoted (stamp_of epoch by w) w.write o (write_path w.write).dkey (write_path w.write).akey)

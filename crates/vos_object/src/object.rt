@@ -10,14 +10,14 @@ ghost use Rattle.daos_model.specs.Ordered.{in_order};
 ghost use Rattle.daos_model.specs.Versions.{map_below};
 ghost use Rattle.pmem_tree_base.specs.Calls.{Goes};
 ghost use Rattle.pmem_tree_base.specs.declared.refusal.TreeNo.{TreeNo};
-ghost use Rattle.vos_levels.specs.Calls.{Becomes, HasThing, OfThing};
-ghost use Rattle.vos_levels.specs.Levels.{HasMore, hung_root};
+ghost use Rattle.vos_levels.specs.Calls.{HasThing, OfThing};
+ghost use Rattle.vos_levels.specs.Levels.{hung_root};
 ghost use Rattle.vos_chain.specs.declared.refusal.PiecesNo.TheVariants.{Stopped as stopped_no};
 ghost use Rattle.vos_path.specs.Calls.{LacksFor, SpendsAtMost, for_pair};
 ghost use Rattle.vos_path.specs.Objects.{objects_owner, objects_versions};
 ghost use Rattle.vos_path.specs.Writes.{IsNewIn, NamesAreKeys, ObjectsAreSmall, below_object_pairs, data_blocks, is_update, object_pairs};
 ghost use Rattle.vos_reads.specs.Ways.{IsSettled};
-ghost use Rattle.vos_object.specs.Updates.{IsWritable, is_value_read, most_blocks, new_version};
+ghost use Rattle.vos_object.specs.Updates.{Added, IsWritable, is_value_read, most_blocks, new_version};
 
 use base_types::answer::Answer;
 use base_types::epoch::Epoch;
@@ -63,7 +63,7 @@ impl Objects {
         requires kind { self.old.tree.kind ≡ 1 }
         requires write { IsWritable write.now }
         requires here { HasThing P.tells objects_owner hung_root (P.blocks pages.old) self.old.tree.root (IsNewIn (new_version epoch by write.now)) }
-        ensures added { OnOk result (OfThing P.tells objects_owner hung_root (P.blocks pages.old) self.old.tree.root (λ g. IsNewIn (new_version epoch by write.now) g → Becomes objects_owner hung_root objects_versions (P.blocks pages.old) g (P.blocks pages.new) self.new.tree.root (HasMore (new_version epoch by write.now)))) }
+        ensures added { OnOk result (OfThing P.tells objects_owner hung_root (P.blocks pages.old) self.old.tree.root (λ g. IsNewIn (new_version epoch by write.now) g → Added epoch by write.now (P.blocks pages.old) g (P.blocks pages.new) self.new.tree.root)) }
         ensures kind { self.new.tree.kind ≡ 1 }
         ensures no_block { IsErrOf result TreeNo.NoBlock → (P.budget pages.old).free < most_blocks write.now.write }
         ensures too_much { IsErrOf result TreeNo.TooMuch → OfThing P.tells objects_owner hung_root (P.blocks pages.old) self.old.tree.root (λ g. IsNewIn (new_version epoch by write.now) g → (d : ℕ) → ObjectsAreSmall d g → LacksFor (data_blocks write.now.write) (below_object_pairs write.now.write (for_pair d)) d (P.budget pages.old)) }
@@ -99,7 +99,7 @@ impl Objects {
         requires kind { self.old.tree.kind ≡ 1 }
         requires write { IsWritable write.now }
         requires here { HasThing P.tells objects_owner hung_root (P.blocks pages.old) self.old.tree.root (IsNewIn (new_version epoch by write.now)) }
-        ensures added { OnOk result (OfThing P.tells objects_owner hung_root (P.blocks pages.old) self.old.tree.root (λ g. IsNewIn (new_version epoch by write.now) g → Becomes objects_owner hung_root objects_versions (P.blocks pages.old) g (P.blocks pages.new) self.new.tree.root (HasMore (new_version epoch by write.now)))) }
+        ensures added { OnOk result (OfThing P.tells objects_owner hung_root (P.blocks pages.old) self.old.tree.root (λ g. IsNewIn (new_version epoch by write.now) g → Added epoch by write.now (P.blocks pages.old) g (P.blocks pages.new) self.new.tree.root)) }
         ensures kind { self.new.tree.kind ≡ 1 }
         ensures no_block { IsErrOf result TreeNo.NoBlock → (P.budget pages.old).free < most_blocks write.now.write }
         ensures too_much { IsErrOf result TreeNo.TooMuch → OfThing P.tells objects_owner hung_root (P.blocks pages.old) self.old.tree.root (λ g. IsNewIn (new_version epoch by write.now) g → (d : ℕ) → ObjectsAreSmall d g → LacksFor (data_blocks write.now.write) (below_object_pairs write.now.write (for_pair d)) d (P.budget pages.old)) }

@@ -15,10 +15,10 @@ use Rattle.vos_values.specs.declared.values.AkeyRoots.{AkeyRoots}
 use Rattle.vos_values.specs.Keys.{IsName, name_key}
 use Rattle.pmem_tree_base.specs.Find.{value_of}
 use Rattle.vos_values.specs.Values.{akey_in, akey_value}
-use Rattle.vos_levels.specs.Calls.{Becomes}
 use Rattle.vos_levels.specs.Levels.{HasMore, Hung, hung, hung_root, is_level, things}
 use Rattle.vos_path.specs.declared.stamp.Stamp.{Stamp}
 use Rattle.vos_path.specs.Calls.{LacksFor, PutAt, SpendsAtMost, Turns, akey_or_zero, for_pair}
+use Rattle.vos_path.specs.Nodes.{AkeysNoted, ValuesNoted}
 use Rattle.vos_path.specs.Objects.{Akey, akey_level, akey_path, akey_versions, akeys_versions, held_values, no_values, values_or_none, values_owner, values_roots, values_versions}
 use Rattle.vos_path.specs.Writes.{AkeysAreNew, AkeysAreSmall, IsSmall, ValuesAreNew, ValuesAreSmall, fresh}
 use Rattle.vos_path.proofs.Finding.{akey_found, akey_zero, some_mapped, some_there, found_holds, listed_found, no_values_hold, no_values_own}
@@ -61,7 +61,7 @@ pub akey_small : (d : ℕ) (g : Hung Akey) (name : List ℕ) → AkeysAreSmall d
 akey_small d g name h = all_found held_values no_values (ValuesAreSmall d) (is_level akey_level (name_key name)) (things g) (some_power d, (some_power d, some_power d)) h.1
 
 module _ (m n : Blocks) (g : Hung Akey) (held : Holds (hung akey_level) m g) (s : Stamp) (w : Write) (name : List ℕ) (is_name : IsName name) (roots : AkeyRoots)
-    (t : Turns values_owner values_roots (values_versions (write_path w)) m (values_or_none (akey_at name g)) n roots (HasMore (fresh s w))) where
+    (t : Turns values_owner values_roots (values_versions (write_path w)) m (values_or_none (akey_at name g)) n roots (HasMore (fresh s w)) (ValuesNoted s w)) where
   named_so : (a : Akey) → IsName a.name → is_level akey_level (name_key name) a ≡ true → a.name ≡ name
   named_so a good level = sym (name_exact name a.name is_name good (level_equal akey_level (name_key name) a level))
 
@@ -72,7 +72,7 @@ module _ (m n : Blocks) (g : Hung Akey) (held : Holds (hung akey_level) m g) (s 
   akeys_still at e = still akey_level (name_key name) m n at g made held e (changed_part held_values values_owner no_values m n (akey_at name g) made no_values_own t.changed)
 
   pub akeys_written : (ob : ObjectKey) (d a : List ℕ) → write_path w ≡ akey_path ob d a → (write_path w).akey ≡ Some name → (o : Blocks) (root : ℕ) → PutAt n 3 g.0 (name_key name) (akey_value roots) o root
-      → Becomes (hung akey_level) hung_root (akeys_versions ob d) m g o root (HasMore (fresh s w))
+      → Turns (hung akey_level) hung_root (akeys_versions ob d) m g o root (HasMore (fresh s w)) (AkeysNoted s w a)
   akeys_written ob d a path akey o root put =
       let v = fresh s w in
       let x = akey_at name g in
@@ -81,8 +81,8 @@ module _ (m n : Blocks) (g : Hung Akey) (held : Holds (hung akey_level) m g) (s 
       let more = subst (λ q. HasMore v (values_versions q (values_or_none x)) (values_versions q t.now)) p t.shown_is in
       let same = listed_found 3 held_values values_owner akey_level.key akey_level.value akey_level.Good (name_key name) m g held no_values (akey_versions ob d) (values_versions (akey_path ob d name)) refl (λ b good level. ap (λ z. values_versions (akey_path ob d z) b.holds) (named_so b good level)) in
       let put2 : PutAt n 3 g.0 (name_key name) (akey_value (values_roots t.now)) o root = subst (λ z. PutAt n 3 g.0 (name_key name) (akey_value z) o root) t.roots_are put in
-      level_put 3 held_values values_owner akey_level.key akey_level.value akey_level.Good (name_key name) no_values (akey_versions ob d) v no_values_own (λ b good level. ap name_key (named_so b good level)) m n o g made root held t.changed refl is_name put2
-      (subst (λ z. HasMore v z (values_versions (akey_path ob d name) t.now)) (sym same) more)
+      subst (λ z. Turns (hung akey_level) hung_root (akeys_versions ob d) m g o root (HasMore v) (AkeysNoted s w z)) (sym is) (level_put 3 held_values values_owner akey_level.key akey_level.value akey_level.Good (name_key name) no_values (akey_versions ob d) v no_values_own (λ b good level. ap name_key (named_so b good level)) m n o g made root held t.changed refl is_name put2
+      (subst (λ z. HasMore v z (values_versions (akey_path ob d name) t.now)) (sym same) more) (λ b. b.name ≡ name) (ValuesNoted s w) refl t.nodes)
 
 -- ---- what the look-up says
 

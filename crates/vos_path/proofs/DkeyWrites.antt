@@ -14,11 +14,12 @@ use Rattle.vos_values.specs.declared.keys.ObjectKey.{ObjectKey}
 use Rattle.vos_values.specs.declared.values.Roots.{Roots}
 use Rattle.vos_values.specs.Keys.{IsName, IsObjectKey, name_key, object_key}
 use Rattle.vos_values.specs.Values.{roots_in, roots_value}
-use Rattle.vos_levels.specs.Calls.{Becomes}
 use Rattle.vos_levels.specs.Levels.{HasMore, Hung, hung, hung_root, is_level}
 use Rattle.vos_path.specs.declared.stamp.Stamp.{Stamp}
 use Rattle.vos_path.specs.Calls.{PutAt, Turns, roots_or_zero}
-use Rattle.vos_path.specs.Objects.{Dkey, Object, Objects, akey_level, below_dkey_versions, below_object_versions, below_or_none, below_owner, below_roots, dkey_level, dkeys_versions, object_level, objects_owner, objects_versions}
+use Rattle.base_types.specs.declared.operation.Write.{Write}
+use Rattle.vos_path.specs.Nodes.{DkeyNoted, DkeysNoted, ObjectNoted, ObjectsNoted}
+use Rattle.vos_path.specs.Objects.{Akey, Below, Dkey, Object, Objects, akey_level, below_dkey_versions, below_object_versions, below_or_none, below_owner, below_roots, dkey_level, dkeys_versions, object_level, objects_owner, objects_versions}
 use Rattle.vos_path.specs.Writes.{BelowDkeyIsNew, BelowDkeyIsSmall, BelowObjectIsSmall, DkeysAreNew, DkeysAreSmall, ObjectsAreSmall}
 use Rattle.vos_path.proofs.AkeyWrites.{some_power}
 use Rattle.vos_path.proofs.BranchWrites.{branch_all, branch_at, branch_holds, branch_is_there, branch_roots_are, branch_still, branch_written}
@@ -50,13 +51,13 @@ dkey_is_there m g held name k is found says had e = branch_is_there 2 name_key I
 dkey_exact : (name : List ℕ) → IsName name → (b : Dkey) → IsName b.name → is_level dkey_level (name_key name) b ≡ true → b.name ≡ name
 dkey_exact name good b ok level = sym (name_exact name b.name good ok (level_equal dkey_level (name_key name) b level))
 
-pub dkeys_still : (m n : Blocks) (g : Hung Dkey) → Holds (hung dkey_level) m g → (o : ObjectKey) (name : List ℕ) → IsName name → (v : Version) (roots : Roots) → Turns (below_owner akey_level) below_roots (below_dkey_versions o name) m (below_or_none (dkey_at name g)) n roots (HasMore v)
+pub dkeys_still : (m n : Blocks) (g : Hung Dkey) → Holds (hung dkey_level) m g → (o : ObjectKey) (name : List ℕ) → IsName name → (v : Version) (Q : Below Akey → Below Akey → Type 0) (roots : Roots) → Turns (below_owner akey_level) below_roots (below_dkey_versions o name) m (below_or_none (dkey_at name g)) n roots (HasMore v) Q
     → (at : ℕ) → at ≡ hung_root g → IsTree n 2 at g.0
-dkeys_still m n g held o name good v roots t at e = branch_still 2 name_key IsName akey_level name (dkey_exact name good) good m n g held (below_dkey_versions o) v roots t at e
+dkeys_still m n g held o name good v Q roots t at e = branch_still 2 name_key IsName akey_level name (dkey_exact name good) good m n g held (below_dkey_versions o) v Q roots t at e
 
-pub dkeys_written : (m n : Blocks) (g : Hung Dkey) → Holds (hung dkey_level) m g → (o : ObjectKey) (name : List ℕ) → IsName name → (v : Version) (roots : Roots) → Turns (below_owner akey_level) below_roots (below_dkey_versions o name) m (below_or_none (dkey_at name g)) n roots (HasMore v)
-    → (p : Blocks) (root : ℕ) → PutAt n 2 g.0 (name_key name) (roots_value roots) p root → Becomes (hung dkey_level) hung_root (dkeys_versions o) m g p root (HasMore v)
-dkeys_written m n g held o name good v roots t p root put = branch_written 2 name_key IsName akey_level name (dkey_exact name good) good m n g held (below_dkey_versions o) v roots t refl p root put
+pub dkeys_written : (m n : Blocks) (g : Hung Dkey) → Holds (hung dkey_level) m g → (o : ObjectKey) (name : List ℕ) → IsName name → (v : Version) (akey : Option (List ℕ)) (w : Write) (s : Stamp) (roots : Roots) → Turns (below_owner akey_level) below_roots (below_dkey_versions o name) m (below_or_none (dkey_at name g)) n roots (HasMore v) (DkeyNoted s w akey)
+    → (p : Blocks) (root : ℕ) → PutAt n 2 g.0 (name_key name) (roots_value roots) p root → Turns (hung dkey_level) hung_root (dkeys_versions o) m g p root (HasMore v) (DkeysNoted s w name akey)
+dkeys_written m n g held o name good v akey w s roots t p root put = branch_written 2 name_key IsName akey_level name (dkey_exact name good) good m n g held (below_dkey_versions o) v (DkeyNoted s w akey) roots t refl p root put
 
 -- ---- objects
 
@@ -80,10 +81,10 @@ object_is_there m g held name k is found says had e = branch_is_there 1 object_k
 pub objects_exact : (name : ObjectKey) → IsObjectKey Two name → (b : Object) → IsObjectKey Two b.name → is_level object_level (object_key name) b ≡ true → b.name ≡ name
 objects_exact name good b ok level = sym (object_exact name b.name good ok (level_equal object_level (object_key name) b level))
 
-pub objects_still : (m n : Blocks) (g : Objects) → Holds objects_owner m g → (name : ObjectKey) → IsObjectKey Two name → (v : Version) (roots : Roots) → Turns (below_owner dkey_level) below_roots (below_object_versions name) m (below_or_none (object_at name g)) n roots (HasMore v)
+pub objects_still : (m n : Blocks) (g : Objects) → Holds objects_owner m g → (name : ObjectKey) → IsObjectKey Two name → (v : Version) (Q : Below Dkey → Below Dkey → Type 0) (roots : Roots) → Turns (below_owner dkey_level) below_roots (below_object_versions name) m (below_or_none (object_at name g)) n roots (HasMore v) Q
     → (at : ℕ) → at ≡ hung_root g → IsTree n 1 at g.0
-objects_still m n g held name good v roots t at e = branch_still 1 object_key (IsObjectKey Two) dkey_level name (objects_exact name good) good m n g held below_object_versions v roots t at e
+objects_still m n g held name good v Q roots t at e = branch_still 1 object_key (IsObjectKey Two) dkey_level name (objects_exact name good) good m n g held below_object_versions v Q roots t at e
 
-pub objects_written : (m n : Blocks) (g : Objects) → Holds objects_owner m g → (name : ObjectKey) → IsObjectKey Two name → (v : Version) (roots : Roots) → Turns (below_owner dkey_level) below_roots (below_object_versions name) m (below_or_none (object_at name g)) n roots (HasMore v)
-    → (p : Blocks) (root : ℕ) → PutAt n 1 g.0 (object_key name) (roots_value roots) p root → Becomes objects_owner hung_root objects_versions m g p root (HasMore v)
-objects_written m n g held name good v roots t p root put = branch_written 1 object_key (IsObjectKey Two) dkey_level name (objects_exact name good) good m n g held below_object_versions v roots t refl p root put
+pub objects_written : (m n : Blocks) (g : Objects) → Holds objects_owner m g → (name : ObjectKey) → IsObjectKey Two name → (v : Version) (dkey akey : Option (List ℕ)) (w : Write) (s : Stamp) (roots : Roots) → Turns (below_owner dkey_level) below_roots (below_object_versions name) m (below_or_none (object_at name g)) n roots (HasMore v) (ObjectNoted s w dkey akey)
+    → (p : Blocks) (root : ℕ) → PutAt n 1 g.0 (object_key name) (roots_value roots) p root → Turns objects_owner hung_root objects_versions m g p root (HasMore v) (ObjectsNoted s w name dkey akey)
+objects_written m n g held name good v dkey akey w s roots t p root put = branch_written 1 object_key (IsObjectKey Two) dkey_level name (objects_exact name good) good m n g held below_object_versions v (ObjectNoted s w dkey akey) roots t refl p root put

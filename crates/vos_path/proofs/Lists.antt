@@ -92,3 +92,6 @@ all_found {A = A} {P = P} f none Q test (x ∷ xs) n h = by (test x) (all_found 
     by : (t : Bool) → Q (or_none f none (find test xs)) → Q (or_none f none (if t then Some x else find test xs))
     by true r = All-head (λ a. Q (f a)) x xs h
     by false r = r
+
+pub some_same : {A : Type 0} (a b : A) → Some a ≡ Some b → a ≡ b
+some_same a b h = cc

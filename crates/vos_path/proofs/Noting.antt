@@ -70,12 +70,23 @@ punch_fails at h (x ∷ xs) a good found none = by (is_level log_level (moment_k
         ap is_punch (sym (inside x a f)) ∙ first_fails (is_punch x) (is_at at x) here (moment_level at (moment_of x) h good.0.moment ∙ e)
     by false e f r = r f
 
+-- a look-up by the key finds the entry of the moment
+found_same : (at : Moment) → IsMoment at → (xs : List LogEntry) → AllGood log_level xs → find (is_level log_level (moment_key at)) xs ≡ find (is_at at) xs
+found_same at h [] good = refl
+found_same at h (x ∷ xs) good =
+    ap (λ (t : Bool). if t then Some x else find (is_level log_level (moment_key at)) xs) (sym (moment_level at (moment_of x) h good.0.moment))
+    ∙ ap (λ z. if is_at at x then Some x else z) (found_same at h xs good.1)
+
 pub log_noted : (m o : Blocks) (g : Log) (s : Stamp) (punch : Bool) (kind root : ℕ) (key : TreeKey) (value : Value) → kind ≡ 4 → key ≡ moment_key s.at → value ≡ value_of_entry (fresh_entry s punch) → IsMoment s.at → IsAttempt s.by
     → Holds log_owner m g → has_punch_at s.at (things g) ≡ false → PutAt m kind g.0 key value o root → Becomes log_owner hung_root things m g o root (IsNoted (fresh_entry s punch))
 log_noted m o g s punch kind root key value k key_is value_is moment by h none put =
     let b = fresh_entry s punch in
     let put2 : PutAt m 4 g.0 (moment_key s.at) (value_of_entry b) o root = subst (λ z. PutAt m 4 g.0 (moment_key s.at) z o root) value_is (subst (λ z. PutAt m 4 g.0 z value o root) key_is (subst (λ z. PutAt m z g.0 key value o root) k put)) in
     let x = find (is_level log_level (moment_key s.at)) (things g) in
+    let good = all_good log_level (entries g.0) g.1 h.here.1.leads in
     becomes_shown things (IsPut x b) things (IsNoted b)
-    (λ y is. filter_put is_punch x b (things g) (things y) is (λ a f. punch_fails s.at moment (things g) a (all_good log_level (entries g.0) g.1 h.here.1.leads) f none))
+    (λ y is. record {
+      put = subst (λ z. IsPut z b (things g) (things y)) (found_same s.at moment (things g) good) is;
+      punches = filter_put is_punch x b (things g) (things y) is (λ a f. punch_fails s.at moment (things g) a good f none);
+    })
     (hung_put log_level (moment_key s.at) (log_exact s.at moment) m m o g b root h (in_none_changes m x b) refl (record { moment = moment; by = by }) put2)

@@ -20,7 +20,8 @@ use Rattle.vos_levels.specs.Levels.{HasMore, Hung, Level, TellsKey, hung, hung_r
 use Rattle.vos_levels.proofs.Changing.{count_is, hung_more, hung_other, hung_tree}
 use Rattle.vos_levels.proofs.Settling.{becomes_shown}
 use Rattle.vos_levels.proofs.Spots.{find_none, find_spot, look, mapped_spot}
-use Rattle.vos_path.specs.Calls.{IsPut, PutAt, PutBy}
+use Rattle.vos_path.specs.Calls.{IsPut, PutAt, PutBy, Turns}
+use Rattle.vos_path.specs.Nodes.{OnePut}
 use Rattle.vos_path.specs.Objects.{listed, or_none, together}
 use Rattle.vos_path.proofs.Lists.{together_more}
 
@@ -121,9 +122,15 @@ pub level_put : {A P V : Type 0} (kind : ℕ) (f : A → P) (O : Owner P) (key :
     → (m n o : Blocks) (g : Hung A) (b : A) (root : ℕ) → Holds (hung (part_level kind f O key value Good)) m g
     → Changed O m (or_none f none (find (is_level (part_level kind f O key value Good) k) (things g))) n (f b) → key b ≡ k → Good b → PutAt n kind g.0 k (value b) o root
     → HasMore v (listed shown (find (is_level (part_level kind f O key value Good) k) (things g))) (shown b)
-    → Becomes (hung (part_level kind f O key value Good)) hung_root (λ z. together shown (things z)) m g o root (HasMore v)
-level_put kind f O key value Good k none shown v empty exact m n o g b root h made named good put more =
+    → (Named : A → Type 0) (N : P → P → Type 0) → Named b → N (or_none f none (find (is_level (part_level kind f O key value Good) k) (things g))) (f b)
+    → Turns (hung (part_level kind f O key value Good)) hung_root (λ z. together shown (things z)) m g o root (HasMore v) (λ x y. OnePut (is_level (part_level kind f O key value Good) k) f none Named N (things x) (things y))
+level_put kind f O key value Good k none shown v empty exact m n o g b root h made named good put more Named N called nodes =
     let x = find (is_level (part_level kind f O key value Good) k) (things g) in
-    becomes_shown things (IsPut x b) (λ z. together shown (things z)) (HasMore v)
-    (λ y is. together_more shown x b v (things g) (things y) is more)
-    (hung_put (part_level kind f O key value Good) k exact m n o g b root h (changed_part f O none m n x b empty made) named good put)
+    let r = hung_put (part_level kind f O key value Good) k exact m n o g b root h (changed_part f O none m n x b empty made) named good put in
+    record {
+      now = r.now;
+      changed = r.changed;
+      roots_are = r.root_is;
+      shown_is = together_more shown x b v (things g) (things r.now) r.shown_is more;
+      nodes = record { now = b; named = called; put = r.shown_is; nodes = nodes };
+    }

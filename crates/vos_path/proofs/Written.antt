@@ -1,5 +1,5 @@
 -- What a write makes of an akey, and of what it costs.
-use Rattle.std.proofs.Common.{◌≡◌, ℕ, ◌+◌, ◌*◌, ◌≤◌, true, false, List, ◌++◌, map, sym, ap, subst, arith, inl, inr}
+use Rattle.std.proofs.Common.{◌≡◌, ℕ, ◌+◌, ◌*◌, ◌≤◌, Bool, true, false, List, ◌++◌, map, sym, ap, subst, arith, inl, inr}
 use Rattle.std.specs.Prelude.{filter}
 use Rattle.base_types.specs.declared.operation.Write.{Write}
 use Rattle.base_types.specs.declared.operation.Write.TheVariants.{Single, Extent, PunchAkey}
@@ -16,8 +16,9 @@ use Rattle.vos_single.specs.Singles.{Singles, new_version, single_owner, version
 use Rattle.vos_extent.specs.Extents.{Extents, extent_owner, extents, new_extent}
 use Rattle.vos_path.specs.declared.stamp.Stamp.{Stamp}
 use Rattle.vos_path.specs.Calls.{LacksFor, SpendsAtMost, Turns, for_pair}
+use Rattle.vos_path.specs.Nodes.{ValuesNoted}
 use Rattle.vos_path.specs.Objects.{Values, extent_version, is_punch, punch_version, punches, single_version, values_owner, values_roots, values_versions}
-use Rattle.vos_path.specs.Writes.{IsNoted, IsSmall, fresh, fresh_entry, place_at}
+use Rattle.vos_path.specs.Writes.{IsNoted, IsNotedIf, IsSmall, fresh, fresh_entry, place_at}
 use Rattle.pmem_tree.specs.Calls.{StagesAtMost, TooFew}
 use Rattle.vos_versions.specs.Marks.{StagesFor, TooFewFor}
 use Rattle.vos_path.proofs.Lists.{more_after, more_before, more_map}
@@ -71,14 +72,19 @@ log_after_extent m n g x h c = first_stands log_owner (both single_owner extent_
 
 -- the punches after a creation are the same, and after a punch they are one more
 pub punches_same : (w : Write) (s : Stamp) (g h : Log) → IsNoted (fresh_entry s false) (things g) (things h) → punches w h ≡ punches w g
-punches_same w s g h is = ap (map (punch_version w)) is
+punches_same w s g h is = ap (map (punch_version w)) is.punches
+
+-- and where an update alone is noted
+pub punches_kept : (t : Bool) (w : Write) (s : Stamp) (g h : Log) → IsNotedIf t (fresh_entry s false) (things g) (things h) → punches w h ≡ punches w g
+punches_kept true w s g h is = punches_same w s g h is
+punches_kept false w s g h is = ap (λ es. map (punch_version w) (filter is_punch es)) is
 
 pub punches_more : (w : Write) (s : Stamp) (g h : Log) → IsNoted (fresh_entry s true) (things g) (things h) → HasMore (fresh s w) (punches w g) (punches w h)
-punches_more w s g h is = more_map (punch_version w) (fresh_entry s true) (filter is_punch (things g)) (filter is_punch (things h)) is
+punches_more w s g h is = more_map (punch_version w) (fresh_entry s true) (filter is_punch (things g)) (filter is_punch (things h)) is.punches
 
 pub single_written : (m n o : Blocks) (g : Values) (roots : AkeyRoots) (s : Stamp) (bytes : List ℕ) (p : Path) (single log : ℕ) → Holds values_owner m g → roots ≡ values_roots g
     → Becomes single_owner hung_root versions m g.1.0 n single (HasMore (new_version s.at s.by bytes)) → Becomes log_owner hung_root things n g.0 o log (IsNoted (fresh_entry s false))
-    → Turns values_owner values_roots (values_versions p) m g o (record { log = log; singles = single; extents = roots.extents }) (HasMore (fresh s (Single p bytes)))
+    → Turns values_owner values_roots (values_versions p) m g o (record { log = log; singles = single; extents = roots.extents }) (HasMore (fresh s (Single p bytes))) (ValuesNoted s (Single p bytes))
 single_written m n o g roots s bytes p single log h at b l =
     let c = single_changes m n g b.now h b.changed in
     let v = fresh s (Single p bytes) in
@@ -90,11 +96,12 @@ single_written m n o g roots s bytes p single log h at b l =
       changed = both_change log_owner (both single_owner extent_owner) m n o g l.now (b.now, g.1.1) h c l.changed;
       roots_are = λ i. record { log = l.root_is i; singles = b.root_is i; extents = ap (λ r. r.extents) at i };
       shown_is = subst (λ z. HasMore v (values_versions p g) (z ++ (map (single_version p) (versions b.now) ++ map (extent_version p) (extents g.1.1)))) (sym (punches_same (PunchAkey p) s g.0 l.now l.shown_is)) all;
+      nodes = l.shown_is;
     }
 
 pub extent_written : (m n o : Blocks) (g : Values) (roots : AkeyRoots) (s : Stamp) (low : ℕ) (bytes : List ℕ) (p : Path) (extent log : ℕ) → Holds values_owner m g → roots ≡ values_roots g
     → Becomes extent_owner hung_root extents m g.1.1 n extent (HasMore (new_extent (place_at s low) s.by bytes)) → Becomes log_owner hung_root things n g.0 o log (IsNoted (fresh_entry s false))
-    → Turns values_owner values_roots (values_versions p) m g o (record { log = log; singles = roots.singles; extents = extent }) (HasMore (fresh s (Extent p low bytes)))
+    → Turns values_owner values_roots (values_versions p) m g o (record { log = log; singles = roots.singles; extents = extent }) (HasMore (fresh s (Extent p low bytes))) (ValuesNoted s (Extent p low bytes))
 extent_written m n o g roots s low bytes p extent log h at b l =
     let c = extent_changes m n g b.now h b.changed in
     let v = fresh s (Extent p low bytes) in
@@ -106,11 +113,12 @@ extent_written m n o g roots s low bytes p extent log h at b l =
       changed = both_change log_owner (both single_owner extent_owner) m n o g l.now (g.1.0, b.now) h c l.changed;
       roots_are = λ i. record { log = l.root_is i; singles = ap (λ r. r.singles) at i; extents = b.root_is i };
       shown_is = subst (λ z. HasMore v (values_versions p g) (z ++ (map (single_version p) (versions g.1.0) ++ map (extent_version p) (extents b.now)))) (sym (punches_same (PunchAkey p) s g.0 l.now l.shown_is)) all;
+      nodes = l.shown_is;
     }
 
 pub values_punched : (m o : Blocks) (g : Values) (roots : AkeyRoots) (s : Stamp) (p : Path) (log : ℕ) → Holds values_owner m g → roots ≡ values_roots g
     → Becomes log_owner hung_root things m g.0 o log (IsNoted (fresh_entry s true))
-    → Turns values_owner values_roots (values_versions p) m g o (record { log = log; singles = roots.singles; extents = roots.extents }) (HasMore (fresh s (PunchAkey p)))
+    → Turns values_owner values_roots (values_versions p) m g o (record { log = log; singles = roots.singles; extents = roots.extents }) (HasMore (fresh s (PunchAkey p))) (ValuesNoted s (PunchAkey p))
 values_punched m o g roots s p log h at l =
     let v = fresh s (PunchAkey p) in
     record {
@@ -118,6 +126,7 @@ values_punched m o g roots s p log h at l =
       changed = first_changes log_owner (both single_owner extent_owner) m o g l.now h l.changed;
       roots_are = λ i. record { log = l.root_is i; singles = ap (λ r. r.singles) at i; extents = ap (λ r. r.extents) at i };
       shown_is = more_before v (map (single_version p) (versions g.1.0) ++ map (extent_version p) (extents g.1.1)) (punches (PunchAkey p) g.0) (punches (PunchAkey p) l.now) (punches_more (PunchAkey p) s g.0 l.now l.shown_is);
+      nodes = l.shown_is;
     }
 
 -- ---- sums

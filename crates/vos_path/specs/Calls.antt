@@ -19,12 +19,14 @@ HasAt {G = G} tells O roots m at P = IsTrue tells → (g : G) × (Holds O m g ×
 abbrev pub OfAt : {G R : Type 0} → Bool → Owner G → (G → R) → Blocks → R → (G → Type 0) → Type 0
 OfAt {G = G} tells O roots m at P = IsTrue tells → (g : G) → Holds O m g → at ≡ roots g → P g
 
--- A thing became another, to which these roots lead: no other block changed. So do the lists that these stand for.
-pub record Turns {G R V : Type 0} (O : Owner G) (roots : G → R) (shown : G → List V) (m : Blocks) (g : G) (n : Blocks) (at : R) (Q : List V → List V → Type 0) : Type 0 where
+-- A thing became another, to which these roots lead: no other block changed. So do the lists that these stand for, and this
+-- holds of the two things.
+pub record Turns {G R V : Type 0} (O : Owner G) (roots : G → R) (shown : G → List V) (m : Blocks) (g : G) (n : Blocks) (at : R) (Q : List V → List V → Type 0) (N : G → G → Type 0) : Type 0 where
   pub now : G
   pub changed : Changed O m g n now
   pub roots_are : at ≡ roots now
   pub shown_is : Q (shown g) (shown now)
+  pub nodes : N g now
 
 -- ---- a pair comes into a tree, or has another value
 

@@ -1,6 +1,6 @@
 -- A write that comes to the versions of objects, and what it may cost.
 use Rattle.std.specs.Prelude.{◌≡◌, ◌≢◌, Some, ◌<◌, ◌+◌, ◌*◌, ◌^◌, ◌&&◌, ℕ, Bool, true, false, List, length, filter, All, if◌then◌else◌, IfSome}
-use Rattle.std.specs.List.{list_any}
+use Rattle.std.specs.List.{find, list_any}
 use Rattle.base_types.specs.declared.operation.Write.{Write}
 use Rattle.base_types.specs.declared.operation.Write.TheVariants.{Single, Extent, PunchObject, PunchDkey, PunchAkey}
 use Rattle.base_types.specs.declared.path.Path.{Path}
@@ -14,10 +14,11 @@ use Rattle.vos_values.specs.Keys.{IsName}
 use Rattle.vos_levels.specs.Levels.{HasMore, Hung, things}
 use Rattle.vos_chain.specs.Made.{chain_blocks}
 use Rattle.vos_ilog.specs.declared.ilog.LogEntry.{LogEntry}
-use Rattle.vos_ilog.specs.Logs.{is_at}
+use Rattle.vos_ilog.specs.Logs.{is_at, moment_of}
 use Rattle.vos_single.specs.Singles.{has_version_at}
 use Rattle.vos_extent.specs.Extents.{has_extent_at}
 use Rattle.vos_path.specs.declared.stamp.Stamp.{Stamp}
+use Rattle.vos_path.specs.Calls.{IsPut}
 use Rattle.vos_path.specs.Objects.{Akey, Below, Dkey, Object, Objects, Values, is_punch, objects_versions}
 
 -- a version that was just written: it isn't settled
@@ -82,9 +83,16 @@ abbrev pub MoreIf : {A : Type 0} → Bool → A → List A → List A → Type 0
 MoreIf true a xs ys = HasMore a xs ys
 MoreIf false a xs ys = ys ≡ xs
 
--- an entry was noted: if it is a punch, there is one punch more, and else there are the same
-abbrev pub IsNoted : LogEntry → List LogEntry → List LogEntry → Type 0
-IsNoted e xs ys = MoreIf e.punch e (filter is_punch xs) (filter is_punch ys)
+-- An entry was noted: it comes into the log, or in the place of the one of its moment. If it is a punch, there is one punch
+-- more, and else there are the same.
+pub record IsNoted (e : LogEntry) (xs ys : List LogEntry) : Type 0 where
+  pub put : IsPut (find (is_at (moment_of e)) xs) e xs ys
+  pub punches : MoreIf e.punch e (filter is_punch xs) (filter is_punch ys)
+
+-- the same where this holds, and else nothing
+abbrev pub IsNotedIf : Bool → LogEntry → List LogEntry → List LogEntry → Type 0
+IsNotedIf true e xs ys = IsNoted e xs ys
+IsNotedIf false e xs ys = ys ≡ xs
 
 -- ---- what isn't there yet
 

@@ -1,13 +1,14 @@
 // What a write makes of the akeys below a dkey.
-ghost use Rattle.std.specs.Prelude.{◌≡◌, ◌≤◌, ◌<◌, ◌+◌, true, false, ℕ, IfOk, OnOk, OnErr, IsErrOf, IsTrue, List, ◌&&◌, ⊤};
+ghost use Rattle.std.specs.Prelude.{◌≡◌, ◌≤◌, ◌<◌, ◌+◌, true, ℕ, OnOk, IsErrOf, List};
 ghost use Rattle.base_types.specs.Operations.{write_path};
 ghost use Rattle.daos_model.specs.Forms.{is_write_in_form};
 ghost use Rattle.pmem_tree_base.specs.Calls.{Goes};
 ghost use Rattle.pmem_tree_base.specs.declared.refusal.TreeNo.{TreeNo};
-ghost use Rattle.vos_levels.specs.Calls.{Becomes, HasThing, OfThing};
+ghost use Rattle.vos_levels.specs.Calls.{HasThing, OfThing};
 ghost use Rattle.vos_levels.specs.Levels.{HasMore, hung, hung_root};
 ghost use Rattle.vos_values.specs.declared.keys.ObjectKey.{ObjectKey as ObjectKeyOf};
-ghost use Rattle.vos_path.specs.Calls.{LacksFor, SpendsAtMost, for_pair};
+ghost use Rattle.vos_path.specs.Calls.{LacksFor, SpendsAtMost, Turns, for_pair};
+ghost use Rattle.vos_path.specs.Nodes.{AkeysNoted};
 ghost use Rattle.vos_path.specs.Objects.{akey_level, akey_path, akeys_versions};
 ghost use Rattle.vos_path.specs.Writes.{AkeysAreNew, AkeysAreSmall, NamesAreKeys, akey_pairs, data_blocks, fresh, goes_below_dkey, values_pairs};
 
@@ -45,7 +46,7 @@ pub fn write_akeys<P: Pages, L: Ledger>(
     requires below { goes_below_dkey write.now ≡ true }
     requires names { NamesAreKeys (write_path write.now) }
     requires here { HasThing P.tells (hung akey_level) hung_root (P.blocks pages.old) akeys.old.root (AkeysAreNew stamp) }
-    ensures written { OnOk result (OfThing P.tells (hung akey_level) hung_root (P.blocks pages.old) akeys.old.root (λ g. AkeysAreNew stamp g → (o : ObjectKeyOf) (d a : List ℕ) → write_path write.now ≡ akey_path o d a → Becomes (hung akey_level) hung_root (akeys_versions o d) (P.blocks pages.old) g (P.blocks pages.new) akeys.new.root (HasMore (fresh stamp write.now)))) }
+    ensures written { OnOk result (OfThing P.tells (hung akey_level) hung_root (P.blocks pages.old) akeys.old.root (λ g. AkeysAreNew stamp g → (o : ObjectKeyOf) (d a : List ℕ) → write_path write.now ≡ akey_path o d a → Turns (hung akey_level) hung_root (akeys_versions o d) (P.blocks pages.old) g (P.blocks pages.new) akeys.new.root (HasMore (fresh stamp write.now)) (AkeysNoted stamp write.now a))) }
     ensures kind { akeys.new.kind ≡ 3 }
     ensures no_block { IsErrOf result TreeNo.NoBlock → (P.budget pages.old).free < data_blocks write.now + akey_pairs write.now 1 }
     ensures too_much { IsErrOf result TreeNo.TooMuch → OfThing P.tells (hung akey_level) hung_root (P.blocks pages.old) akeys.old.root (λ g. AkeysAreNew stamp g → (d : ℕ) → AkeysAreSmall d g → LacksFor (data_blocks write.now) (values_pairs write.now (for_pair d)) d (P.budget pages.old)) }

@@ -1,16 +1,18 @@
 // What a write makes of the dkeys below an object.
-ghost use Rattle.std.specs.Prelude.{◌≡◌, ◌≤◌, ◌<◌, ◌+◌, true, false, ℕ, IfOk, OnOk, OnErr, IsErrOf, IsTrue, List};
+ghost use Rattle.std.specs.Prelude.{◌≡◌, ◌≤◌, ◌<◌, ◌+◌, true, ℕ, IfOk, OnOk, IsErrOf, List};
 ghost use Rattle.base_types.specs.Operations.{write_path};
 ghost use Rattle.base_types.specs.declared.operation.Write.TheVariants.{PunchDkey as punch_write};
 ghost use Rattle.daos_model.specs.Forms.{is_write_in_form};
 ghost use Rattle.pmem_tree_base.specs.Calls.{Goes};
 ghost use Rattle.pmem_tree_base.specs.declared.refusal.TreeNo.{TreeNo};
-ghost use Rattle.vos_levels.specs.Calls.{Becomes, HasThing, OfThing};
+ghost use Rattle.vos_levels.specs.Calls.{HasThing, OfThing};
 ghost use Rattle.vos_levels.specs.Levels.{HasMore, hung, hung_root};
 ghost use Rattle.vos_values.specs.declared.keys.ObjectKey.{ObjectKey as ObjectKeyOf};
 ghost use Rattle.vos_path.specs.Calls.{HasAt, LacksFor, OfAt, SpendsAtMost, Turns, for_pair};
+ghost use Rattle.vos_path.specs.Nodes.{DkeyNoted, DkeysNoted};
+ghost use Rattle.std.specs.Prelude.{None as no_name, Some as some_name};
 ghost use Rattle.vos_path.specs.Objects.{akey_level, akey_path, below_dkey_versions, below_owner, below_roots, dkey_level, dkey_path, dkeys_versions};
-ghost use Rattle.vos_path.specs.Writes.{BelowDkeyIsNew, BelowDkeyIsSmall, DkeysAreNew, DkeysAreSmall, IsAtDkey, IsAtObject, NamesAreKeys, akey_pairs, below_dkey_pairs, data_blocks, dkey_pairs, fresh, goes_below_dkey, goes_below_object, log_pairs};
+ghost use Rattle.vos_path.specs.Writes.{BelowDkeyIsNew, BelowDkeyIsSmall, DkeysAreNew, DkeysAreSmall, IsAtDkey, NamesAreKeys, akey_pairs, below_dkey_pairs, data_blocks, dkey_pairs, fresh, goes_below_dkey, goes_below_object, log_pairs};
 
 use crate::akeys::write_akeys;
 use crate::find::{find_roots, roots_or_zero};
@@ -49,7 +51,7 @@ fn write_below<P: Pages, L: Ledger>(
     requires below { goes_below_dkey write.now ≡ true }
     requires names { NamesAreKeys (write_path write.now) }
     requires here { HasAt P.tells (below_owner akey_level) below_roots (P.blocks pages.old) roots (BelowDkeyIsNew stamp) }
-    ensures written { IfOk result (λ now. OfAt P.tells (below_owner akey_level) below_roots (P.blocks pages.old) roots (λ g. BelowDkeyIsNew stamp g → (o : ObjectKeyOf) (d a : List ℕ) → write_path write.now ≡ akey_path o d a → Turns (below_owner akey_level) below_roots (below_dkey_versions o d) (P.blocks pages.old) g (P.blocks pages.new) now (HasMore (fresh stamp write.now)))) }
+    ensures written { IfOk result (λ now. OfAt P.tells (below_owner akey_level) below_roots (P.blocks pages.old) roots (λ g. BelowDkeyIsNew stamp g → (o : ObjectKeyOf) (d a : List ℕ) → write_path write.now ≡ akey_path o d a → Turns (below_owner akey_level) below_roots (below_dkey_versions o d) (P.blocks pages.old) g (P.blocks pages.new) now (HasMore (fresh stamp write.now)) (DkeyNoted stamp write.now (some_name a)))) }
     ensures no_block { IsErrOf result TreeNo.NoBlock → (P.budget pages.old).free < data_blocks write.now + (akey_pairs write.now 1 + log_pairs write.now 1) }
     ensures too_much { IsErrOf result TreeNo.TooMuch → OfAt P.tells (below_owner akey_level) below_roots (P.blocks pages.old) roots (λ g. BelowDkeyIsNew stamp g → (d : ℕ) → BelowDkeyIsSmall d g → LacksFor (data_blocks write.now) (akey_pairs write.now (for_pair d) + log_pairs write.now (for_pair d)) d (P.budget pages.old)) }
     ensures staged { OnOk result (OfAt P.tells (below_owner akey_level) below_roots (P.blocks pages.old) roots (λ g. BelowDkeyIsNew stamp g → (d : ℕ) → BelowDkeyIsSmall d g → SpendsAtMost (data_blocks write.now) (akey_pairs write.now (for_pair d) + log_pairs write.now (for_pair d)) (P.budget pages.old) (P.budget pages.new))) }
@@ -79,7 +81,7 @@ fn punch_log<P: Pages, L: Ledger>(
 ) -> Result<Roots, TreeNo>
     requires minor { stamp.at.minor < 64 }
     requires here { HasAt P.tells (below_owner akey_level) below_roots (P.blocks pages.old) roots (BelowDkeyIsNew stamp) }
-    ensures written { IfOk result (λ now. OfAt P.tells (below_owner akey_level) below_roots (P.blocks pages.old) roots (λ g. BelowDkeyIsNew stamp g → (o : ObjectKeyOf) (d : List ℕ) → Turns (below_owner akey_level) below_roots (below_dkey_versions o d) (P.blocks pages.old) g (P.blocks pages.new) now (HasMore (fresh stamp (punch_write (dkey_path o d)))))) }
+    ensures written { IfOk result (λ now. OfAt P.tells (below_owner akey_level) below_roots (P.blocks pages.old) roots (λ g. BelowDkeyIsNew stamp g → (o : ObjectKeyOf) (d : List ℕ) → Turns (below_owner akey_level) below_roots (below_dkey_versions o d) (P.blocks pages.old) g (P.blocks pages.new) now (HasMore (fresh stamp (punch_write (dkey_path o d)))) (DkeyNoted stamp (punch_write (dkey_path o d)) no_name))) }
     ensures no_block { IsErrOf result TreeNo.NoBlock → (P.budget pages.old).free < 1 }
     ensures too_much { IsErrOf result TreeNo.TooMuch → OfAt P.tells (below_owner akey_level) below_roots (P.blocks pages.old) roots (λ g. BelowDkeyIsNew stamp g → (d : ℕ) → BelowDkeyIsSmall d g → LacksFor 0 0 d (P.budget pages.old)) }
     ensures staged { OnOk result (OfAt P.tells (below_owner akey_level) below_roots (P.blocks pages.old) roots (λ g. BelowDkeyIsNew stamp g → (d : ℕ) → BelowDkeyIsSmall d g → SpendsAtMost 0 (for_pair d) (P.budget pages.old) (P.budget pages.new))) }
@@ -108,7 +110,7 @@ fn write_dkey<P: Pages, L: Ledger>(
     requires below { goes_below_object write.now ≡ true }
     requires names { NamesAreKeys (write_path write.now) }
     requires here { HasAt P.tells (below_owner akey_level) below_roots (P.blocks pages.old) roots (BelowDkeyIsNew stamp) }
-    ensures written { IfOk result (λ now. OfAt P.tells (below_owner akey_level) below_roots (P.blocks pages.old) roots (λ g. BelowDkeyIsNew stamp g → (o : ObjectKeyOf) (d : List ℕ) → IsAtDkey o d (write_path write.now) → Turns (below_owner akey_level) below_roots (below_dkey_versions o d) (P.blocks pages.old) g (P.blocks pages.new) now (HasMore (fresh stamp write.now)))) }
+    ensures written { IfOk result (λ now. OfAt P.tells (below_owner akey_level) below_roots (P.blocks pages.old) roots (λ g. BelowDkeyIsNew stamp g → (o : ObjectKeyOf) (d : List ℕ) → IsAtDkey o d (write_path write.now) → Turns (below_owner akey_level) below_roots (below_dkey_versions o d) (P.blocks pages.old) g (P.blocks pages.new) now (HasMore (fresh stamp write.now)) (DkeyNoted stamp write.now (write_path write.now).akey))) }
     ensures no_block { IsErrOf result TreeNo.NoBlock → (P.budget pages.old).free < data_blocks write.now + below_dkey_pairs write.now 1 }
     ensures too_much { IsErrOf result TreeNo.TooMuch → OfAt P.tells (below_owner akey_level) below_roots (P.blocks pages.old) roots (λ g. BelowDkeyIsNew stamp g → (d : ℕ) → BelowDkeyIsSmall d g → LacksFor (data_blocks write.now) (below_dkey_pairs write.now (for_pair d)) d (P.budget pages.old)) }
     ensures staged { OnOk result (OfAt P.tells (below_owner akey_level) below_roots (P.blocks pages.old) roots (λ g. BelowDkeyIsNew stamp g → (d : ℕ) → BelowDkeyIsSmall d g → SpendsAtMost (data_blocks write.now) (below_dkey_pairs write.now (for_pair d)) (P.budget pages.old) (P.budget pages.new))) }
@@ -145,7 +147,7 @@ pub fn write_dkeys<P: Pages, L: Ledger>(
     requires below { goes_below_object write.now ≡ true }
     requires names { NamesAreKeys (write_path write.now) }
     requires here { HasThing P.tells (hung dkey_level) hung_root (P.blocks pages.old) dkeys.old.root (DkeysAreNew stamp) }
-    ensures written { OnOk result (OfThing P.tells (hung dkey_level) hung_root (P.blocks pages.old) dkeys.old.root (λ g. DkeysAreNew stamp g → (o : ObjectKeyOf) → IsAtObject o (write_path write.now) → Becomes (hung dkey_level) hung_root (dkeys_versions o) (P.blocks pages.old) g (P.blocks pages.new) dkeys.new.root (HasMore (fresh stamp write.now)))) }
+    ensures written { OnOk result (OfThing P.tells (hung dkey_level) hung_root (P.blocks pages.old) dkeys.old.root (λ g. DkeysAreNew stamp g → (o : ObjectKeyOf) (d : List ℕ) → IsAtDkey o d (write_path write.now) → Turns (hung dkey_level) hung_root (dkeys_versions o) (P.blocks pages.old) g (P.blocks pages.new) dkeys.new.root (HasMore (fresh stamp write.now)) (DkeysNoted stamp write.now d (write_path write.now).akey))) }
     ensures kind { dkeys.new.kind ≡ 2 }
     ensures no_block { IsErrOf result TreeNo.NoBlock → (P.budget pages.old).free < data_blocks write.now + dkey_pairs write.now 1 }
     ensures too_much { IsErrOf result TreeNo.TooMuch → OfThing P.tells (hung dkey_level) hung_root (P.blocks pages.old) dkeys.old.root (λ g. DkeysAreNew stamp g → (d : ℕ) → DkeysAreSmall d g → LacksFor (data_blocks write.now) (below_dkey_pairs write.now (for_pair d)) d (P.budget pages.old)) }

@@ -1,5 +1,5 @@
 // A log on the way: an entry comes into it.
-ghost use Rattle.std.specs.Prelude.{◌≡◌, ℕ, ◌<◌, ◌≤◌, ◌+◌, true, false, IfOk, OnOk, OnErr, IsErrOf, IsTrue};
+ghost use Rattle.std.specs.Prelude.{◌≡◌, ℕ, ◌<◌, ◌≤◌, ◌+◌, true, false, IfOk, OnOk, IsErrOf};
 ghost use Rattle.pmem_pages.specs.Node.{IsKey, IsValue};
 ghost use Rattle.pmem_tree.specs.Calls.{StagesAtMost, TooFew};
 ghost use Rattle.pmem_tree_base.specs.Calls.{Goes};
@@ -9,7 +9,7 @@ ghost use Rattle.vos_levels.specs.Levels.{hung_root, things};
 ghost use Rattle.vos_values.specs.Keys.{IsAttempt, IsMoment, moment_key};
 ghost use Rattle.vos_ilog.specs.Logs.{log_owner, value_of_entry};
 ghost use Rattle.vos_path.specs.Calls.{SpendsAtMost, for_pair};
-ghost use Rattle.vos_path.specs.Writes.{IsNoted, IsSmall, fresh_entry, has_punch_at, is_update, log_pairs};
+ghost use Rattle.vos_path.specs.Writes.{IsNoted, IsNotedIf, IsSmall, fresh_entry, has_punch_at, is_update, log_pairs};
 
 use crate::set::set;
 use crate::stamp::Stamp;
@@ -99,7 +99,7 @@ pub fn note_update<P: Pages, L: Ledger>(
 ) -> Result<u32, TreeNo>
     requires minor { stamp.at.minor < 64 }
     requires log { HasThing P.tells log_owner hung_root (P.blocks pages.old) root (λ g. has_punch_at stamp.at (things g) ≡ false) }
-    ensures noted { IfOk result (λ now. OfThing P.tells log_owner hung_root (P.blocks pages.old) root (λ g. has_punch_at stamp.at (things g) ≡ false → Becomes log_owner hung_root things (P.blocks pages.old) g (P.blocks pages.new) now (IsNoted (fresh_entry stamp false)))) }
+    ensures noted { IfOk result (λ now. OfThing P.tells log_owner hung_root (P.blocks pages.old) root (λ g. has_punch_at stamp.at (things g) ≡ false → Becomes log_owner hung_root things (P.blocks pages.old) g (P.blocks pages.new) now (IsNotedIf (is_update write.now) (fresh_entry stamp false)))) }
     ensures no_block { IsErrOf result TreeNo.NoBlock → (P.budget pages.old).free < log_pairs write.now 1 }
     ensures too_much { IsErrOf result TreeNo.TooMuch → OfThing P.tells log_owner hung_root (P.blocks pages.old) root (λ g. TooFew g.0 (P.budget pages.old)) }
     ensures staged { OnOk result (OfThing P.tells log_owner hung_root (P.blocks pages.old) root (λ g. (d : ℕ) → IsSmall d g → SpendsAtMost 0 (log_pairs write.now (for_pair d)) (P.budget pages.old) (P.budget pages.new))) }

@@ -1,15 +1,17 @@
 // What a write makes of objects.
-ghost use Rattle.std.specs.Prelude.{◌≡◌, ◌≤◌, ◌<◌, ◌+◌, true, false, ℕ, IfOk, OnOk, OnErr, IsErrOf, IsTrue};
+ghost use Rattle.std.specs.Prelude.{◌≡◌, ◌≤◌, ◌<◌, ◌+◌, true, ℕ, IfOk, OnOk, IsErrOf};
 ghost use Rattle.base_types.specs.Operations.{write_path};
 ghost use Rattle.base_types.specs.declared.operation.Write.TheVariants.{PunchObject as punch_write};
 ghost use Rattle.base_types.specs.Paths.{record_size};
 ghost use Rattle.daos_model.specs.Forms.{is_write_in_form, is_unit};
 ghost use Rattle.pmem_tree_base.specs.Calls.{Goes};
 ghost use Rattle.pmem_tree_base.specs.declared.refusal.TreeNo.{TreeNo};
-ghost use Rattle.vos_levels.specs.Calls.{Becomes, HasThing, OfThing};
+ghost use Rattle.vos_levels.specs.Calls.{HasThing, OfThing};
 ghost use Rattle.vos_levels.specs.Levels.{HasMore, hung_root};
 ghost use Rattle.vos_values.specs.declared.keys.ObjectKey.{ObjectKey as ObjectKeyOf};
 ghost use Rattle.vos_path.specs.Calls.{HasAt, LacksFor, OfAt, SpendsAtMost, Turns, for_pair};
+ghost use Rattle.vos_path.specs.Nodes.{ObjectNoted, ObjectsNoted};
+ghost use Rattle.std.specs.Prelude.{None as no_name};
 ghost use Rattle.vos_path.specs.Objects.{below_object_versions, below_owner, below_roots, dkey_level, object_path, objects_owner, objects_versions};
 ghost use Rattle.vos_path.specs.Writes.{BelowObjectIsNew, BelowObjectIsSmall, IsAtObject, IsNewIn, NamesAreKeys, ObjectsAreSmall, below_object_pairs, data_blocks, dkey_pairs, fresh, goes_below_object, log_pairs, object_pairs};
 
@@ -48,7 +50,7 @@ fn write_below<P: Pages, L: Ledger>(
     requires below { goes_below_object write.now ≡ true }
     requires names { NamesAreKeys (write_path write.now) }
     requires here { HasAt P.tells (below_owner dkey_level) below_roots (P.blocks pages.old) roots (BelowObjectIsNew stamp) }
-    ensures written { IfOk result (λ now. OfAt P.tells (below_owner dkey_level) below_roots (P.blocks pages.old) roots (λ g. BelowObjectIsNew stamp g → (o : ObjectKeyOf) → IsAtObject o (write_path write.now) → Turns (below_owner dkey_level) below_roots (below_object_versions o) (P.blocks pages.old) g (P.blocks pages.new) now (HasMore (fresh stamp write.now)))) }
+    ensures written { IfOk result (λ now. OfAt P.tells (below_owner dkey_level) below_roots (P.blocks pages.old) roots (λ g. BelowObjectIsNew stamp g → (o : ObjectKeyOf) → IsAtObject o (write_path write.now) → Turns (below_owner dkey_level) below_roots (below_object_versions o) (P.blocks pages.old) g (P.blocks pages.new) now (HasMore (fresh stamp write.now)) (ObjectNoted stamp write.now (write_path write.now).dkey (write_path write.now).akey))) }
     ensures no_block { IsErrOf result TreeNo.NoBlock → (P.budget pages.old).free < data_blocks write.now + (dkey_pairs write.now 1 + log_pairs write.now 1) }
     ensures too_much { IsErrOf result TreeNo.TooMuch → OfAt P.tells (below_owner dkey_level) below_roots (P.blocks pages.old) roots (λ g. BelowObjectIsNew stamp g → (d : ℕ) → BelowObjectIsSmall d g → LacksFor (data_blocks write.now) (dkey_pairs write.now (for_pair d) + log_pairs write.now (for_pair d)) d (P.budget pages.old)) }
     ensures staged { OnOk result (OfAt P.tells (below_owner dkey_level) below_roots (P.blocks pages.old) roots (λ g. BelowObjectIsNew stamp g → (d : ℕ) → BelowObjectIsSmall d g → SpendsAtMost (data_blocks write.now) (dkey_pairs write.now (for_pair d) + log_pairs write.now (for_pair d)) (P.budget pages.old) (P.budget pages.new))) }
@@ -78,7 +80,7 @@ fn punch_log<P: Pages, L: Ledger>(
 ) -> Result<Roots, TreeNo>
     requires minor { stamp.at.minor < 64 }
     requires here { HasAt P.tells (below_owner dkey_level) below_roots (P.blocks pages.old) roots (BelowObjectIsNew stamp) }
-    ensures written { IfOk result (λ now. OfAt P.tells (below_owner dkey_level) below_roots (P.blocks pages.old) roots (λ g. BelowObjectIsNew stamp g → (o : ObjectKeyOf) → Turns (below_owner dkey_level) below_roots (below_object_versions o) (P.blocks pages.old) g (P.blocks pages.new) now (HasMore (fresh stamp (punch_write (object_path o)))))) }
+    ensures written { IfOk result (λ now. OfAt P.tells (below_owner dkey_level) below_roots (P.blocks pages.old) roots (λ g. BelowObjectIsNew stamp g → (o : ObjectKeyOf) → Turns (below_owner dkey_level) below_roots (below_object_versions o) (P.blocks pages.old) g (P.blocks pages.new) now (HasMore (fresh stamp (punch_write (object_path o)))) (ObjectNoted stamp (punch_write (object_path o)) no_name no_name))) }
     ensures no_block { IsErrOf result TreeNo.NoBlock → (P.budget pages.old).free < 1 }
     ensures too_much { IsErrOf result TreeNo.TooMuch → OfAt P.tells (below_owner dkey_level) below_roots (P.blocks pages.old) roots (λ g. BelowObjectIsNew stamp g → (d : ℕ) → BelowObjectIsSmall d g → LacksFor 0 0 d (P.budget pages.old)) }
     ensures staged { OnOk result (OfAt P.tells (below_owner dkey_level) below_roots (P.blocks pages.old) roots (λ g. BelowObjectIsNew stamp g → (d : ℕ) → BelowObjectIsSmall d g → SpendsAtMost 0 (for_pair d) (P.budget pages.old) (P.budget pages.new))) }
@@ -106,7 +108,7 @@ fn write_object<P: Pages, L: Ledger>(
     requires form { is_write_in_form write.now ≡ true }
     requires names { NamesAreKeys (write_path write.now) }
     requires here { HasAt P.tells (below_owner dkey_level) below_roots (P.blocks pages.old) roots (BelowObjectIsNew stamp) }
-    ensures written { IfOk result (λ now. OfAt P.tells (below_owner dkey_level) below_roots (P.blocks pages.old) roots (λ g. BelowObjectIsNew stamp g → (o : ObjectKeyOf) → IsAtObject o (write_path write.now) → Turns (below_owner dkey_level) below_roots (below_object_versions o) (P.blocks pages.old) g (P.blocks pages.new) now (HasMore (fresh stamp write.now)))) }
+    ensures written { IfOk result (λ now. OfAt P.tells (below_owner dkey_level) below_roots (P.blocks pages.old) roots (λ g. BelowObjectIsNew stamp g → (o : ObjectKeyOf) → IsAtObject o (write_path write.now) → Turns (below_owner dkey_level) below_roots (below_object_versions o) (P.blocks pages.old) g (P.blocks pages.new) now (HasMore (fresh stamp write.now)) (ObjectNoted stamp write.now (write_path write.now).dkey (write_path write.now).akey))) }
     ensures no_block { IsErrOf result TreeNo.NoBlock → (P.budget pages.old).free < data_blocks write.now + below_object_pairs write.now 1 }
     ensures too_much { IsErrOf result TreeNo.TooMuch → OfAt P.tells (below_owner dkey_level) below_roots (P.blocks pages.old) roots (λ g. BelowObjectIsNew stamp g → (d : ℕ) → BelowObjectIsSmall d g → LacksFor (data_blocks write.now) (below_object_pairs write.now (for_pair d)) d (P.budget pages.old)) }
     ensures staged { OnOk result (OfAt P.tells (below_owner dkey_level) below_roots (P.blocks pages.old) roots (λ g. BelowObjectIsNew stamp g → (d : ℕ) → BelowObjectIsSmall d g → SpendsAtMost (data_blocks write.now) (below_object_pairs write.now (for_pair d)) (P.budget pages.old) (P.budget pages.new))) }
@@ -143,7 +145,7 @@ pub fn write_objects<P: Pages, L: Ledger>(
     requires size { is_unit (record_size (write_path write.now)) ≡ true }
     requires names { NamesAreKeys (write_path write.now) }
     requires here { HasThing P.tells objects_owner hung_root (P.blocks pages.old) objects.old.root (IsNewIn (fresh stamp write.now)) }
-    ensures written { OnOk result (OfThing P.tells objects_owner hung_root (P.blocks pages.old) objects.old.root (λ g. IsNewIn (fresh stamp write.now) g → Becomes objects_owner hung_root objects_versions (P.blocks pages.old) g (P.blocks pages.new) objects.new.root (HasMore (fresh stamp write.now)))) }
+    ensures written { OnOk result (OfThing P.tells objects_owner hung_root (P.blocks pages.old) objects.old.root (λ g. IsNewIn (fresh stamp write.now) g → (o : ObjectKeyOf) → IsAtObject o (write_path write.now) → Turns objects_owner hung_root objects_versions (P.blocks pages.old) g (P.blocks pages.new) objects.new.root (HasMore (fresh stamp write.now)) (ObjectsNoted stamp write.now o (write_path write.now).dkey (write_path write.now).akey))) }
     ensures kind { objects.new.kind ≡ 1 }
     ensures no_block { IsErrOf result TreeNo.NoBlock → (P.budget pages.old).free < data_blocks write.now + object_pairs write.now 1 }
     ensures too_much { IsErrOf result TreeNo.TooMuch → OfThing P.tells objects_owner hung_root (P.blocks pages.old) objects.old.root (λ g. IsNewIn (fresh stamp write.now) g → (d : ℕ) → ObjectsAreSmall d g → LacksFor (data_blocks write.now) (below_object_pairs write.now (for_pair d)) d (P.budget pages.old)) }

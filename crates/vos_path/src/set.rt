@@ -1,5 +1,5 @@
 // A pair of a tree, whether its key is there or not.
-ghost use Rattle.std.specs.Prelude.{◌≡◌, ◌<◌, ◌≤◌, ◌+◌, true, false, IfOk, OnOk, OnErr, IsErrOf, IsTrue, is_some, ⊤, if◌then◌else◌};
+ghost use Rattle.std.specs.Prelude.{◌≡◌, ◌<◌, ◌≤◌, ◌+◌, true, OnOk, IsErrOf, is_some, ⊤, if◌then◌else◌};
 ghost use Rattle.pmem_pages.specs.Node.{IsKey, IsKind, IsValue};
 ghost use Rattle.pmem_pages.specs.Shape.{entries, entry_at};
 ghost use Rattle.pmem_tree.specs.Calls.{HasTree, OfTree, StagesAtMost, TooFew};

@@ -1,5 +1,5 @@
 // What a write makes of an akey: its log, the versions of its single value, and its extents.
-ghost use Rattle.std.specs.Prelude.{◌≡◌, ◌≤◌, ◌<◌, ◌+◌, ◌*◌, ◌^◌, true, false, ℕ, IfOk, OnOk, OnErr, IsErrOf, IsTrue, List, length};
+ghost use Rattle.std.specs.Prelude.{◌≡◌, ◌≤◌, ◌<◌, ◌+◌, ◌*◌, true, false, ℕ, IfOk, OnOk, IsErrOf, length};
 ghost use Rattle.base_types.specs.Operations.{write_path};
 ghost use Rattle.base_types.specs.declared.operation.Write.TheVariants.{Extent as extent_write, PunchAkey as akey_punch, Single as single_write};
 ghost use Rattle.base_types.specs.declared.path.Path.{Path as PathOf};
@@ -9,6 +9,7 @@ ghost use Rattle.pmem_tree_base.specs.declared.refusal.TreeNo.{TreeNo};
 ghost use Rattle.vos_levels.specs.Levels.{HasMore};
 ghost use Rattle.vos_chain.specs.Made.{chain_blocks};
 ghost use Rattle.vos_path.specs.Calls.{HasAt, LacksFor, OfAt, SpendsAtMost, Turns, for_pair};
+ghost use Rattle.vos_path.specs.Nodes.{ValuesNoted};
 ghost use Rattle.vos_path.specs.Objects.{values_owner, values_roots, values_versions};
 ghost use Rattle.vos_path.specs.Writes.{ValuesAreNew, ValuesAreSmall, values_pairs, data_blocks, fresh, goes_below_dkey};
 
@@ -37,7 +38,7 @@ fn write_single<P: Pages, L: Ledger>(
     requires some { 1 ≤ length bytes.now }
     requires most { length bytes.now ≤ 1024 }
     requires here { HasAt P.tells values_owner values_roots (P.blocks pages.old) roots (ValuesAreNew stamp) }
-    ensures written { IfOk result (λ now. OfAt P.tells values_owner values_roots (P.blocks pages.old) roots (λ g. ValuesAreNew stamp g → (p : PathOf) → Turns values_owner values_roots (values_versions p) (P.blocks pages.old) g (P.blocks pages.new) now (HasMore (fresh stamp (single_write p bytes.now))))) }
+    ensures written { IfOk result (λ now. OfAt P.tells values_owner values_roots (P.blocks pages.old) roots (λ g. ValuesAreNew stamp g → (p : PathOf) → Turns values_owner values_roots (values_versions p) (P.blocks pages.old) g (P.blocks pages.new) now (HasMore (fresh stamp (single_write p bytes.now))) (ValuesNoted stamp (single_write p bytes.now)))) }
     ensures no_block { IsErrOf result TreeNo.NoBlock → (P.budget pages.old).free < chain_blocks (length bytes.now) + 2 }
     ensures too_much { IsErrOf result TreeNo.TooMuch → OfAt P.tells values_owner values_roots (P.blocks pages.old) roots (λ g. ValuesAreNew stamp g → (d : ℕ) → ValuesAreSmall d g → LacksFor (chain_blocks (length bytes.now)) (for_pair d) d (P.budget pages.old)) }
     ensures staged { OnOk result (OfAt P.tells values_owner values_roots (P.blocks pages.old) roots (λ g. ValuesAreNew stamp g → (d : ℕ) → ValuesAreSmall d g → SpendsAtMost (chain_blocks (length bytes.now)) (2 * for_pair d) (P.budget pages.old) (P.budget pages.new))) }
@@ -74,7 +75,7 @@ fn write_extent<P: Pages, L: Ledger>(
     requires some { 1 ≤ length bytes.now }
     requires most { length bytes.now ≤ 1024 }
     requires here { HasAt P.tells values_owner values_roots (P.blocks pages.old) roots (ValuesAreNew stamp) }
-    ensures written { IfOk result (λ now. OfAt P.tells values_owner values_roots (P.blocks pages.old) roots (λ g. ValuesAreNew stamp g → (p : PathOf) → Turns values_owner values_roots (values_versions p) (P.blocks pages.old) g (P.blocks pages.new) now (HasMore (fresh stamp (extent_write p low bytes.now))))) }
+    ensures written { IfOk result (λ now. OfAt P.tells values_owner values_roots (P.blocks pages.old) roots (λ g. ValuesAreNew stamp g → (p : PathOf) → Turns values_owner values_roots (values_versions p) (P.blocks pages.old) g (P.blocks pages.new) now (HasMore (fresh stamp (extent_write p low bytes.now))) (ValuesNoted stamp (extent_write p low bytes.now)))) }
     ensures no_block { IsErrOf result TreeNo.NoBlock → (P.budget pages.old).free < chain_blocks (length bytes.now) + 2 }
     ensures too_much { IsErrOf result TreeNo.TooMuch → OfAt P.tells values_owner values_roots (P.blocks pages.old) roots (λ g. ValuesAreNew stamp g → (d : ℕ) → ValuesAreSmall d g → LacksFor (chain_blocks (length bytes.now)) (for_pair d) d (P.budget pages.old)) }
     ensures staged { OnOk result (OfAt P.tells values_owner values_roots (P.blocks pages.old) roots (λ g. ValuesAreNew stamp g → (d : ℕ) → ValuesAreSmall d g → SpendsAtMost (chain_blocks (length bytes.now)) (2 * for_pair d) (P.budget pages.old) (P.budget pages.new))) }
@@ -112,7 +113,7 @@ fn punch_values<P: Pages, L: Ledger>(
 ) -> Result<AkeyRoots, TreeNo>
     requires minor { stamp.at.minor < 64 }
     requires here { HasAt P.tells values_owner values_roots (P.blocks pages.old) roots (ValuesAreNew stamp) }
-    ensures written { IfOk result (λ now. OfAt P.tells values_owner values_roots (P.blocks pages.old) roots (λ g. ValuesAreNew stamp g → (p : PathOf) → Turns values_owner values_roots (values_versions p) (P.blocks pages.old) g (P.blocks pages.new) now (HasMore (fresh stamp (akey_punch p))))) }
+    ensures written { IfOk result (λ now. OfAt P.tells values_owner values_roots (P.blocks pages.old) roots (λ g. ValuesAreNew stamp g → (p : PathOf) → Turns values_owner values_roots (values_versions p) (P.blocks pages.old) g (P.blocks pages.new) now (HasMore (fresh stamp (akey_punch p))) (ValuesNoted stamp (akey_punch p)))) }
     ensures no_block { IsErrOf result TreeNo.NoBlock → (P.budget pages.old).free < 1 }
     ensures too_much { IsErrOf result TreeNo.TooMuch → OfAt P.tells values_owner values_roots (P.blocks pages.old) roots (λ g. (d : ℕ) → ValuesAreSmall d g → LacksFor 0 0 d (P.budget pages.old)) }
     ensures staged { OnOk result (OfAt P.tells values_owner values_roots (P.blocks pages.old) roots (λ g. (d : ℕ) → ValuesAreSmall d g → SpendsAtMost 0 (for_pair d) (P.budget pages.old) (P.budget pages.new))) }
@@ -147,7 +148,7 @@ pub fn write_values<P: Pages, L: Ledger>(
     requires form { is_write_in_form write.now ≡ true }
     requires below { goes_below_dkey write.now ≡ true }
     requires here { HasAt P.tells values_owner values_roots (P.blocks pages.old) roots (ValuesAreNew stamp) }
-    ensures written { IfOk result (λ now. OfAt P.tells values_owner values_roots (P.blocks pages.old) roots (λ g. ValuesAreNew stamp g → Turns values_owner values_roots (values_versions (write_path write.now)) (P.blocks pages.old) g (P.blocks pages.new) now (HasMore (fresh stamp write.now)))) }
+    ensures written { IfOk result (λ now. OfAt P.tells values_owner values_roots (P.blocks pages.old) roots (λ g. ValuesAreNew stamp g → Turns values_owner values_roots (values_versions (write_path write.now)) (P.blocks pages.old) g (P.blocks pages.new) now (HasMore (fresh stamp write.now)) (ValuesNoted stamp write.now))) }
     ensures no_block { IsErrOf result TreeNo.NoBlock → (P.budget pages.old).free < data_blocks write.now + values_pairs write.now 1 }
     ensures too_much { IsErrOf result TreeNo.TooMuch → OfAt P.tells values_owner values_roots (P.blocks pages.old) roots (λ g. ValuesAreNew stamp g → (d : ℕ) → ValuesAreSmall d g → LacksFor (data_blocks write.now) (values_pairs write.now (for_pair d)) d (P.budget pages.old)) }
     ensures staged { OnOk result (OfAt P.tells values_owner values_roots (P.blocks pages.old) roots (λ g. ValuesAreNew stamp g → (d : ℕ) → ValuesAreSmall d g → SpendsAtMost (data_blocks write.now) (values_pairs write.now (for_pair d)) (P.budget pages.old) (P.budget pages.new))) }

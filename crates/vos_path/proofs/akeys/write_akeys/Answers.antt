@@ -9,6 +9,7 @@ use Rattle.vos_levels.specs.Levels.{HasMore}
 use Rattle.vos_levels.proofs.Calls.{on_ok_then}
 use Rattle.vos_versions.proofs.Marks.{err_other}
 use Rattle.vos_path.specs.Calls.{LacksFor, PutAt, SpendsAtMost, Turns, for_pair}
+use Rattle.vos_path.specs.Nodes.{ValuesNoted}
 use Rattle.vos_path.specs.Objects.{akey_level, values_or_none, values_owner, values_roots, values_versions}
 use Rattle.vos_path.specs.Writes.{data_blocks, fresh, values_pairs}
 use Rattle.vos_path.proofs.AkeyWrites.{akey_at, akey_holds, akey_is_there, akey_new, akey_roots_are, akey_small, akeys_still, akeys_written, put_lacks, put_spends}
@@ -59,7 +60,7 @@ put-requires-clause-tree g c told =
     let tree = tree_of akey_level m c.args.akeys.now.kind c.args.akeys.now.root s.0 c.requires.kind held at in
     let roots = akey_roots_are m s.0 held c.in-Some.name c.key_of-key.result c.key_of-key.ensures.key c.in_ok-found.found (c.in_ok-found.ensures.found told s.0.0 tree) c.akey_or_zero.result c.akey_or_zero.ensures in
     let stands = subst (λ b. Holds values_owner b (values_or_none (akey_at c.in-Some.name s.0))) (sym e) (akey_holds m s.0 c.in-Some.name held) in
-    let t = subst (λ b. Turns values_owner values_roots (values_versions (write_path c.args.write.now)) b (values_or_none (akey_at c.in-Some.name s.0)) (g.P.Pages.blocks c.write_values.new.pages) c.in_ok-roots.roots (HasMore (fresh c.args.stamp c.args.write.now))) e (c.in_ok-roots.ensures.written told (values_or_none (akey_at c.in-Some.name s.0)) stands roots (akey_new c.args.stamp s.0 c.in-Some.name s.1.1.1)) in
+    let t = subst (λ b. Turns values_owner values_roots (values_versions (write_path c.args.write.now)) b (values_or_none (akey_at c.in-Some.name s.0)) (g.P.Pages.blocks c.write_values.new.pages) c.in_ok-roots.roots (HasMore (fresh c.args.stamp c.args.write.now)) (ValuesNoted c.args.stamp c.args.write.now)) e (c.in_ok-roots.ensures.written told (values_or_none (akey_at c.in-Some.name s.0)) stands roots (akey_new c.args.stamp s.0 c.in-Some.name s.1.1.1)) in
     let still = akeys_still m (g.P.Pages.blocks c.write_values.new.pages) s.0 held c.args.stamp c.args.write.now c.in-Some.name is_name c.in_ok-roots.roots t c.args.akeys.now.root at in
     (s.0.0, (subst (λ z. IsTree (g.P.Pages.blocks c.write_values.new.pages) z c.args.akeys.now.root s.0.0) (sym c.requires.kind) still, akey_is_there m s.0 held c.in-Some.name c.key_of-key.result c.key_of-key.ensures.key c.in_ok-found.found (c.in_ok-found.ensures.found told s.0.0 tree) c.is_some.result c.is_some.ensures))
 
@@ -72,7 +73,7 @@ returns-clause-written g c = on_ok_then c.put.result (λ h told x held at new ob
     let tree = tree_of akey_level m c.args.akeys.now.kind c.args.akeys.now.root x c.requires.kind held at in
     let roots = akey_roots_are m x held c.in-Some.name c.key_of-key.result c.key_of-key.ensures.key c.in_ok-found.found (c.in_ok-found.ensures.found told x.0 tree) c.akey_or_zero.result c.akey_or_zero.ensures in
     let stands = subst (λ b. Holds values_owner b (values_or_none (akey_at c.in-Some.name x))) (sym e) (akey_holds m x c.in-Some.name held) in
-    let t = subst (λ b. Turns values_owner values_roots (values_versions (write_path c.args.write.now)) b (values_or_none (akey_at c.in-Some.name x)) (g.P.Pages.blocks c.write_values.new.pages) c.in_ok-roots.roots (HasMore (fresh c.args.stamp c.args.write.now))) e (c.in_ok-roots.ensures.written told (values_or_none (akey_at c.in-Some.name x)) stands roots (akey_new c.args.stamp x c.in-Some.name new)) in
+    let t = subst (λ b. Turns values_owner values_roots (values_versions (write_path c.args.write.now)) b (values_or_none (akey_at c.in-Some.name x)) (g.P.Pages.blocks c.write_values.new.pages) c.in_ok-roots.roots (HasMore (fresh c.args.stamp c.args.write.now)) (ValuesNoted c.args.stamp c.args.write.now)) e (c.in_ok-roots.ensures.written told (values_or_none (akey_at c.in-Some.name x)) stands roots (akey_new c.args.stamp x c.in-Some.name new)) in
     let still = akeys_still m (g.P.Pages.blocks c.write_values.new.pages) x held c.args.stamp c.args.write.now c.in-Some.name is_name c.in_ok-roots.roots t c.args.akeys.now.root at in
     let there = akey_is_there m x held c.in-Some.name c.key_of-key.result c.key_of-key.ensures.key c.in_ok-found.found (c.in_ok-found.ensures.found told x.0 tree) c.is_some.result c.is_some.ensures in
     let o = g.P.Pages.blocks c.put.new.pages in
@@ -90,7 +91,7 @@ returns-clause-too_much g c refused told x held at new d small =
     let tree = tree_of akey_level m c.args.akeys.now.kind c.args.akeys.now.root x c.requires.kind held at in
     let roots = akey_roots_are m x held c.in-Some.name c.key_of-key.result c.key_of-key.ensures.key c.in_ok-found.found (c.in_ok-found.ensures.found told x.0 tree) c.akey_or_zero.result c.akey_or_zero.ensures in
     let stands = subst (λ b. Holds values_owner b (values_or_none (akey_at c.in-Some.name x))) (sym e) (akey_holds m x c.in-Some.name held) in
-    let t = subst (λ b. Turns values_owner values_roots (values_versions (write_path c.args.write.now)) b (values_or_none (akey_at c.in-Some.name x)) (g.P.Pages.blocks c.write_values.new.pages) c.in_ok-roots.roots (HasMore (fresh c.args.stamp c.args.write.now))) e (c.in_ok-roots.ensures.written told (values_or_none (akey_at c.in-Some.name x)) stands roots (akey_new c.args.stamp x c.in-Some.name new)) in
+    let t = subst (λ b. Turns values_owner values_roots (values_versions (write_path c.args.write.now)) b (values_or_none (akey_at c.in-Some.name x)) (g.P.Pages.blocks c.write_values.new.pages) c.in_ok-roots.roots (HasMore (fresh c.args.stamp c.args.write.now)) (ValuesNoted c.args.stamp c.args.write.now)) e (c.in_ok-roots.ensures.written told (values_or_none (akey_at c.in-Some.name x)) stands roots (akey_new c.args.stamp x c.in-Some.name new)) in
     let still = akeys_still m (g.P.Pages.blocks c.write_values.new.pages) x held c.args.stamp c.args.write.now c.in-Some.name is_name c.in_ok-roots.roots t c.args.akeys.now.root at in
     let there = akey_is_there m x held c.in-Some.name c.key_of-key.result c.key_of-key.ensures.key c.in_ok-found.found (c.in_ok-found.ensures.found told x.0 tree) c.is_some.result c.is_some.ensures in
     let spent = c.in_ok-roots.ensures.staged told (values_or_none (akey_at c.in-Some.name x)) stands roots (akey_new c.args.stamp x c.in-Some.name new) d (akey_small d x c.in-Some.name small) in
@@ -106,7 +107,7 @@ returns-clause-staged g c = on_ok_then c.put.result (λ h told x held at new d s
     let tree = tree_of akey_level m c.args.akeys.now.kind c.args.akeys.now.root x c.requires.kind held at in
     let roots = akey_roots_are m x held c.in-Some.name c.key_of-key.result c.key_of-key.ensures.key c.in_ok-found.found (c.in_ok-found.ensures.found told x.0 tree) c.akey_or_zero.result c.akey_or_zero.ensures in
     let stands = subst (λ b. Holds values_owner b (values_or_none (akey_at c.in-Some.name x))) (sym e) (akey_holds m x c.in-Some.name held) in
-    let t = subst (λ b. Turns values_owner values_roots (values_versions (write_path c.args.write.now)) b (values_or_none (akey_at c.in-Some.name x)) (g.P.Pages.blocks c.write_values.new.pages) c.in_ok-roots.roots (HasMore (fresh c.args.stamp c.args.write.now))) e (c.in_ok-roots.ensures.written told (values_or_none (akey_at c.in-Some.name x)) stands roots (akey_new c.args.stamp x c.in-Some.name new)) in
+    let t = subst (λ b. Turns values_owner values_roots (values_versions (write_path c.args.write.now)) b (values_or_none (akey_at c.in-Some.name x)) (g.P.Pages.blocks c.write_values.new.pages) c.in_ok-roots.roots (HasMore (fresh c.args.stamp c.args.write.now)) (ValuesNoted c.args.stamp c.args.write.now)) e (c.in_ok-roots.ensures.written told (values_or_none (akey_at c.in-Some.name x)) stands roots (akey_new c.args.stamp x c.in-Some.name new)) in
     let still = akeys_still m (g.P.Pages.blocks c.write_values.new.pages) x held c.args.stamp c.args.write.now c.in-Some.name is_name c.in_ok-roots.roots t c.args.akeys.now.root at in
     let there = akey_is_there m x held c.in-Some.name c.key_of-key.result c.key_of-key.ensures.key c.in_ok-found.found (c.in_ok-found.ensures.found told x.0 tree) c.is_some.result c.is_some.ensures in
     let spent = c.in_ok-roots.ensures.staged told (values_or_none (akey_at c.in-Some.name x)) stands roots (akey_new c.args.stamp x c.in-Some.name new) d (akey_small d x c.in-Some.name small) in

@@ -4,6 +4,7 @@ use Rattle.vos_versions.proofs.Marks.{err_other}
 use Rattle.vos_ilog.specs.Logs.{log_owner}
 use Rattle.vos_levels.specs.Levels.{hung}
 use Rattle.vos_path.specs.Calls.{for_pair}
+use Rattle.vos_path.specs.Nodes.{AkeysNoted}
 use Rattle.vos_path.specs.Objects.{akey_level, akeys_versions, dkey_path}
 use Rattle.vos_path.specs.Writes.{data_blocks, fresh, values_pairs, akey_pairs, log_pairs}
 use Rattle.base_types.specs.declared.operation.Write.TheVariants.{PunchDkey}
@@ -41,7 +42,7 @@ pub returns-clause-written : goal.returns-clause-written
 returns-clause-written g c told x held at new ob e a path =
     let b = c.in_ok-write_akeys.ensures.written told x.1 (holds_second log_owner (hung akey_level) (g.P.Pages.blocks c.args.pages.now) x held) (ap (λ r. r.below) at) new.akeys ob e a path in
     let l = c.in_ok-log.ensures.noted told x.0 (log_after akey_level (g.P.Pages.blocks c.args.pages.now) (g.P.Pages.blocks c.write_akeys.new.pages) x b.now held b.changed) (ap (λ r. r.log) at) new.punch in
-    below_written akey_level (akeys_versions ob e) (PunchDkey (dkey_path ob e)) (g.P.Pages.blocks c.args.pages.now) (g.P.Pages.blocks c.write_akeys.new.pages) (g.P.Pages.blocks c.note_update.new.pages) x c.args.roots c.args.stamp (fresh c.args.stamp c.args.write.now) c.write_akeys.new.akeys.root c.in_ok-log.log held b l
+    below_written akey_level (akeys_versions ob e) (PunchDkey (dkey_path ob e)) (g.P.Pages.blocks c.args.pages.now) (g.P.Pages.blocks c.write_akeys.new.pages) (g.P.Pages.blocks c.note_update.new.pages) x c.args.stamp c.args.write.now (fresh c.args.stamp c.args.write.now) (AkeysNoted c.args.stamp c.args.write.now a) c.write_akeys.new.akeys.root c.in_ok-log.log held b l
 
 pub returns-clause-staged : goal.returns-clause-staged
 returns-clause-staged g c told x held at new d small =

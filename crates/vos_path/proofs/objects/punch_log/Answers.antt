@@ -1,4 +1,4 @@
-use Rattle.std.proofs.Common.{rules, ◌≡◌, Err, IsErrOf, ap, subst}
+use Rattle.std.proofs.Common.{rules, ◌≡◌, Err, IsErrOf, ap, refl, subst}
 use Rattle.pmem_tree_base.specs.declared.refusal.TreeNo.TheVariants.{TooMuch}
 use Rattle.vos_versions.proofs.Marks.{err_other}
 use Rattle.vos_ilog.specs.Logs.{log_owner}
@@ -21,7 +21,7 @@ returns-in_err-log-clause-too_much g c refused told x held at new d small =
 
 pub returns-clause-written : goal.returns-clause-written
 returns-clause-written g c told x held at new ob =
-    below_punched dkey_level (dkeys_versions ob) (PunchObject (object_path ob)) (g.P.Pages.blocks c.args.pages.now) (g.P.Pages.blocks c.note.new.pages) x c.args.roots c.args.stamp c.in_ok-log.log held at (c.in_ok-log.ensures.noted told x.0 (holds_first log_owner (hung dkey_level) (g.P.Pages.blocks c.args.pages.now) x held) (ap (λ r. r.log) at) new.punch)
+    below_punched dkey_level (dkeys_versions ob) (PunchObject (object_path ob)) (g.P.Pages.blocks c.args.pages.now) (g.P.Pages.blocks c.note.new.pages) x c.args.roots c.args.stamp c.in_ok-log.log held at refl (c.in_ok-log.ensures.noted told x.0 (holds_first log_owner (hung dkey_level) (g.P.Pages.blocks c.args.pages.now) x held) (ap (λ r. r.log) at) new.punch)
 
 pub returns-clause-staged : goal.returns-clause-staged
 returns-clause-staged g c told x held at new d small =

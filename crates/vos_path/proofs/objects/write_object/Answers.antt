@@ -2,6 +2,8 @@ use Rattle.std.proofs.Common.{◌∙◌, subst, sym}
 use Rattle.vos_levels.specs.Levels.{HasMore}
 use Rattle.vos_levels.proofs.Calls.{if_ok_then, on_ok_then}
 use Rattle.vos_path.specs.Calls.{LacksFor, SpendsAtMost, Turns, for_pair}
+use Rattle.base_types.specs.Operations.{write_path}
+use Rattle.vos_path.specs.Nodes.{ObjectNoted}
 use Rattle.vos_path.specs.Objects.{below_object_versions, below_owner, below_roots, dkey_level}
 use Rattle.vos_path.specs.Writes.{data_blocks, below_object_pairs, fresh}
 use Rattle.vos_path.proofs.BranchWrites.{lacks_any, spends_any}
@@ -23,7 +25,7 @@ returns-then-goes_below_object-clause-staged g c = on_ok_then c.write_below.resu
 pub returns-else-goes_below_object-clause-written : goal.returns-else-goes_below_object-clause-written
 returns-else-goes_below_object-clause-written g c = if_ok_then c.punch_log.result (λ now h told x held at new ob is.
     let is = object_punch c.args.write.now ob c.requires.form (sym c.goes_below_object.ensures ∙ c.if-goes_below_object.false) is in
-    subst (λ z. Turns (below_owner dkey_level) below_roots (below_object_versions ob) (g.P.Pages.blocks c.args.pages.now) x (g.P.Pages.blocks c.punch_log.new.pages) now (HasMore (fresh c.args.stamp z))) (sym is) (h told x held at new ob)) c.punch_log.ensures.written
+    subst (λ z. Turns (below_owner dkey_level) below_roots (below_object_versions ob) (g.P.Pages.blocks c.args.pages.now) x (g.P.Pages.blocks c.punch_log.new.pages) now (HasMore (fresh c.args.stamp z)) (ObjectNoted c.args.stamp z (write_path z).dkey (write_path z).akey)) (sym is) (h told x held at new ob)) c.punch_log.ensures.written
 
 pub returns-else-goes_below_object-clause-too_much : goal.returns-else-goes_below_object-clause-too_much
 returns-else-goes_below_object-clause-too_much g c refused told x held at new d small = lacks_any (data_blocks c.args.write.now) (below_object_pairs c.args.write.now (for_pair d)) d (g.P.Pages.budget c.args.pages.now) (c.punch_log.ensures.too_much refused told x held at new d small)

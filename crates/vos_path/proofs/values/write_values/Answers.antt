@@ -4,6 +4,7 @@ use Rattle.base_types.specs.declared.operation.Write.TheVariants.{Extent, PunchA
 use Rattle.vos_levels.specs.Levels.{HasMore}
 use Rattle.vos_levels.proofs.Calls.{if_ok_then}
 use Rattle.vos_path.specs.Calls.{Turns}
+use Rattle.vos_path.specs.Nodes.{ValuesNoted}
 use Rattle.vos_path.specs.Objects.{values_owner, values_roots, values_versions}
 use Rattle.vos_path.specs.Writes.{fresh}
 use Rattle.vos_path.proofs.Forming.{akey_punch, extent_length, single_length}
@@ -24,14 +25,14 @@ write_extent-requires-clause-most g c = subst (λ z. length z ≤ 1024) (sym c.a
 pub returns-in-Single-clause-written : goal.returns-in-Single-clause-written
 returns-in-Single-clause-written g c = if_ok_then c.write_single.result (λ now h told x held at new.
     let is : c.args.write.now ≡ Single c.in-Single.field-0 c.as_slice.result.now = c.in-Single.is ∙ ap (Single c.in-Single.field-0) (sym c.as_slice.ensures) in
-    subst (λ w. Turns values_owner values_roots (values_versions (write_path w)) (g.P.Pages.blocks c.args.pages.now) x (g.P.Pages.blocks c.write_single.new.pages) now (HasMore (fresh c.args.stamp w))) (sym is) (h told x held at new c.in-Single.field-0)) c.write_single.ensures.written
+    subst (λ w. Turns values_owner values_roots (values_versions (write_path w)) (g.P.Pages.blocks c.args.pages.now) x (g.P.Pages.blocks c.write_single.new.pages) now (HasMore (fresh c.args.stamp w)) (ValuesNoted c.args.stamp w)) (sym is) (h told x held at new c.in-Single.field-0)) c.write_single.ensures.written
 
 pub returns-in-Extent-clause-written : goal.returns-in-Extent-clause-written
 returns-in-Extent-clause-written g c = if_ok_then c.write_extent.result (λ now h told x held at new.
     let is : c.args.write.now ≡ Extent c.in-Extent.field-0 c.in-Extent.low c.as_slice-in-Extent.result.now = c.in-Extent.is ∙ ap (Extent c.in-Extent.field-0 c.in-Extent.low) (sym c.as_slice-in-Extent.ensures) in
-    subst (λ w. Turns values_owner values_roots (values_versions (write_path w)) (g.P.Pages.blocks c.args.pages.now) x (g.P.Pages.blocks c.write_extent.new.pages) now (HasMore (fresh c.args.stamp w))) (sym is) (h told x held at new c.in-Extent.field-0)) c.write_extent.ensures.written
+    subst (λ w. Turns values_owner values_roots (values_versions (write_path w)) (g.P.Pages.blocks c.args.pages.now) x (g.P.Pages.blocks c.write_extent.new.pages) now (HasMore (fresh c.args.stamp w)) (ValuesNoted c.args.stamp w)) (sym is) (h told x held at new c.in-Extent.field-0)) c.write_extent.ensures.written
 
 pub returns-in-PunchObject-clause-written : goal.returns-in-PunchObject-clause-written
 returns-in-PunchObject-clause-written g c = if_ok_then c.punch_values.result (λ now h told x held at new.
     let is : c.args.write.now ≡ PunchAkey (write_path c.args.write.now) = akey_punch c.args.write.now c.requires.below c.in-PunchObject.is in
-    subst (λ w. Turns values_owner values_roots (values_versions (write_path w)) (g.P.Pages.blocks c.args.pages.now) x (g.P.Pages.blocks c.punch_values.new.pages) now (HasMore (fresh c.args.stamp w))) (sym is) (h told x held at new (write_path c.args.write.now))) c.punch_values.ensures.written
+    subst (λ w. Turns values_owner values_roots (values_versions (write_path w)) (g.P.Pages.blocks c.args.pages.now) x (g.P.Pages.blocks c.punch_values.new.pages) now (HasMore (fresh c.args.stamp w)) (ValuesNoted c.args.stamp w)) (sym is) (h told x held at new (write_path c.args.write.now))) c.punch_values.ensures.written
