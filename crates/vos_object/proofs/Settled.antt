@@ -1,5 +1,5 @@
 -- The versions of an attempt, settled one after another.
-use Rattle.std.proofs.Common.{◌≡◌, ◌&&◌, ◌||◌, Bool, true, false, not, List, [], ◌∷◌, map, refl, sym, ap, ◌∙◌}
+use Rattle.std.proofs.Common.{◌≡◌, ◌&&◌, ◌||◌, Bool, true, false, not, List, [], ◌∷◌, map, refl, sym, ap, ◌∙◌, None, Option, Some}
 use Rattle.std.specs.Prelude.{filter, if◌then◌else◌}
 use Rattle.base_types.specs.declared.entry.Settle.TheVariants as step
 use Rattle.base_types.specs.declared.id.AttemptId.{AttemptId}
@@ -8,9 +8,14 @@ use Rattle.daos_model.specs.Versions.{done_by, is_not_pending, is_pending}
 use Rattle.daos_model.specs.declared.durable.Version.{Version}
 use Rattle.vos_levels.specs.Changes as changes
 use Rattle.vos_levels.specs.Levels.{map_those, without_those}
+use Rattle.vos_levels.proofs.Spots.{without_none}
+use Rattle.vos_levels.proofs.Testing.{found_missing}
+use Rattle.std.specs.List.{find}
+use Rattle.std.specs.Option.{option_map}
 use Rattle.vos_settle.specs.Versions.{done_version, is_version_taken}
 use Rattle.vos_object.specs.declared.settle.WriteName.{WriteName}
-use Rattle.vos_object.specs.Settling.{NamesAll, is_among, is_named, settled_each, settling}
+use Rattle.vos_prune.specs.Writers.{version_by, writer_of}
+use Rattle.vos_object.specs.Settling.{NamesAll, NamesThose, is_among, is_named, is_removed, moment_of, removed_each, settled_each, settling}
 
 -- an unsettled version of the attempt
 abbrev waits : AttemptId → Version → Bool
@@ -135,3 +140,33 @@ aborted_each a ns vs named = each_gone a ns vs ∙ all vs named
         by : (b : Bool) → is_pending a w ≡ b → without_those (λ v. is_among ns v && waits a v) ws ≡ filter (is_not_pending a) ws → without_those (λ v. is_among ns v && waits a v) (w ∷ ws) ≡ (if not b then w ∷ filter (is_not_pending a) ws else filter (is_not_pending a) ws)
         by true e r = let one : (is_among ns w && waits a w) ≡ true = rw (h.0 e, sym (waits_is a w) ∙ e) refl in rw one r
         by false e r = let one : (is_among ns w && waits a w) ≡ false = no_both (is_among ns w) (waits a w) (sym (waits_is a w) ∙ e) in rw one (ap (λ z. w ∷ z) r)
+
+-- ---- done ones that are taken out
+
+each_removed : (ns : List WriteName) (vs : List Version) → removed_each ns vs ≡ without_those (λ v. is_among ns v && v.done) vs
+each_removed [] vs = all vs
+  where
+    all : (ws : List Version) → ws ≡ without_those (λ v. false) ws
+    all [] = refl
+    all (w ∷ ws) = ap (λ z. w ∷ z) (all ws)
+each_removed (n ∷ ns) vs =
+    each_removed ns (without_those (is_removed n) vs)
+    ∙ without_twice (is_removed n) (λ v. is_among ns v && v.done) (λ v. is_among (n ∷ ns) v && v.done) vs (λ v. either (is_named n v) (is_among ns v) v.done)
+
+pub those_removed : (goes : Version → Bool) (ns : List WriteName) (vs : List Version) → NamesThose goes ns vs → removed_each ns vs ≡ filter (λ v. not (goes v)) vs
+those_removed goes ns vs named = each_removed ns vs ∙ all vs named
+  where
+    all : (ws : List Version) → NamesThose goes ns ws → without_those (λ v. is_among ns v && v.done) ws ≡ filter (λ v. not (goes v)) ws
+    all [] h = refl
+    all (w ∷ ws) h = ap (λ (b : Bool). if b then without_those (λ v. is_among ns v && v.done) ws else w ∷ without_those (λ v. is_among ns v && v.done) ws) h.0 ∙ by (goes w) (all ws h.1)
+      where
+        by : (b : Bool) → without_those (λ v. is_among ns v && v.done) ws ≡ filter (λ v. not (goes v)) ws → (if b then without_those (λ v. is_among ns v && v.done) ws else w ∷ without_those (λ v. is_among ns v && v.done) ws) ≡ (if not b then w ∷ filter (λ v. not (goes v)) ws else filter (λ v. not (goes v)) ws)
+        by true r = r
+        by false r = ap (λ z. w ∷ z) r
+
+pub nobody_removed : (n : WriteName) (vs : List Version) → writer_of n.path n.kind (moment_of n) vs ≡ None → without_those (is_removed n) vs ≡ vs
+nobody_removed n vs h = without_none (is_removed n) vs (found_missing (is_removed n) vs (unmapped (find (is_removed n) vs) h))
+  where
+    unmapped : (x : Option Version) → option_map version_by x ≡ None → x ≡ None
+    unmapped None h = refl
+    unmapped (Some v) h = absurd (let n : ⊥ = cc in n)

@@ -1,5 +1,5 @@
 -- What is asked of a step that settles a write, and what it makes of it.
-use Rattle.std.specs.Prelude.{◌≡◌, ◌<◌, ◌||◌, Bool, true, false, List, [], ◌∷◌}
+use Rattle.std.specs.Prelude.{◌≡◌, ◌<◌, ◌&&◌, ◌||◌, Bool, true, false, List, [], ◌∷◌}
 use Rattle.base_types.specs.declared.entry.Settle.{Settle}
 use Rattle.base_types.specs.declared.entry.Settle.TheVariants as step
 use Rattle.base_types.specs.declared.id.AttemptId.{AttemptId}
@@ -10,9 +10,11 @@ use Rattle.daos_model.specs.Versions.{is_pending}
 use Rattle.vos_values.specs.declared.keys.Moment.{Moment}
 use Rattle.vos_levels.specs.declared.change.Change.{Change}
 use Rattle.vos_levels.specs.declared.change.Change.TheVariants.{Commit, Abort}
+use Rattle.vos_levels.specs.Levels.{without_those}
 use Rattle.vos_path.specs.Writes.{NamesAreKeys}
 use Rattle.vos_settle.specs.declared.task.Task.{Task}
 use Rattle.vos_settle.specs.Versions.{fits_kind, is_version_of, versions_after}
+use Rattle.vos_prune.specs.Writers.{is_done_of}
 use Rattle.vos_object.specs.declared.settle.WriteName.{WriteName}
 
 -- a step decides an attempt: its versions become done, or go
@@ -60,3 +62,19 @@ is_among (n ∷ ns) v = is_named n v || is_among ns v
 abbrev pub NamesAll : AttemptId → List WriteName → List Version → Type 0
 NamesAll a ns [] = Unit {0}
 NamesAll a ns (v ∷ vs) = (is_pending a v ≡ true → is_among ns v ≡ true) × NamesAll a ns vs
+
+-- ---- pruning
+
+-- a done version of a write
+abbrev pub is_removed : WriteName → Version → Bool
+is_removed n v = is_done_of n.path n.kind (moment_of n) v
+
+-- the versions after each of some writes was taken out, one after another
+abbrev pub removed_each : List WriteName → List Version → List Version
+removed_each [] vs = vs
+removed_each (n ∷ ns) vs = removed_each ns (without_those (is_removed n) vs)
+
+-- they name exactly the done versions that pass a test
+abbrev pub NamesThose : (Version → Bool) → List WriteName → List Version → Type 0
+NamesThose goes ns [] = Unit {0}
+NamesThose goes ns (v ∷ vs) = ((is_among ns v && v.done) ≡ goes v) × NamesThose goes ns vs
