@@ -1,11 +1,12 @@
 -- What is asked of a write and of a read, and what is said of them.
-use Rattle.std.specs.Prelude.{◌≡◌, ◌<◌, ◌+◌, ℕ, true, false, Bool}
+use Rattle.std.specs.Prelude.{◌≡◌, ◌<◌, ◌+◌, ℕ, true, false, Bool, is_none, is_some, if◌then◌else◌}
 use Rattle.base_types.specs.declared.epoch.Epoch.{Epoch}
 use Rattle.base_types.specs.declared.id.AttemptId.{AttemptId}
 use Rattle.base_types.specs.declared.operation.MinorWrite.{MinorWrite}
 use Rattle.base_types.specs.declared.operation.Read.{Read}
 use Rattle.base_types.specs.declared.operation.Write.{Write}
 use Rattle.base_types.specs.declared.operation.Read.TheVariants as read
+use Rattle.base_types.specs.declared.path.Path.{Path}
 use Rattle.base_types.specs.Operations.{write_path}
 use Rattle.base_types.specs.Paths.{record_size}
 use Rattle.daos_model.specs.declared.durable.Version.{Version}
@@ -28,10 +29,14 @@ most_blocks w = data_blocks w + object_pairs w 1
 abbrev pub new_version : Epoch → AttemptId → MinorWrite → Version
 new_version epoch by w = record { epoch = epoch; minor = w.minor; by = by; done = false; write = w.write }
 
--- a read of a single value or of an array
+-- a read of a single value or of an array, or of whether there is a cell below an object, a dkey or an akey
 abbrev pub is_value_read : Read → Bool
 is_value_read (read.Single p) = true
 is_value_read (read.Extent p low len) = true
 is_value_read (read.Dkeys p) = false
 is_value_read (read.Akeys p) = false
-is_value_read (read.Exists p) = false
+is_value_read (read.Exists p) = is_some p.obj
+
+-- the listing of a path: of the dkeys of an object, or of the akeys of a dkey
+abbrev pub listing : Path → Read
+listing p = if is_none p.dkey then read.Dkeys p else read.Akeys p
