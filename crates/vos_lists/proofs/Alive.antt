@@ -178,6 +178,11 @@ module _ (w : View) (some : 1 ≤ w.unit) (q : Option Moment) where
   pub extents_any : (g : Extents) → has_extent w q g ≡ list_any fits (extents g)
   extents_any g = any_map fits extent_of (things g)
 
+pub same_tests : (s t : Bool) → (s ≡ true → t ≡ true) → (t ≡ true → s ≡ true) → s ≡ t
+same_tests true t f h = sym (f refl)
+same_tests false true f h = h refl
+same_tests false false f h = refl
+
 -- ---- paths
 
 -- what it says of a path that it is led to
@@ -282,8 +287,3 @@ module _ (m : Blocks) (g : Objects) (o : ObjectKey) (d a : List ℕ) (held : Hol
   akey_law =
       same_tests (has_cell_below p map_of) (has_single w q v2.1.0 || has_extent w q v2.1.1) forth back
       ∙ ap (λ z. has_single w z v2.1.0 || has_extent w z v2.1.1) (sym (later_moments (punched_at e (below_object o g).0) (punched_at e (dkey_of o d g).0) (punched_at e v2.0)))
-    where
-      same_tests : (s t : Bool) → (s ≡ true → t ≡ true) → (t ≡ true → s ≡ true) → s ≡ t
-      same_tests true t f h = sym (f refl)
-      same_tests false true f h = h refl
-      same_tests false false f h = refl

@@ -1,154 +1,39 @@
--- The names below a dkey and below an object that have a cell on the map below an epoch, and whether there are some.
-use Rattle.std.proofs.Common.{◌≡◌, ℕ, ◌==◌, ◌&&◌, ◌||◌, nat_lt, not, Bool, true, false, List, [], ◌∷◌, Option, Some, None, refl, sym, ap, ◌∙◌, subst, inl, inr, ◌⊎◌, arith}
-use Rattle.std.specs.Prelude.{All, if◌then◌else◌, is_none}
-use Rattle.std.specs.List.{find}
+-- The names below a dkey and below an object that have a cell on the map below an epoch, and whether there are some; and whether a container has one.
+use Rattle.std.proofs.Common.{◌≡◌, ℕ, ◌==◌, ◌||◌, Bool, true, false, List, [], ◌∷◌, Option, Some, None, refl, sym, ap, ◌∙◌, subst, inl, inr, arith}
+use Rattle.std.specs.Prelude.{if◌then◌else◌}
+use Rattle.std.specs.List.{find, list_any}
 use Rattle.std.specs.Option.{option_eq}
 use Rattle.std.proofs.lemmas.Bool.Decides.{nat_tests}
-use Rattle.std.proofs.lemmas.List.Elements.{All-head, All-tail}
-use Rattle.base_types.specs.Keys.{same_key}
-use Rattle.base_types.specs.PathLaws.{leads_to-trans, same_key-Decides, same_object-Decides}
-use Rattle.base_types.specs.Paths.{leads_to, overlaps, same_object}
+use Rattle.base_types.specs.PathLaws.{leads_to-trans, same_object-Decides}
+use Rattle.base_types.specs.Paths.{leads_to, same_object}
 use Rattle.base_types.specs.declared.epoch.Epoch.{Epoch}
+use Rattle.base_types.specs.declared.id.ContId.{ContId}
 use Rattle.base_types.specs.declared.path.Path.{Path}
 use Rattle.daos_model.specs.Answers.{akey_under, akeys_below, dkey_under, dkeys_below, has_cell_below, in_byte_order, option_before}
 use Rattle.daos_model.specs.BoolLaws.{and_left, and_right, both, or_from_right}
 use Rattle.daos_model.specs.Durables.{version_key}
 use Rattle.daos_model.specs.Ordered.{in_order}
-use Rattle.daos_model.specs.Versions.{blocks_read, first_blocking, map_below, version_path}
+use Rattle.daos_model.specs.Versions.{map_below}
 use Rattle.daos_model.specs.declared.cell.CellValue.{CellValue}
-use Rattle.daos_model.specs.declared.durable.Version.{Version}
 use Rattle.model_laws.specs.Members.{Has}
 use Rattle.model_laws.specs.ReadLaws.{has-under, under-has}
 use Rattle.pmem_pages.specs.Blocks.{Blocks}
 use Rattle.pmem_pages.specs.Owners.{Holds}
 use Rattle.vos_values.specs.declared.keys.Layout.TheVariants.{Two}
 use Rattle.vos_values.specs.declared.keys.ObjectKey.{ObjectKey}
-use Rattle.vos_values.specs.Keys.{IsName, IsObjectKey, name_key}
+use Rattle.vos_values.specs.Keys.{IsName, IsObjectKey, name_key, object_key}
 use Rattle.vos_levels.specs.Levels.{Hung, is_level, things}
-use Rattle.vos_path.specs.Objects.{Akey, Dkey, Objects, akey_level, akey_path, below_or_none, dkey_level, dkey_path, object_level, object_path, object_versions, objects_owner, objects_versions, values_or_none}
+use Rattle.vos_path.specs.Objects.{Akey, Dkey, Object, Objects, akey_level, akey_path, below_or_none, dkey_level, dkey_path, object_level, object_path, objects_owner, objects_versions, values_or_none}
+use Rattle.vos_path.proofs.DkeyWrites.{objects_exact}
 use Rattle.vos_reads.specs.Ways.{IsSettled, below_object, dkey_of}
 use Rattle.vos_reads.proofs.Going.{akeys_hold, dkeys_hold}
-use Rattle.vos_reads.proofs.Quiet.{object_paths}
 use Rattle.vos_lists.specs.declared.view.View.{View}
-use Rattle.vos_lists.specs.Stands.{akey_name, akey_names, akey_stands, below_stands, dkey_name, dkey_names, dkey_stands, object_stands, values_stand}
+use Rattle.vos_lists.specs.Stands.{akey_name, akey_names, akey_stands, below_stands, cont_stands, dkey_name, dkey_names, dkey_stands, object_stands, stands_in, values_stand}
 use Rattle.vos_lists.specs.Unders.{over_akeys, over_dkeys}
-use Rattle.vos_lists.proofs.Alive.{Parts, akey_law, full_path, parts_of, same_name}
-use Rattle.vos_lists.proofs.Full.{all_things, all_weaker, held_full}
-use Rattle.vos_lists.proofs.Naming.{any_same, if_any, names_same}
-
--- ---- paths
-
-eq_refl : (n : ℕ) → (n == n) ≡ true
-eq_refl n = grind (arith, nat_tests)
-
-four : (a b c d : Bool) → a ≡ true → b ≡ true → c ≡ true → d ≡ true → (a && b && c && d) ≡ true
-four true true true true h i j k = refl
-four false b c d h i j k = absurd (let n : ⊥ = cc in n)
-four true false c d h i j k = absurd (let n : ⊥ = cc in n)
-four true true false d h i j k = absurd (let n : ⊥ = cc in n)
-four true true true false h i j k = absurd (let n : ⊥ = cc in n)
-
-from_parts : (p r : Path) → Parts p r → leads_to p r ≡ true
-unfolding leads_to
-from_parts p r h = four _ _ _ _ h.cont h.obj h.dkey h.akey
-
-object_to_dkey : (o : ObjectKey) (d : List ℕ) → leads_to (object_path o) (dkey_path o d) ≡ true
-object_to_dkey o d = from_parts (object_path o) (dkey_path o d) (record { cont = eq_refl o.cont.0; obj = (same_object-Decides o.obj o.obj).1 refl; dkey = refl; akey = refl })
-
-dkey_to_akey : (o : ObjectKey) (d a : List ℕ) → leads_to (dkey_path o d) (akey_path o d a) ≡ true
-dkey_to_akey o d a = from_parts (dkey_path o d) (akey_path o d a) (record { cont = eq_refl o.cont.0; obj = (same_object-Decides o.obj o.obj).1 refl; dkey = (same_key-Decides d d).1 refl; akey = refl })
-
-named_so : (k : List ℕ) (x : Option (List ℕ)) → x ≡ Some k → (is_none (Some k) || option_eq same_key (Some k) x) ≡ true
-named_so k x e = ap (λ z. option_eq same_key (Some k) z) e ∙ (same_key-Decides k k).1 refl
-
--- a path below an object with a dkey is below the dkey, and one below a dkey with an akey is the akey's
-to_dkey : (o : ObjectKey) (k : List ℕ) (r : Path) → leads_to (object_path o) r ≡ true → r.dkey ≡ Some k → leads_to (dkey_path o k) r ≡ true
-to_dkey o k r h e = let p = parts_of (object_path o) r h in from_parts (dkey_path o k) r (record { cont = p.cont; obj = p.obj; dkey = named_so k r.dkey e; akey = refl })
-
-to_akey : (o : ObjectKey) (d k : List ℕ) (r : Path) → leads_to (dkey_path o d) r ≡ true → r.akey ≡ Some k → leads_to (akey_path o d k) r ≡ true
-to_akey o d k r h e = let p = parts_of (dkey_path o d) r h in from_parts (akey_path o d k) r (record { cont = p.cont; obj = p.obj; dkey = p.dkey; akey = named_so k r.akey e })
-
--- ---- settled below
-
-same_back : (a b : ObjectKey) → same_object a.obj b.obj ≡ true → same_object b.obj a.obj ≡ true
-same_back a b h = (same_object-Decides b.obj a.obj).1 (sym ((same_object-Decides a.obj b.obj).0 h))
-
-eq_back : (a b : ℕ) → (a == b) ≡ true → (b == a) ≡ true
-eq_back a b h = grind (arith, nat_tests)
-
--- what overlaps a path overlaps one that leads to it
-abbrev Overs : Path → Path → Path → Type 0
-Overs p q r = overlaps q r ≡ true → overlaps p r ≡ true
-
-either_way : (p q r : Path) → leads_to p q ≡ true → (leads_to r q ≡ true → (leads_to p r ≡ true) ⊎ (leads_to r p ≡ true)) → Overs p q r
-unfolding overlaps
-either_way p q r h back k = by (leads_to q r) refl k
-  where
-    joined : (leads_to p r ≡ true) ⊎ (leads_to r p ≡ true) → (leads_to p r || leads_to r p) ≡ true
-    joined (inl e) = ap (λ b. b || leads_to r p) e
-    joined (inr e) = or_from_right (leads_to p r) (leads_to r p) e
-
-    by : (t : Bool) → leads_to q r ≡ t → (t || leads_to r q) ≡ true → (leads_to p r || leads_to r p) ≡ true
-    by true e z = joined (inl (leads_to-trans p q r h e))
-    by false e z = joined (back z)
-
-module _ (o : ObjectKey) (d : List ℕ) where
-  over_object : (x : ObjectKey) → Overs (object_path o) (dkey_path o d) (object_path x)
-  over_object x = either_way (object_path o) (dkey_path o d) (object_path x) (object_to_dkey o d) (λ h.
-      let p = parts_of (object_path x) (dkey_path o d) h in
-      inr (from_parts (object_path x) (object_path o) (record { cont = p.cont; obj = p.obj; dkey = refl; akey = refl })))
-
-  over_dkey : (x : ObjectKey) (k : List ℕ) → Overs (object_path o) (dkey_path o d) (dkey_path x k)
-  over_dkey x k = either_way (object_path o) (dkey_path o d) (dkey_path x k) (object_to_dkey o d) (λ h.
-      let p = parts_of (dkey_path x k) (dkey_path o d) h in
-      inl (from_parts (object_path o) (dkey_path x k) (record { cont = eq_back x.cont.0 o.cont.0 p.cont; obj = same_back x o p.obj; dkey = refl; akey = refl })))
-
-  over_akey : (x : ObjectKey) (k l : List ℕ) → Overs (object_path o) (dkey_path o d) (akey_path x k l)
-  over_akey x k l = either_way (object_path o) (dkey_path o d) (akey_path x k l) (object_to_dkey o d) (λ h.
-      let p = parts_of (akey_path x k l) (dkey_path o d) h in
-      absurd (let e = p.akey in let n : ⊥ = cc in n))
-
-  module _ (a : List ℕ) where
-    under_object : (x : ObjectKey) → Overs (dkey_path o d) (akey_path o d a) (object_path x)
-    under_object x = either_way (dkey_path o d) (akey_path o d a) (object_path x) (dkey_to_akey o d a) (λ h.
-        let p = parts_of (object_path x) (akey_path o d a) h in
-        inr (from_parts (object_path x) (dkey_path o d) (record { cont = p.cont; obj = p.obj; dkey = refl; akey = refl })))
-
-    under_dkey : (x : ObjectKey) (k : List ℕ) → Overs (dkey_path o d) (akey_path o d a) (dkey_path x k)
-    under_dkey x k = either_way (dkey_path o d) (akey_path o d a) (dkey_path x k) (dkey_to_akey o d a) (λ h.
-        let p = parts_of (dkey_path x k) (akey_path o d a) h in
-        inr (from_parts (dkey_path x k) (dkey_path o d) (record { cont = p.cont; obj = p.obj; dkey = p.dkey; akey = refl })))
-
-    under_akey : (x : ObjectKey) (k l : List ℕ) → Overs (dkey_path o d) (akey_path o d a) (akey_path x k l)
-    under_akey x k l = either_way (dkey_path o d) (akey_path o d a) (akey_path x k l) (dkey_to_akey o d a) (λ h.
-        let same = full_path x k l (akey_path o d a) h in
-        inl (ap (leads_to (dkey_path o d)) (sym same) ∙ dkey_to_akey o d a))
-
--- ---- settled below
-
-find_fewer : (s t : Version → Bool) (vs : List Version) → All (λ v. t v ≡ true → s v ≡ true) vs → find s vs ≡ None → find t vs ≡ None
-find_fewer s t [] all h = refl
-find_fewer s t (v ∷ vs) all h = by (find_fewer s t vs (All-tail (λ u. t u ≡ true → s u ≡ true) v vs all)) (t v) refl (s v) refl h
-  where
-    by : (find s vs ≡ None → find t vs ≡ None) → (x : Bool) → t v ≡ x → (y : Bool) → s v ≡ y → (if y then Some v else find s vs) ≡ None → (if x then Some v else find t vs) ≡ None
-    by rest x e true f k = absurd (let n : ⊥ = cc in n)
-    by rest true e false f k = absurd (let z : true ≡ false = sym (All-head (λ u. t u ≡ true → s u ≡ true) v vs all e) ∙ f in let n : ⊥ = cc in n)
-    by rest false e false f k = rest k
-
-blocks_over : (p q : Path) (e : ℕ) (v : Version) → Overs p q (version_path v) → blocks_read q e v ≡ true → blocks_read p e v ≡ true
-unfolding blocks_read
-blocks_over p q e v over h =
-    let front = not v.done && nat_lt v.epoch.0 e in
-    both front (overlaps p (version_path v)) (and_left front (overlaps q (version_path v)) h) (over (and_right front (overlaps q (version_path v)) h))
-
-module _ (m : Blocks) (g : Objects) (held : Holds objects_owner m g) (e : Epoch) (p q : Path)
-    (one : (x : ObjectKey) → Overs p q (object_path x)) (two : (x : ObjectKey) (k : List ℕ) → Overs p q (dkey_path x k)) (three : (x : ObjectKey) (k l : List ℕ) → Overs p q (akey_path x k l)) where
-  overs : All (λ v. blocks_read q e.0 v ≡ true → blocks_read p e.0 v ≡ true) (objects_versions g)
-  overs = all_weaker (λ v. Overs p q (version_path v)) (λ v. blocks_read q e.0 v ≡ true → blocks_read p e.0 v ≡ true) (λ v over. blocks_over p q e.0 v over) (objects_versions g) (all_things object_level m (λ v. Overs p q (version_path v)) object_versions (λ x good h. object_paths (Overs p q) x.name x.holds (one x.name) (two x.name) (three x.name)) g held)
-
-  settled_below : IsSettled p e g → IsSettled q e g
-  unfolding first_blocking
-  settled_below h = find_fewer (blocks_read p e.0) (blocks_read q e.0) (objects_versions g) overs h
+use Rattle.vos_lists.proofs.Alive.{akey_law, any_at, parts_of, same_name, same_tests}
+use Rattle.vos_lists.proofs.Full.{IsFull, held_full}
+use Rattle.vos_lists.proofs.Naming.{any_has, any_same, found_at, found_own, good_has, has_append, if_any, names_same}
+use Rattle.vos_lists.proofs.Settled.{cont_path, cont_to_object, dkey_to_akey, eq_refl, from_parts, object_to_dkey, over_akey, over_dkey, over_object, settled_below, to_akey, to_dkey, top_akey, top_dkey, top_object, under_akey, under_dkey, under_object}
 
 -- ---- names of cells
 
@@ -216,6 +101,15 @@ module _ (o : ObjectKey) (d k : List ℕ) where
   akey_back v h =
       there_named (leads_to (dkey_path o d) v.cell.path) v.cell.path.akey k (leads_to-trans (dkey_path o d) (akey_path o d k) v.cell.path (dkey_to_akey o d k) h)
       (sym (same_name k v.cell.path.akey (parts_of (akey_path o d k) v.cell.path h).akey))
+
+object_of_full : (r : Path) (f : IsFull r) → leads_to (object_path f.object) r ≡ true
+object_of_full r f =
+    from_parts (object_path f.object) r (record {
+      cont = ap (λ (z : ContId). f.object.cont.0 == z.0) f.cont_is ∙ eq_refl f.object.cont.0;
+      obj = ap (λ z. option_eq same_object (Some f.object.obj) z) f.obj_is ∙ (same_object-Decides f.object.obj f.object.obj).1 refl;
+      dkey = refl;
+      akey = refl;
+    })
 
 some_same : (j k : List ℕ) → Some j ≡ Some k → j ≡ k
 some_same j k h = cc
@@ -333,3 +227,56 @@ module _ (m : Blocks) (g : Objects) (o : ObjectKey) (held : Holds objects_owner 
       (λ k h.
       let s = under-has (dkey_path o k) all_of (has_dkey k h).0 in
       has-under (object_path o) all_of s.0 (leads_to-trans (object_path o) (dkey_path o k) s.0.path (object_to_dkey o k) s.1) s.2)
+
+-- ---- below a container
+
+module _ (m : Blocks) (g : Objects) (c : ContId) (held : Holds objects_owner m g) (e : Epoch) (settled : IsSettled (cont_path c) e g) where
+  abbrev cont_map : List CellValue
+  cont_map = map_below (in_order version_key (objects_versions g)) e.0
+
+  abbrev test : Object → Bool
+  test = stands_in c e
+
+  abbrev view_at : ObjectKey → View
+  view_at o = record { unit = o.obj.unit; below = e }
+
+  object_is : (o : ObjectKey) → IsObjectKey Two o → o.cont ≡ c → has_cell_below (object_path o) cont_map ≡ object_stands (view_at o) (below_object o g)
+  object_is o good is = object_law m g o held good e (settled_below m g held e (cont_path o.cont) (object_path o) (top_object o) (top_dkey o) (top_akey o) (subst (λ z. IsSettled (cont_path z) e g) (sym is) settled))
+
+  -- an object that has a cell stands in the tree
+  in_tree : (o : ObjectKey) → IsObjectKey Two o → o.cont ≡ c → has_cell_below (object_path o) cont_map ≡ true → list_any test (things g) ≡ true
+  in_tree o good is h = by (find (is_level object_level (object_key o)) (things g)) refl (sym (object_is o good is) ∙ h)
+    where
+      by : (x : Option Object) → find (is_level object_level (object_key o)) (things g) ≡ x → object_stands (view_at o) (below_or_none x) ≡ true → list_any test (things g) ≡ true
+      by None f k = absurd (let n : ⊥ = cc in n)
+      by (Some x) f k =
+          let at = found_at object_level (object_key o) m g held x f in
+          let name : x.name ≡ o = objects_exact o good x at.good at.level in
+          let mine : (x.name.cont.0 == c.0) ≡ true = ap (λ (z : ContId). z.0 == c.0) (ap (λ (z : ObjectKey). z.cont) name ∙ is) ∙ eq_refl c.0 in
+          let stands : object_stands (view_at x.name) x.holds ≡ true = ap (λ (z : ObjectKey). object_stands (view_at z) x.holds) name ∙ k in
+          any_has test (things g) x at.has (both (x.name.cont.0 == c.0) (object_stands (view_at x.name) x.holds) mine stands)
+
+  same_cont : (a b : ContId) → (a.0 == b.0) ≡ true → a ≡ b
+  same_cont a b h = let e : a.0 ≡ b.0 = grind (arith, nat_tests) in λ i. record { 0 = e i }
+
+  cont_forth : has_cell_below (cont_path c) cont_map ≡ true → list_any test (things g) ≡ true
+  cont_forth h =
+      let s = under-has (cont_path c) cont_map h in
+      let full = held_full m g held e.0 s.0 s.2 in
+      let is : full.object.cont ≡ c = sym (same_cont c s.0.path.cont (parts_of (cont_path c) s.0.path s.1).cont ∙ full.cont_is) in
+      in_tree full.object full.is_object is (has-under (object_path full.object) cont_map s.0 (object_of_full s.0.path full) s.2)
+
+  cont_back : list_any test (things g) ≡ true → has_cell_below (cont_path c) cont_map ≡ true
+  cont_back h =
+      let s = any_at test (things g) h in
+      let x = s.thing in
+      let among : Has x (things g) = subst (Has x) (sym s.is) (has_append s.left x s.right) in
+      let good = good_has object_level m g held x among in
+      let is : x.name.cont ≡ c = same_cont x.name.cont c (and_left (x.name.cont.0 == c.0) (object_stands (view_at x.name) x.holds) s.passes) in
+      let own : below_object x.name g ≡ x.holds = ap below_or_none (found_own object_level m g held x among) in
+      let stands : object_stands (view_at x.name) (below_object x.name g) ≡ true = ap (object_stands (view_at x.name)) own ∙ and_right (x.name.cont.0 == c.0) (object_stands (view_at x.name) x.holds) s.passes in
+      let t = under-has (object_path x.name) cont_map (object_is x.name good is ∙ stands) in
+      has-under (cont_path c) cont_map t.0 (leads_to-trans (cont_path c) (object_path x.name) t.0.path (ap (λ z. leads_to (cont_path z) (object_path x.name)) (sym is) ∙ cont_to_object x.name) t.1) t.2
+
+  pub cont_law : has_cell_below (cont_path c) cont_map ≡ cont_stands c e g
+  cont_law = same_tests (has_cell_below (cont_path c) cont_map) (list_any test (things g)) cont_forth cont_back

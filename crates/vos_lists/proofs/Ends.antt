@@ -18,9 +18,15 @@ object_ends p h = (
   none_of p.akey (and_right (is_some p.obj && is_none p.dkey) (is_none p.akey) h),
 )
 
+none_with : (s t : Bool) → (s || t) ≡ true → t ≡ false → s ≡ true
+none_with true t k f = refl
+none_with false t k f = absurd (let z : true ≡ false = sym k ∙ f in let n : ⊥ = cc in n)
+
 pub form_ends : (p : Path) → is_path_in_form p ≡ true → p.dkey ≡ None → p.akey ≡ None
-form_ends p h e = none_of p.akey (last (is_none p.akey) (is_some p.dkey) (and_right (is_none p.dkey || is_some p.obj) (is_none p.akey || is_some p.dkey) h) (ap is_some e))
-  where
-    last : (s t : Bool) → (s || t) ≡ true → t ≡ false → s ≡ true
-    last true t k f = refl
-    last false t k f = absurd (let z : true ≡ false = sym k ∙ f in let n : ⊥ = cc in n)
+form_ends p h e = none_of p.akey (none_with (is_none p.akey) (is_some p.dkey) (and_right (is_none p.dkey || is_some p.obj) (is_none p.akey || is_some p.dkey) h) (ap is_some e))
+
+-- a container's
+pub cont_ends : (p : Path) → is_path_in_form p ≡ true → p.obj ≡ None → (p.dkey ≡ None) × (p.akey ≡ None)
+cont_ends p h e =
+    let dkey = none_of p.dkey (none_with (is_none p.dkey) (is_some p.obj) (and_left (is_none p.dkey || is_some p.obj) (is_none p.akey || is_some p.dkey) h) (ap is_some e)) in
+    (dkey, form_ends p h dkey)

@@ -1,4 +1,4 @@
--- Each cell of the map below an epoch has the names of a dkey and of an akey, which are keys.
+-- Each cell of the map below an epoch has an object, and the names of a dkey and of an akey, which are keys.
 use Rattle.std.proofs.Common.{◌≡◌, ℕ, Bool, true, false, List, [], ◌∷◌, ◌++◌, Option, Some, None, map, refl, sym, ◌∙◌, subst, arith}
 use Rattle.std.specs.Prelude.{All, filter, if◌then◌else◌}
 use Rattle.std.proofs.lemmas.List.Elements.{All-append, All-cons, All-head, All-nil, All-tail}
@@ -19,8 +19,9 @@ use Rattle.model_laws.specs.TouchLaws.{update-path}
 use Rattle.pmem_pages.specs.Blocks.{Blocks}
 use Rattle.pmem_pages.specs.Owners.{Holds, each, owned_each, times-append}
 use Rattle.pmem_pages.specs.Shape.{entries}
+use Rattle.vos_values.specs.declared.keys.Layout.TheVariants.{Two}
 use Rattle.vos_values.specs.declared.keys.ObjectKey.{ObjectKey}
-use Rattle.vos_values.specs.Keys.{IsName}
+use Rattle.vos_values.specs.Keys.{IsName, IsObjectKey}
 use Rattle.vos_levels.specs.Levels.{Hung, Level, hung, things}
 use Rattle.vos_levels.proofs.Changing.{holds_each}
 use Rattle.vos_levels.proofs.Testing.{AllGood, all_good}
@@ -34,8 +35,12 @@ use Rattle.vos_path.specs.Objects.{Dkey, Object, Objects, Values, akey_level, ak
 use Rattle.vos_path.proofs.Written.{holds_second}
 use Rattle.vos_lists.proofs.Reading.{below_in}
 
--- a path goes down to an akey, and its names are keys
+-- a path goes down to an akey of an object, and its names are keys
 pub record IsFull (p : Path) : Type 0 where
+  pub object : ObjectKey
+  pub cont_is : p.cont ≡ object.cont
+  pub obj_is : p.obj ≡ Some object.obj
+  pub is_object : IsObjectKey Two object
   pub dkey : List ℕ
   pub akey : List ℕ
   pub dkey_is : p.dkey ≡ Some dkey
@@ -69,8 +74,8 @@ punches_named : (w : Write) → is_punch_write w ≡ true → (es : List LogEntr
 punches_named w h [] = All-nil Named
 punches_named w h (e ∷ es) = All-cons Named (punch_version w e) (map (punch_version w) es) (λ no. absurd (let z : true ≡ false = sym h ∙ no in let n : ⊥ = cc in n)) (punches_named w h es)
 
-full_akey : (o : ObjectKey) (d a : List ℕ) → IsName d → IsName a → IsFull (akey_path o d a)
-full_akey o d a hd ha = record { dkey = d; akey = a; dkey_is = refl; akey_is = refl; is_dkey = hd; is_akey = ha }
+full_akey : (o : ObjectKey) (d a : List ℕ) → IsObjectKey Two o → IsName d → IsName a → IsFull (akey_path o d a)
+full_akey o d a ho hd ha = record { object = o; cont_is = refl; obj_is = refl; is_object = ho; dkey = d; akey = a; dkey_is = refl; akey_is = refl; is_dkey = hd; is_akey = ha }
 
 all_full : {T : Type 0} (p : Path) → IsFull p → (f : T → Version) → ((x : T) → version_path (f x) ≡ p) → (xs : List T) → All Named (map f xs)
 all_full p full f at [] = All-nil Named
@@ -81,19 +86,19 @@ values_named p full a =
     All-append Named (punches (PunchAkey p) a.0) (map (single_version p) (versions a.1.0) ++ map (extent_version p) (extents a.1.1)) (punches_named (PunchAkey p) refl (filter is_punch (things a.0)))
     (All-append Named (map (single_version p) (versions a.1.0)) (map (extent_version p) (extents a.1.1)) (all_full p full (single_version p) (λ x. refl) (versions a.1.0)) (all_full p full (extent_version p) (λ x. refl) (extents a.1.1)))
 
-dkey_named : (m : Blocks) (o : ObjectKey) (x : Dkey) → IsName x.name → Holds dkey_level.owner m x → All Named (dkey_versions o x)
-dkey_named m o x name held =
+dkey_named : (m : Blocks) (o : ObjectKey) → IsObjectKey Two o → (x : Dkey) → IsName x.name → Holds dkey_level.owner m x → All Named (dkey_versions o x)
+dkey_named m o object x name held =
     All-append Named (punches (PunchDkey (dkey_path o x.name)) x.holds.0) (akeys_versions o x.name x.holds.1) (punches_named (PunchDkey (dkey_path o x.name)) refl (filter is_punch (things x.holds.0)))
-    (all_things akey_level m Named (akey_versions o x.name) (λ a good h. values_named (akey_path o x.name a.name) (full_akey o x.name a.name name good) a.holds) x.holds.1 (holds_second log_owner (hung akey_level) m x.holds (below_in m x held)))
+    (all_things akey_level m Named (akey_versions o x.name) (λ a good h. values_named (akey_path o x.name a.name) (full_akey o x.name a.name object name good) a.holds) x.holds.1 (holds_second log_owner (hung akey_level) m x.holds (below_in m x held)))
 
-object_named : (m : Blocks) (x : Object) → Holds object_level.owner m x → All Named (object_versions x)
-object_named m x held =
+object_named : (m : Blocks) (x : Object) → IsObjectKey Two x.name → Holds object_level.owner m x → All Named (object_versions x)
+object_named m x object held =
     let all : Holds (below_owner dkey_level) m x.holds = record { here = held.here; apart = held.apart } in
     All-append Named (punches (PunchObject (object_path x.name)) x.holds.0) (dkeys_versions x.name x.holds.1) (punches_named (PunchObject (object_path x.name)) refl (filter is_punch (things x.holds.0)))
-    (all_things dkey_level m Named (dkey_versions x.name) (λ d good h. dkey_named m x.name d good h) x.holds.1 (holds_second log_owner (hung dkey_level) m x.holds all))
+    (all_things dkey_level m Named (dkey_versions x.name) (λ d good h. dkey_named m x.name object d good h) x.holds.1 (holds_second log_owner (hung dkey_level) m x.holds all))
 
 objects_named : (m : Blocks) (g : Objects) → Holds objects_owner m g → All Named (objects_versions g)
-objects_named m g held = all_things object_level m Named object_versions (λ x good h. object_named m x h) g held
+objects_named m g held = all_things object_level m Named object_versions (λ x good h. object_named m x good h) g held
 
 -- ---- cells
 

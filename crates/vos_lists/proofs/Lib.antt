@@ -3,5 +3,7 @@ mod Reading
 mod Alive
 mod Naming
 mod Full
+mod Settled
 mod Below
 mod Ends
+mod Ranges

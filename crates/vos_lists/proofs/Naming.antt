@@ -23,6 +23,7 @@ use Rattle.vos_values.specs.Keys.{IsName, name_key}
 use Rattle.vos_values.proofs.KeyLaws.{names_order}
 use Rattle.vos_levels.specs.Levels.{Hung, LeadToAll, Level, hung, is_level, things}
 use Rattle.vos_levels.proofs.Spots.{find_none, find_spot, look}
+use Rattle.vos_levels.proofs.Testing.{found_spot}
 use Rattle.vos_path.proofs.Naming.{name_exact}
 use Rattle.vos_path.proofs.Putting.{level_equal, tells_level}
 use Rattle.vos_reads.proofs.Quiet.{level_own}
@@ -85,33 +86,51 @@ abbrev pub if_any : {A : Type 0} → (A → Bool) → Option A → Bool
 if_any test None = false
 if_any test (Some a) = test a
 
+-- ---- a thing of a level is found by its own key
+
+pub found_own : {A : Type 0} (L : Level A) (m : Blocks) (g : Hung A) → Holds (hung L) m g → (a : A) → Has a (things g) → find (is_level L (L.key a)) (things g) ≡ Some a
+found_own L m g held a h =
+    let k = L.key a in
+    let own : is_level L k a ≡ true = level_own L k a refl in
+    elim (look L k (is_level L k) (tells_level L k) (entries g.0) g.1 held.here.1.leads held.here.1.rises) [
+      | inl s ↦
+          let b = s.1.0 in
+          let t = s.1.1 in
+          let same : a ≡ b = only_one (is_level L k) t.left b t.right a t.none_left t.none_right own (subst (Has a) t.things_are h) in
+          ap (find (is_level L k)) t.things_are ∙ (find_spot (is_level L k) t.left b t.right t.none_left t.passes ∙ ap (λ z. Some z) (sym same))
+      | inr n ↦ clash (list_any (is_level L k) g.1) (any_has (is_level L k) g.1 a h own) n.none
+    ]
+
+-- and what is found is one of the level, and has the key
+pub record FoundAt {A : Type 0} (L : Level A) (k : TreeKey) (xs : List A) (a : A) : Type 0 where
+  pub has : Has a xs
+  pub good : L.Good a
+  pub level : is_level L k a ≡ true
+
+pub found_at : {A : Type 0} (L : Level A) (k : TreeKey) (m : Blocks) (g : Hung A) → Holds (hung L) m g → (a : A) → find (is_level L k) (things g) ≡ Some a → FoundAt L k (things g) a
+found_at {A = A} L k m g held a is =
+    let s = found_spot L k (is_level L k) (tells_level L k) (entries g.0) g.1 a held.here.1.leads held.here.1.rises is in
+    let t = s.1 in
+    record { has = subst (Has a) (sym t.things_are) (has_append t.left a t.right); good = t.leads.good; level = t.passes }
+
+-- a thing of a level is good
+pub good_has : {A : Type 0} (L : Level A) (m : Blocks) (g : Hung A) → Holds (hung L) m g → (a : A) → Has a (things g) → L.Good a
+good_has {A = A} L m g held a h = among (entries g.0) (things g) held.here.1.leads a h
+  where
+    among : (es : List Entry) (xs : List A) → LeadToAll L es xs → (b : A) → Has b xs → L.Good b
+    among [] [] p b i = absurd i
+    among [] (x ∷ xs) p b i = absurd p
+    among (e ∷ es) [] p b i = absurd i
+    among (e ∷ es) (x ∷ xs) p b (inl same) = subst (λ z. L.Good z) (sym same) p.0.good
+    among (e ∷ es) (x ∷ xs) p b (inr i) = among es xs p.1 b i
+
 module _ {A : Type 0} (L : Level A) (name : A → List ℕ) (named : (a : A) → L.Good a → IsName (name a)) (keyed : (a : A) → L.key a ≡ name_key (name a)) (test : A → Bool) (m : Blocks) (g : Hung A) (held : Holds (hung L) m g) where
   abbrev ns : List (List ℕ)
   ns = names_of test name (things g)
 
-  good_has : (es : List Entry) (xs : List A) → LeadToAll L es xs → (a : A) → Has a xs → L.Good a
-  good_has [] [] p a h = absurd h
-  good_has [] (x ∷ xs) p a h = absurd p
-  good_has (e ∷ es) [] p a h = absurd h
-  good_has (e ∷ es) (x ∷ xs) p a (inl same) = subst (λ z. L.Good z) (sym same) p.0.good
-  good_has (e ∷ es) (x ∷ xs) p a (inr h) = good_has es xs p.1 a h
-
-  good_of : (a : A) → Has a (things g) → L.Good a
-  good_of a h = good_has (entries g.0) (things g) held.here.1.leads a h
-
   -- a thing is found by its own name
-  found_own : (a : A) → Has a (things g) → find (is_level L (name_key (name a))) (things g) ≡ Some a
-  found_own a h =
-      let k = name_key (name a) in
-      let own : is_level L k a ≡ true = level_own L k a (keyed a) in
-      elim (look L k (is_level L k) (tells_level L k) (entries g.0) g.1 held.here.1.leads held.here.1.rises) [
-        | inl s ↦
-            let b = s.1.0 in
-            let t = s.1.1 in
-            let same : a ≡ b = only_one (is_level L k) t.left b t.right a t.none_left t.none_right own (subst (Has a) t.things_are h) in
-            ap (find (is_level L k)) t.things_are ∙ (find_spot (is_level L k) t.left b t.right t.none_left t.passes ∙ ap (λ z. Some z) (sym same))
-        | inr n ↦ clash (list_any (is_level L k) g.1) (any_has (is_level L k) g.1 a h own) n.none
-      ]
+  own_name : (a : A) → Has a (things g) → find (is_level L (name_key (name a))) (things g) ≡ Some a
+  own_name a h = ap (λ k. find (is_level L k) (things g)) (sym (keyed a)) ∙ found_own L m g held a h
 
   -- what is found by a name has it
   record Found (k : List ℕ) : Type 0 where
@@ -176,8 +195,8 @@ module _ {A : Type 0} (L : Level A) (name : A → List ℕ) (named : (a : A) →
     back_has k h =
         let f = from_map name (filter test (things g)) k h in
         let t = has-from_filter test (things g) f.thing f.has in
-        let good = named f.thing (good_of f.thing t.0) in
-        subst (λ z. Has z ks) (sym f.is) (back (name f.thing) (law (name f.thing) good ∙ (ap (if_any test) (found_own f.thing t.0) ∙ t.1)))
+        let good = named f.thing (good_has L m g held f.thing t.0) in
+        subst (λ z. Has z ks) (sym f.is) (back (name f.thing) (law (name f.thing) good ∙ (ap (if_any test) (own_name f.thing t.0) ∙ t.1)))
 
     pub names_same : in_byte_order ks ≡ names_of test name (things g)
     names_same =

@@ -12,12 +12,14 @@ use Rattle.pmem_pages.specs.Owners.{Holds}
 use Rattle.pmem_pages.specs.Shape.{entries, last_under}
 use Rattle.pmem_pages.specs.declared.node.TreeKey.{TreeKey}
 use Rattle.pmem_tree_base.specs.Find.{pair_of}
+use Rattle.vos_values.specs.declared.keys.Layout.TheVariants.{Two}
 use Rattle.vos_values.specs.declared.keys.Moment.{Moment}
 use Rattle.vos_values.specs.Fields.{key_of, packed}
-use Rattle.vos_values.specs.Keys.{IsMoment, IsName, extent_fields, extent_key, moment_key, name_in, name_key}
+use Rattle.vos_values.specs.Keys.{IsMoment, IsName, IsObjectKey, extent_fields, extent_key, moment_key, name_in, name_key, object_key}
 use Rattle.vos_values.specs.Values.{akey_in, roots_in, version_value}
 use Rattle.vos_values.proofs.KeyLaws.{extents_exact, keys_cmp, moments_exact, names_exact}
 use Rattle.vos_values.proofs.Orders.{packed_cmp}
+use Rattle.vos_values.proofs.ObjectLaws.{objects_exact}
 use Rattle.vos_values.proofs.ValueLaws.{akeys_exact, roots_exact, singles_exact}
 use Rattle.vos_levels.specs.Levels.{TellsAbove, find_last, hung, pair_of_thing, things}
 use Rattle.vos_levels.proofs.Moments.{moment_below}
@@ -26,14 +28,15 @@ use Rattle.vos_levels.proofs.Testing.{all_good, last_good, read_option}
 use Rattle.vos_ilog.specs.Logs.{log_level, log_owner}
 use Rattle.vos_single.specs.Singles.{Singles, is_under, moment_of as moment_of_single, single_level, single_owner}
 use Rattle.vos_extent.specs.Extents.{IsStored, Stored, extent_level, key_of_stored, mark_of, place_of, placed_in_pair, placed_of, placed_when, placed_with}
-use Rattle.vos_path.specs.Objects.{Akey, Dkey, akey_level, below_owner, below_roots, dkey_level, values_owner, values_roots}
+use Rattle.vos_path.specs.Objects.{Akey, Dkey, Object, akey_level, below_owner, below_roots, dkey_level, object_level, values_owner, values_roots}
 use Rattle.vos_path.proofs.Finding.{hung_low}
 use Rattle.vos_path.proofs.Naming.{name_short}
 use Rattle.vos_path.proofs.Written.{holds_extent, holds_first, holds_log, holds_second, holds_single}
 use Rattle.vos_reads.specs.Ways.{start_of}
 use Rattle.vos_lists.specs.declared.entry.AkeyEntry.{AkeyEntry}
 use Rattle.vos_lists.specs.declared.entry.DkeyEntry.{DkeyEntry}
-use Rattle.vos_lists.specs.Entries.{akey_entry, akey_in_pair, dkey_entry, dkey_in_pair, moment_in_pair, name_of}
+use Rattle.vos_lists.specs.declared.entry.ObjectEntry.{ObjectEntry}
+use Rattle.vos_lists.specs.Entries.{akey_entry, akey_in_pair, dkey_entry, dkey_in_pair, moment_in_pair, name_of, object_entry, object_in_pair}
 use Rattle.vos_lists.specs.Stands.{newest_at}
 
 -- ---- the least key
@@ -113,6 +116,21 @@ dkey_again m d name held =
       below = hung_low akey_level m d.holds.1 (holds_second log_owner (hung akey_level) m d.holds h);
     }) in
     ap (λ z. dkey_entry z (roots_in (dkey_level.value d))) (name_again d.name name) ∙ ap (dkey_entry (Some d.name)) roots
+
+abbrev pub object_shown : Object → ObjectEntry
+object_shown x = record { name = x.name; key = object_key x.name; roots = below_roots x.holds }
+
+pub dkeys_in : (m : Blocks) (x : Object) → Holds object_level.owner m x → Holds (below_owner dkey_level) m x.holds
+dkeys_in m x h = record { here = h.here; apart = h.apart }
+
+pub object_again : (m : Blocks) (x : Object) → IsObjectKey Two x.name → Holds object_level.owner m x → object_in_pair (pair_of_thing object_level x) ≡ Some (object_shown x)
+object_again m x name held =
+    let h = dkeys_in m x held in
+    let roots : roots_in (object_level.value x) ≡ Some (below_roots x.holds) = roots_exact.again (below_roots x.holds) (record {
+      log = hung_low log_level m x.holds.0 (holds_first log_owner (hung dkey_level) m x.holds h);
+      below = hung_low dkey_level m x.holds.1 (holds_second log_owner (hung dkey_level) m x.holds h);
+    }) in
+    ap (λ z. object_entry z (roots_in (object_level.value x))) ((objects_exact Two).again x.name name) ∙ ap (object_entry (Some x.name)) roots
 
 -- ---- the newest single version
 

@@ -3,7 +3,8 @@ use Rattle.std.proofs.Common.{◌≡◌, ◌==◌, not, ℕ, suc, zero, ◌+◌,
 use Rattle.std.specs.Prelude.{filter, if◌then◌else◌}
 use Rattle.std.specs.List.{list_any}
 use Rattle.std.specs.Option.{option_and_then}
-use Rattle.std.specs.declared.cmp.Ordering.TheVariants.{Less}
+use Rattle.std.specs.declared.cmp.Ordering.{Ordering}
+use Rattle.std.specs.declared.cmp.Ordering.TheVariants.{Less, Equal, Greater}
 use Rattle.std.proofs.Math.Seq.{take-append_seam}
 use Rattle.std.proofs.lemmas.List.{append-nil, length-append, map-append, nil_from_length}
 use Rattle.std.proofs.lemmas.List.Elements.{filter-append}
@@ -11,9 +12,10 @@ use Rattle.pmem_pages.specs.Blocks.{Blocks}
 use Rattle.pmem_pages.specs.Node.{key_cmp}
 use Rattle.pmem_pages.specs.Owners.{Holds, each}
 use Rattle.pmem_pages.specs.Parts.{above}
-use Rattle.pmem_pages.specs.Shape.{AllAbove, Entry, Rises, entries, first_above}
+use Rattle.pmem_pages.specs.Shape.{AllAbove, Entry, Rises, chosen, entries, first_above}
 use Rattle.pmem_pages.specs.declared.node.Pair.{Pair}
 use Rattle.pmem_pages.specs.declared.node.TreeKey.{TreeKey}
+use Rattle.pmem_pages.proofs.Lists.{AllAbove-lower}
 use Rattle.pmem_pages.proofs.Walks.{above_next, above_none}
 use Rattle.pmem_tree_base.specs.Find.{pair_of}
 use Rattle.vos_levels.specs.Levels.{Hung, LeadToAll, Level, hung, pair_of_thing, things}
@@ -58,21 +60,26 @@ none_any test name (x ∷ xs) h = by (test x) h (none_any test name xs)
 -- ---- the things above a key
 
 -- the first thing above a key, and those behind it
-record First {A : Type 0} (L : Level A) (es : List Entry) (rest : List A) (p : Pair) : Type 0 where
+record First {A : Type 0} (L : Level A) (k : TreeKey) (es : List Entry) (rest : List A) (p : Pair) : Type 0 where
   thing : A
   behind : List A
   rest_is : rest ≡ thing ∷ behind
   good : L.Good thing
+  over : key_cmp k (L.key thing) ≡ Less
   pair_is : p ≡ pair_of_thing L thing
   leads : LeadToAll L (above (L.key thing) es) behind
 
-module _ {A : Type 0} (L : Level A) where
-  all_above : (k : TreeKey) → ((a : A) → L.Good a → key_cmp k (L.key a) ≡ Less) → (es : List Entry) (xs : List A) → LeadToAll L es xs → AllAbove k es
-  all_above k low [] [] p = tt
-  all_above k low [] (x ∷ xs) p = absurd p
-  all_above k low (e ∷ es) [] p = absurd p
-  all_above k low (e ∷ es) (x ∷ xs) p = (ap (key_cmp k) p.0.key ∙ low x p.0.good, all_above k low es xs p.1)
+-- what stands above a key lies above it
+above_are : (k : TreeKey) (es : List Entry) → AllAbove k (above k es)
+above_are k [] = tt
+above_are k (e ∷ es) = by (key_cmp k e.key) refl (above_are k es)
+  where
+    by : (o : Ordering) → key_cmp k e.key ≡ o → AllAbove k (above k es) → AllAbove k (chosen o (e ∷ above k es) (above k es) (above k es))
+    by Less c r = (c, r)
+    by Equal c r = r
+    by Greater c r = r
 
+module _ {A : Type 0} (L : Level A) where
   above_all : (k : TreeKey) (es : List Entry) → AllAbove k es → above k es ≡ es
   above_all k [] a = refl
   above_all k (e ∷ es) a = rw a.0 (ap (λ l. e ∷ l) (above_all k es a.1))
@@ -88,13 +95,14 @@ module _ {A : Type 0} (L : Level A) where
       by None e f = none_leads rest (subst (λ z. LeadToAll L z rest) (above_none k es e) p)
       by (Some x) e f = absurd (let n : ⊥ = cc in n)
 
-  first_here : (es : List Entry) (rest : List A) (e : Entry) (p : Pair) → pair_of (Some e) ≡ Some p → LeadToAll L (e ∷ above e.key es) rest → First L es rest p
-  first_here es [] e p is h = absurd h
-  first_here es (a ∷ behind) e p is h = record {
+  first_here : (k : TreeKey) (es : List Entry) (rest : List A) (e : Entry) (p : Pair) → pair_of (Some e) ≡ Some p → key_cmp k e.key ≡ Less → LeadToAll L (e ∷ above e.key es) rest → First L k es rest p
+  first_here k es [] e p is over h = absurd h
+  first_here k es (a ∷ behind) e p is over h = record {
     thing = a;
     behind = behind;
     rest_is = refl;
     good = h.0.good;
+    over = ap (key_cmp k) (sym h.0.key) ∙ over;
     pair_is = sym (inside (record { key = e.key; value = e.value }) p is) ∙ (λ i. record { key = h.0.key i; value = h.0.value i });
     leads = subst (λ z. LeadToAll L (above z es) behind) h.0.key h.1;
   }
@@ -102,12 +110,14 @@ module _ {A : Type 0} (L : Level A) where
       inside : (x y : Pair) → Some x ≡ Some y → x ≡ y
       inside x y h = cc
 
-  first_over : (k : TreeKey) (es : List Entry) (rest : List A) (p : Pair) → Rises es → LeadToAll L (above k es) rest → pair_of (first_above k es) ≡ Some p → First L es rest p
+  first_over : (k : TreeKey) (es : List Entry) (rest : List A) (p : Pair) → Rises es → LeadToAll L (above k es) rest → pair_of (first_above k es) ≡ Some p → First L k es rest p
   first_over k es rest p r h found = by (first_above k es) refl found
     where
-      by : (x : Option Entry) → first_above k es ≡ x → pair_of x ≡ Some p → First L es rest p
+      by : (x : Option Entry) → first_above k es ≡ x → pair_of x ≡ Some p → First L k es rest p
       by None e f = absurd (let n : ⊥ = cc in n)
-      by (Some x) e f = first_here es rest x p f (subst (λ z. LeadToAll L z rest) (above_next k x es r e) h)
+      by (Some x) e f =
+          let is = above_next k x es r e in
+          first_here k es rest x p f (subst (AllAbove k) is (above_are k es)).0 (subst (λ z. LeadToAll L z rest) is h)
 
 -- ---- the walk
 
@@ -121,21 +131,55 @@ pub record Ahead {A N : Type 0} (L : Level A) (test : A → Bool) (name : A → 
   pub got_is : got ≡ names_of test name seen
 
 module _ {A X N : Type 0} (L : Level A) (test : A → Bool) (name : A → N) (parse : Pair → Option X) (shown : A → X) (m : Blocks) (again : (a : A) → L.Good a → Holds L.owner m a → parse (pair_of_thing L a) ≡ Some (shown a)) (g : Hung A) (held : Holds (hung L) m g) where
+  -- those that don't lie above a key, and those that do
+  record Split (k : TreeKey) (es : List Entry) (xs : List A) : Type 0 where
+    left : List A
+    right : List A
+    all : xs ≡ left ++ right
+    none : names_of test name left ≡ []
+    leads : LeadToAll L (above k es) right
+
+  split : (k : TreeKey) → ((a : A) → L.Good a → (key_cmp k (L.key a) ≡ Less → ⊥) → test a ≡ false) → (es : List Entry) (xs : List A) → LeadToAll L es xs → Rises es → Split k es xs
+  split k fails [] [] p r = record { left = []; right = []; all = refl; none = refl; leads = tt }
+  split k fails [] (x ∷ xs) p r = absurd p
+  split k fails (e ∷ es) [] p r = absurd p
+  split k fails (e ∷ es) (x ∷ xs) p r = by (key_cmp k e.key) refl (split k fails es xs p.1 r.1)
+    where
+      later : (o : Ordering) → key_cmp k e.key ≡ o → (o ≡ Less → ⊥) → chosen o (e ∷ above k es) (above k es) (above k es) ≡ above k es → Split k es xs → Split k (e ∷ es) (x ∷ xs)
+      later o c other is t = record {
+        left = x ∷ t.left;
+        right = t.right;
+        all = ap (λ z. x ∷ z) t.all;
+        none = ap (λ (b : Bool). map name (if b then x ∷ filter test t.left else filter test t.left)) (fails x p.0.good (λ less. other (sym c ∙ (ap (key_cmp k) p.0.key ∙ less)))) ∙ t.none;
+        leads = subst (λ z. LeadToAll L z t.right) (sym (ap (λ z. chosen z (e ∷ above k es) (above k es) (above k es)) c ∙ is)) t.leads;
+      }
+
+      by : (o : Ordering) → key_cmp k e.key ≡ o → Split k es xs → Split k (e ∷ es) (x ∷ xs)
+      by Less c t = record {
+        left = [];
+        right = x ∷ xs;
+        all = refl;
+        none = refl;
+        leads = subst (λ z. LeadToAll L z (x ∷ xs)) (sym (ap (λ z. chosen z (e ∷ above k es) (above k es) (above k es)) c)) (p.0, subst (λ z. LeadToAll L z xs) (sym (above_all L k es (AllAbove-lower k e.key es c r.0))) p.1);
+      }
+      by Equal c t = later Equal c (λ n. let z : ⊥ = cc in z) refl t
+      by Greater c t = later Greater c (λ n. let z : ⊥ = cc in z) refl t
+
+  -- a walk from a key on, where none passes that doesn't lie above it
+  pub ahead_from : (k : TreeKey) → ((a : A) → L.Good a → (key_cmp k (L.key a) ≡ Less → ⊥) → test a ≡ false) → Ahead L test name g k [] 0
+  ahead_from k fails =
+      let s = split k fails (entries g.0) (things g) held.here.1.leads held.here.1.rises in
+      record { seen = s.left; rest = s.right; all = s.all; leads = s.leads; count = omega arith; got_is = sym s.none }
+
   pub ahead_first : (k : TreeKey) → ((a : A) → L.Good a → key_cmp k (L.key a) ≡ Less) → Ahead L test name g k [] 0
-  ahead_first k low = record {
-    seen = [];
-    rest = things g;
-    all = refl;
-    leads = subst (λ z. LeadToAll L z (things g)) (sym (above_all L k (entries g.0) (all_above L k low (entries g.0) (things g) held.here.1.leads))) held.here.1.leads;
-    count = omega arith;
-    got_is = refl;
-  }
+  ahead_first k low = ahead_from k (λ a good no. absurd (no (low a good)))
 
   -- the first of those still to come
   pub record Coming (key : TreeKey) (got : List N) (passed : ℕ) (x : X) : Type 0 where
     pub thing : A
     pub good : L.Good thing
     pub holds : Holds L.owner m thing
+    pub over : key_cmp key (L.key thing) ≡ Less
     pub shown_is : x ≡ shown thing
     pub hit : test thing ≡ true → list_any test (things g) ≡ true
     pub taken : test thing ≡ true → Ahead L test name g (L.key thing) (got ++ name thing ∷ []) (passed + 1)
@@ -156,6 +200,7 @@ module _ {A X N : Type 0} (L : Level A) (test : A → Bool) (name : A → N) (pa
         thing = f.thing;
         good = f.good;
         holds = mine;
+        over = f.over;
         shown_is = inside x (shown f.thing) (says ∙ (ap parse f.pair_is ∙ again f.thing f.good mine));
         hit = λ yes. ap (list_any test) is ∙ any_found test a.seen f.thing f.behind yes;
         taken = λ yes. record {
@@ -212,6 +257,20 @@ module _ {A X N : Type 0} (L : Level A) (test : A → Bool) (name : A → N) (pa
       let few = few_things L m g held in
       let long : length (things g) ≡ length a.seen + length a.rest = ap length a.all ∙ length-append a.seen a.rest in
       over_all got a.seen a.rest a.all a.got_is (nil_from_length a.rest (omega (arith, few, long, over, a.count)))
+
+  -- none passes that lies above a key
+  none_above : (k : TreeKey) → ((a : A) → L.Good a → key_cmp k (L.key a) ≡ Less → test a ≡ false) → (es : List Entry) (xs : List A) → LeadToAll L es xs → AllAbove k es → names_of test name xs ≡ []
+  none_above k fails [] [] p h = refl
+  none_above k fails [] (x ∷ xs) p h = absurd p
+  none_above k fails (e ∷ es) [] p h = absurd p
+  none_above k fails (e ∷ es) (x ∷ xs) p h =
+      ap (λ (b : Bool). map name (if b then x ∷ filter test xs else filter test xs)) (fails x p.0.good (ap (key_cmp k) (sym p.0.key) ∙ h.0))
+      ∙ none_above k fails es xs p.1 h.1
+
+  pub ahead_cut : (key : TreeKey) (got : List N) (passed : ℕ) → Ahead L test name g key got passed → ((a : A) → L.Good a → key_cmp key (L.key a) ≡ Less → test a ≡ false) → got ≡ names_of test name (things g)
+  ahead_cut key got passed a fails =
+      let none = none_above key fails (above key (entries g.0)) a.rest a.leads (above_are key (entries g.0)) in
+      a.got_is ∙ (sym (append-nil (names_of test name a.seen)) ∙ (ap (λ z. names_of test name a.seen ++ z) (sym none) ∙ (sym (names_append test name a.seen a.rest) ∙ ap (names_of test name) (sym a.all))))
 
   -- as many were taken as are asked for
   pub ahead_full : (key : TreeKey) (got : List N) (passed most : ℕ) → Ahead L test name g key got passed → length got ≡ most → got ≡ take most (names_of test name (things g))

@@ -1,16 +1,20 @@
 -- Which akeys and dkeys have a cell below an epoch: one that is written below it, and that no later punch hides.
-use Rattle.std.specs.Prelude.{◌&&◌, ◌||◌, ℕ, Bool, false, not, nat_le, List, length, filter, map, Option, Some, None}
+use Rattle.std.specs.Prelude.{◌==◌, ◌&&◌, ◌||◌, ℕ, Bool, false, not, nat_le, List, length, filter, map, Option, Some, None}
 use Rattle.std.specs.List.{list_any}
 use Rattle.std.specs.Option.{option_map}
 use Rattle.base_types.specs.declared.epoch.Epoch.{Epoch}
+use Rattle.base_types.specs.declared.id.ContId.{ContId}
+use Rattle.byteorder.specs.Endian.{big_bytes}
+use Rattle.pmem_pages.specs.declared.node.TreeKey.{TreeKey}
 use Rattle.vos_values.specs.declared.keys.Moment.{Moment}
+use Rattle.vos_values.specs.Keys.{name_key}
 use Rattle.vos_levels.specs.Levels.{Hung, find_last, things}
 use Rattle.vos_levels.specs.Moments.{is_earlier}
 use Rattle.vos_ilog.specs.Logs.{Log}
 use Rattle.vos_single.specs.Singles.{Singles, is_under, moment_of as moment_of_single}
 use Rattle.vos_extent.specs.Extents.{Extents, Stored}
 use Rattle.vos_extent.specs.Shown.{hides, moment_of}
-use Rattle.vos_path.specs.Objects.{Akey, Below, Dkey, Values}
+use Rattle.vos_path.specs.Objects.{Akey, Below, Dkey, Object, Objects, Values}
 use Rattle.vos_reads.specs.Ways.{later_moment, punched_at, start_of}
 use Rattle.vos_lists.specs.declared.view.View.{View}
 
@@ -63,6 +67,20 @@ dkey_stands w punched d = below_stands w punched d.holds
 -- a cell is there below an object
 abbrev pub object_stands : View → Below Dkey → Bool
 object_stands w b = list_any (dkey_stands w (punched_at w.below b.0)) (things b.1)
+
+-- a cell is there below an object of a container
+abbrev pub stands_in : ContId → Epoch → Object → Bool
+stands_in c e x = (x.name.cont.0 == c.0) && object_stands (record { unit = x.name.obj.unit; below = e }) x.holds
+
+-- a cell is there below a container
+abbrev pub cont_stands : ContId → Epoch → Objects → Bool
+cont_stands c e g = list_any (stands_in c e) (things g)
+
+-- ---- keys
+
+-- the key of a container's identity alone: those of its objects and of later containers' lie above it
+unfoldable pub cont_key : ContId → TreeKey
+cont_key c = name_key (big_bytes 16 c.0)
 
 -- ---- names
 

@@ -1,4 +1,4 @@
-// Akeys and dkeys that stand in trees, one after another.
+// Objects, dkeys and akeys that stand in trees, one after another.
 ghost use Rattle.std.specs.Prelude.{◌≡◌, ◌≤◌, true, IfOk, IfSome, OnOk, OnErr, IsTrue, ⊤, [], length};
 ghost use Rattle.std.specs.Option.{option_and_then, option_copied};
 ghost use Rattle.pmem_pages.specs.Node.{IsKey};
@@ -8,8 +8,8 @@ ghost use Rattle.pmem_tree_base.specs.Find.{pair_of};
 ghost use Rattle.vos_values.specs.Keys.{name_key};
 ghost use Rattle.vos_levels.specs.Calls.{HasThing, OfThing};
 ghost use Rattle.vos_levels.specs.Levels.{hung, hung_root};
-ghost use Rattle.vos_path.specs.Objects.{akey_level, dkey_level};
-ghost use Rattle.vos_lists.specs.Entries.{akey_in_pair, dkey_in_pair, name_of};
+ghost use Rattle.vos_path.specs.Objects.{akey_level, dkey_level, objects_owner};
+ghost use Rattle.vos_lists.specs.Entries.{akey_in_pair, dkey_in_pair, name_of, object_in_pair};
 
 use base_types::key::KEY_MAX;
 use pmem_pages::pages::Pages;
@@ -18,7 +18,7 @@ use pmem_pages::steps::Steps;
 use pmem_tree::tree::Tree;
 use pmem_tree::{Pair, TreeKey};
 use std::sync::ledger::Ledger;
-use vos_values::keys::{name_key, read_name};
+use vos_values::keys::{Layout, ObjectKey, name_key, object_key, read_name, read_object};
 use vos_values::values::{AkeyRoots, Roots, read_akey, read_roots};
 
 /// An akey in a tree: its key, and the roots of what it holds.
@@ -31,6 +31,14 @@ pub struct AkeyEntry {
 /// A dkey in a tree: its key, and the roots of what it holds.
 #[derive(Clone, Copy)]
 pub struct DkeyEntry {
+    pub key: TreeKey,
+    pub roots: Roots,
+}
+
+/// An object in a tree: which it is, its key, and the roots of what it holds.
+#[derive(Clone, Copy)]
+pub struct ObjectEntry {
+    pub name: ObjectKey,
     pub key: TreeKey,
     pub roots: Roots,
 }
@@ -103,6 +111,31 @@ fn dkey_in(pair: Option<Pair>) -> Option<DkeyEntry>
     }
 }
 
+// The object that a pair says, if it says one.
+fn object_of(pair: &Pair) -> Option<ObjectEntry>
+    ensures said { result ≡ object_in_pair pair.now }
+    ensures key { IfSome result (λ e. IsKey e.key) }
+{
+    let name = read_object(Layout::Two, &pair.key)?;
+    let roots = read_roots(&pair.value)?;
+    Some(ObjectEntry {
+        name,
+        key: object_key(name),
+        roots,
+    })
+}
+
+// The object that a pair says, if there is one and it says one.
+fn object_in(pair: Option<Pair>) -> Option<ObjectEntry>
+    ensures said { result ≡ option_and_then object_in_pair pair }
+    ensures key { IfSome result (λ e. IsKey e.key) }
+{
+    match pair {
+        Some(pair) => object_of(&pair),
+        None => None,
+    }
+}
+
 /// The first akey above a key.
 ///
 /// # Errors
@@ -151,4 +184,29 @@ pub fn next_dkey<P: Pages, L: Ledger>(
     ensures went_on { OnOk result (P.stopped pages.new ≡ P.stopped pages.old) }
 {
     Ok(dkey_in(dkeys.next_after(pages, key, steps)?))
+}
+
+/// The first object above a key.
+///
+/// # Errors
+///
+/// `Stopped` comes only where the pages answered it.
+pub fn next_object<P: Pages, L: Ledger>(
+    objects: Tree,
+    pages: &mut P,
+    key: &TreeKey,
+    steps: &mut Steps<L>,
+) -> Result<Option<ObjectEntry>, Stopped>
+    requires kind { objects.kind ≡ 1 }
+    requires key { IsKey key.now }
+    requires here { HasThing P.tells objects_owner hung_root (P.blocks pages.old) objects.root (λ g. ⊤) }
+    ensures found { IfOk result (λ e. OfThing P.tells objects_owner hung_root (P.blocks pages.old) objects.root (λ g. e ≡ option_and_then object_in_pair (pair_of (first_above key.now (entries g.0))))) }
+    ensures key { IfOk result (λ e. IfSome e (λ x. IsKey x.key)) }
+    ensures kept { IsTrue P.tells → P.blocks pages.new ≡ P.blocks pages.old }
+    ensures budget { P.budget pages.new ≡ P.budget pages.old }
+    ensures goes { Goes P.stopped P.count P.burns pages.old pages.new }
+    ensures stopped { OnErr result (P.stopped pages.new ≡ true) }
+    ensures went_on { OnOk result (P.stopped pages.new ≡ P.stopped pages.old) }
+{
+    Ok(object_in(objects.next_after(pages, key, steps)?))
 }

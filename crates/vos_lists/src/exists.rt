@@ -1,5 +1,5 @@
-// Whether there is a cell below an object, a dkey or an akey.
-ghost use Rattle.std.specs.Prelude.{◌≡◌, true, IfOk, OnOk, OnErr, IsErrOf, IsTrue, is_some, ⊤};
+// Whether there is a cell below a container, an object, a dkey or an akey.
+ghost use Rattle.std.specs.Prelude.{◌≡◌, true, IfOk, OnOk, OnErr, IsErrOf, IsTrue, ⊤};
 ghost use Rattle.base_types.specs.Paths.{record_size};
 ghost use Rattle.base_types.specs.declared.operation.Read.TheVariants.{Exists as exists_read};
 ghost use Rattle.daos_model.specs.Answers.{answer, yes_or_no};
@@ -20,6 +20,7 @@ ghost use Rattle.vos_lists.specs.Stands.{below_stands, object_stands, values_sta
 ghost use Rattle.vos_lists.specs.Unders.{over_akeys, over_dkeys};
 
 use crate::akeys::akey_names;
+use crate::conts::cont_stands;
 use crate::dkeys::dkey_names;
 use crate::under::{under_dkey, under_object};
 use crate::values::values_stand;
@@ -130,9 +131,9 @@ fn yes_or_no(holds: bool) -> Answer
     if holds { Answer::Yes } else { Answer::No }
 }
 
-/// What is answered below an epoch to whether there is a cell below an object, a dkey or an akey, where
-/// every version below the epoch that overlaps the path is settled: what the map of the versions below is
-/// answered.
+/// What is answered below an epoch to whether there is a cell below a container, an object, a dkey or an
+/// akey, where every version below the epoch that overlaps the path is settled: what the map of the
+/// versions below is answered.
 ///
 /// # Errors
 ///
@@ -146,7 +147,6 @@ pub fn fetch_exists<P: Pages, L: Ledger>(
     steps: &mut Steps<L>,
 ) -> Result<Answer, PiecesNo>
     requires kind { objects.kind ≡ 1 }
-    requires object { is_some path.now.obj ≡ true }
     requires form { is_path_in_form path.now ≡ true }
     requires size { is_unit (record_size path.now) ≡ true }
     requires names { NamesAreKeys path.now }
@@ -159,7 +159,8 @@ pub fn fetch_exists<P: Pages, L: Ledger>(
     ensures went_on { OnOk result (P.stopped pages.new ≡ P.stopped pages.old) }
 {
     let Some(obj) = path.obj else {
-        return Ok(Answer::No);
+        let stands = cont_stands(objects, pages, alloc, path.cont, below, steps)?;
+        return Ok(yes_or_no(stands));
     };
     let object = ObjectKey {
         cont: path.cont,
