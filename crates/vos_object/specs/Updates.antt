@@ -1,5 +1,5 @@
 -- What is asked of a write and of a read, and what is said of them.
-use Rattle.std.specs.Prelude.{◌≡◌, ◌<◌, ◌+◌, ℕ, true, false, Bool, is_none, is_some, if◌then◌else◌}
+use Rattle.std.specs.Prelude.{◌≡◌, ◌<◌, ◌+◌, ℕ, true, false, Bool, is_none, if◌then◌else◌}
 use Rattle.base_types.specs.declared.epoch.Epoch.{Epoch}
 use Rattle.base_types.specs.declared.id.AttemptId.{AttemptId}
 use Rattle.base_types.specs.declared.operation.MinorWrite.{MinorWrite}
@@ -29,13 +29,13 @@ most_blocks w = data_blocks w + object_pairs w 1
 abbrev pub new_version : Epoch → AttemptId → MinorWrite → Version
 new_version epoch by w = record { epoch = epoch; minor = w.minor; by = by; done = false; write = w.write }
 
--- a read of a single value or of an array, or of whether there is a cell below an object, a dkey or an akey
+-- a read of a single value or of an array, or of whether there is a cell; and no listing
 abbrev pub is_value_read : Read → Bool
 is_value_read (read.Single p) = true
 is_value_read (read.Extent p low len) = true
 is_value_read (read.Dkeys p) = false
 is_value_read (read.Akeys p) = false
-is_value_read (read.Exists p) = is_some p.obj
+is_value_read (read.Exists p) = true
 
 -- the listing of a path: of the dkeys of an object, or of the akeys of a dkey
 abbrev pub listing : Path → Read

@@ -121,9 +121,9 @@ impl Objects {
         write_objects(&mut self.tree, pages, Stamp { at, by }, &write.write, steps)
     }
 
-    /// What a read of a single value or of an array, or of whether there is a cell below an object, a dkey or
-    /// an akey, is answered below an epoch, where every version below it that overlaps the path is settled:
-    /// what the map of the versions below is answered.
+    /// What a read of a single value or of an array, or of whether there is a cell below a path, is answered
+    /// below an epoch, where every version below it that overlaps the path is settled: what the map of the
+    /// versions below is answered.
     ///
     /// # Errors
     ///
