@@ -2,4 +2,6 @@
 #![tactic(auto)]
 
 #[cfg(test)]
+mod list_tests;
+#[cfg(test)]
 mod update_tests;
