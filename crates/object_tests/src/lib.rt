@@ -2,6 +2,10 @@
 #![tactic(auto)]
 
 #[cfg(test)]
+mod extent_tests;
+#[cfg(test)]
 mod list_tests;
+#[cfg(test)]
+mod store;
 #[cfg(test)]
 mod update_tests;

@@ -1,59 +1,24 @@
 // Listings, and reads of whether there is a cell, against the answers on a plain map.
-ghost use Rattle.std.specs.Prelude.{◌≡◌, ◌≤◌, ◌<◌, ◌+◌, ◌*◌, ◌^◌, true, false, IfSome, is_some, length};
-ghost use Rattle.base_types.specs.Operations.{write_path};
+ghost use Rattle.std.specs.Prelude.{◌≡◌, ◌<◌, true, IfSome, is_some};
 ghost use Rattle.base_types.specs.Paths.{record_size};
-ghost use Rattle.daos_model.specs.Effect.{EndsInArray};
 ghost use Rattle.daos_model.specs.Forms.{ends_at_akey, ends_at_dkey, ends_at_object, is_path_in_form, is_read_in_form, is_unit};
-ghost use Rattle.vos_path.specs.Writes.{NamesAreKeys, is_update};
-ghost use Rattle.vos_object.specs.Updates.{IsWritable, listing};
+ghost use Rattle.vos_path.specs.Writes.{NamesAreKeys};
+ghost use Rattle.vos_object.specs.Updates.{listing};
 
+use crate::store::{Store, empty, first, punch, update};
 use base_types::answer::{Answer, Keys};
 use base_types::epoch::Epoch;
-use base_types::id::{AttemptId, Class, ContId, ObjId};
+use base_types::id::{Class, ContId, ObjId};
 use base_types::items::bytes_of;
 use base_types::key::Key;
-use base_types::operation::{MinorWrite, Read, Write};
+use base_types::operation::{Read, Write};
 use base_types::path::Path;
 use daos_model::answers::answer_of;
-use daos_model::effect::apply_write;
-use daos_model::map::Map;
-use pmem_memory::mem_pages::MemPages;
 use pmem_pages::steps::Steps;
-use pmem_tree::tree::Tree;
 use std::alloc::Global;
 use std::marker::Brand;
 use std::sync::ledger::{Blank, Ledger};
 use std::test::Fail;
-use vos_object::object::Objects;
-
-const BY: AttemptId = AttemptId {
-    client: 1,
-    command: 2,
-    attempt: 3,
-};
-
-// Objects on a tree, and the map of those of their versions that lie below an epoch.
-#[derive(Drop)]
-struct Store {
-    pages: MemPages,
-    objects: Objects,
-    below: u64,
-    map: Map,
-}
-
-// No object yet.
-fn empty(alloc: Global, below: u64) -> Option<Store>
-    ensures { IfSome result (λ s. s.objects.tree.kind ≡ 1) }
-{
-    Some(Store {
-        pages: MemPages::new(alloc, 400).ok()?,
-        objects: Objects {
-            tree: Tree { kind: 1, root: 0 },
-        },
-        below,
-        map: Map::new(alloc),
-    })
-}
 
 // The path of an object, with records of two bytes: two numbers in a row are of one container.
 fn object(number: u64, dkey: Option<Key>, akey: Option<Key>) -> Path
@@ -120,66 +85,6 @@ fn akey_path(alloc: Global, number: u64, dkey: &[u8], akey: &[u8]) -> Option<Pat
     let dkey = Key::new(alloc, dkey).ok()?;
     let akey = Key::new(alloc, akey).ok()?;
     Some(object(number, Some(dkey), Some(akey)))
-}
-
-// Notes a write in the map, if it lies below.
-fn note(store: &mut Store, epoch: u64, write: &Write) -> Option<()>
-    requires ends { EndsInArray write.now }
-    ensures kept { store.new.objects ≡ store.old.objects }
-{
-    if epoch < store.below {
-        apply_write(&mut store.map, write).ok()?;
-    }
-    Some(())
-}
-
-// Makes an update of an epoch that is greater than those before.
-fn update<L: Ledger>(
-    store: &mut Store,
-    epoch: u64,
-    write: &MinorWrite,
-    steps: &mut Steps<L>,
-) -> Option<()>
-    requires kind { store.old.objects.tree.kind ≡ 1 }
-    requires update { is_update write.now.write ≡ true }
-    requires write { IsWritable write.now }
-    requires ends { EndsInArray write.now.write }
-    ensures { store.new.objects.tree.kind ≡ 1 }
-{
-    store.pages.grant(1024, 256000);
-    store
-        .objects
-        .update(&mut store.pages, Epoch(epoch), BY, write, steps)
-        .ok()?;
-    note(store, epoch, &write.write)
-}
-
-// Makes a punch of an epoch that is greater than those before.
-fn punch<L: Ledger>(
-    store: &mut Store,
-    epoch: u64,
-    write: &MinorWrite,
-    steps: &mut Steps<L>,
-) -> Option<()>
-    requires kind { store.old.objects.tree.kind ≡ 1 }
-    requires punch { is_update write.now.write ≡ false }
-    requires write { IsWritable write.now }
-    requires ends { EndsInArray write.now.write }
-    ensures { store.new.objects.tree.kind ≡ 1 }
-{
-    store.pages.grant(1024, 256000);
-    store
-        .objects
-        .punch(&mut store.pages, Epoch(epoch), BY, write, steps)
-        .ok()?;
-    note(store, epoch, &write.write)
-}
-
-// A write with the number 0.
-fn first(write: Write) -> MinorWrite
-    ensures { result ≡ record { minor = 0; write = write } }
-{
-    MinorWrite { minor: 0, write }
 }
 
 // Sets the single value of an akey.
