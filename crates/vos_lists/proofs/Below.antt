@@ -1,4 +1,4 @@
--- The names below a dkey and below an object that have a cell on the map below an epoch, and whether there are some; and whether a container has one.
+-- Names below a dkey and below an object that have a cell on the map below an epoch, and whether these and a container have one.
 use Rattle.std.proofs.Common.{◌≡◌, ℕ, ◌==◌, ◌||◌, Bool, true, false, List, [], ◌∷◌, Option, Some, None, refl, sym, ap, ◌∙◌, subst, inl, inr, arith}
 use Rattle.std.specs.Prelude.{if◌then◌else◌}
 use Rattle.std.specs.List.{find, list_any}

@@ -1,4 +1,4 @@
--- Which akeys and dkeys have a cell below an epoch: one that is written below it, and that no later punch hides.
+-- What has a cell below an epoch: something that is written below it, and that no later punch hides.
 use Rattle.std.specs.Prelude.{◌==◌, ◌&&◌, ◌||◌, ℕ, Bool, false, not, nat_le, List, length, filter, map, Option, Some, None}
 use Rattle.std.specs.List.{list_any}
 use Rattle.std.specs.Option.{option_map}
@@ -37,10 +37,11 @@ has_single w punched g = outlasts punched (newest_at w.below g)
 abbrev pub is_there : View → Option Moment → ℕ → Moment → Bool
 is_there w punched len m = nat_le w.unit len && is_earlier m (start_of w.below) && not (hides punched m)
 
+-- a record of an extent is there
 abbrev pub has_record : View → Option Moment → Stored → Bool
 has_record w punched s = is_there w punched (length s.extent.bytes) (moment_of s.extent)
 
--- a record of an array is there
+-- a record of one of the extents of an array is there
 abbrev pub has_extent : View → Option Moment → Extents → Bool
 has_extent w punched g = list_any (has_record w punched) (things g)
 
@@ -50,25 +51,27 @@ has_extent w punched g = list_any (has_record w punched) (things g)
 abbrev pub covered : View → Option Moment → Log → Option Moment
 covered w punched l = later_moment punched (punched_at w.below l)
 
--- a cell is there below an akey, in what lies under a punch
+-- a cell is there below an akey, in what a punch covers
 abbrev pub values_stand : View → Option Moment → Values → Bool
 values_stand w punched a = has_single w (covered w punched a.0) a.1.0 || has_extent w (covered w punched a.0) a.1.1
 
+-- below one akey of a tree
 abbrev pub akey_stands : View → Option Moment → Akey → Bool
 akey_stands w punched a = values_stand w punched a.holds
 
--- a cell is there below a dkey
+-- a cell is there below a dkey: below one of its akeys
 abbrev pub below_stands : View → Option Moment → Below Akey → Bool
 below_stands w punched b = list_any (akey_stands w (covered w punched b.0)) (things b.1)
 
+-- below one dkey of a tree
 abbrev pub dkey_stands : View → Option Moment → Dkey → Bool
 dkey_stands w punched d = below_stands w punched d.holds
 
--- a cell is there below an object
+-- a cell is there below an object: below one of its dkeys
 abbrev pub object_stands : View → Below Dkey → Bool
 object_stands w b = list_any (dkey_stands w (punched_at w.below b.0)) (things b.1)
 
--- a cell is there below an object of a container
+-- an object is of a container, and a cell is there below it
 abbrev pub stands_in : ContId → Epoch → Object → Bool
 stands_in c e x = (x.name.cont.0 == c.0) && object_stands (record { unit = x.name.obj.unit; below = e }) x.holds
 
@@ -88,13 +91,14 @@ cont_key c = name_key (big_bytes 16 c.0)
 abbrev pub names_of : {A N : Type 0} → (A → Bool) → (A → N) → List A → List N
 names_of test name xs = map name (filter test xs)
 
+-- by which an akey, or a dkey, is listed
 abbrev pub akey_name : Akey → List ℕ
 akey_name a = a.name
 
 abbrev pub dkey_name : Dkey → List ℕ
 dkey_name d = d.name
 
--- the names of the akeys that have a cell, and of the dkeys
+-- the names of the akeys, and of the dkeys, that have a cell, in the order of their tree
 abbrev pub akey_names : View → Option Moment → Hung Akey → List (List ℕ)
 akey_names w punched g = names_of (akey_stands w punched) akey_name (things g)
 

@@ -8,7 +8,7 @@ ghost use Rattle.vos_path.specs.Objects.{akey_level};
 ghost use Rattle.vos_lists.specs.Entries.{name_of};
 ghost use Rattle.vos_lists.specs.Stands.{akey_names};
 
-use crate::entry::{least_key, name_of, next_akey};
+use crate::entry::{PAIRS, least_key, name_of, next_akey};
 use crate::values::values_stand;
 use crate::view::View;
 use base_types::answer::Keys;
@@ -22,9 +22,6 @@ use std::alloc::{AllocError, Global};
 use std::sync::ledger::Ledger;
 use vos_chain::refusal::PiecesNo;
 use vos_values::keys::Moment;
-
-// There are no more block numbers, so no tree has more pairs.
-const PAIRS: u64 = 1 << 32;
 
 /// Adds the name that a key says, if it says one.
 pub fn push_name(alloc: Global, names: &mut Keys, key: &TreeKey) -> Result<(), Memory>

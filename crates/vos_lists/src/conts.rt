@@ -10,7 +10,7 @@ ghost use Rattle.vos_path.specs.Objects.{below_owner, below_roots, dkey_level, o
 ghost use Rattle.vos_lists.specs.Stands.{cont_key, cont_stands, object_stands};
 
 use crate::dkeys::dkey_names;
-use crate::entry::next_object;
+use crate::entry::{PAIRS, next_object};
 use crate::view::View;
 use base_types::epoch::Epoch;
 use base_types::id::ContId;
@@ -24,9 +24,6 @@ use vos_chain::refusal::PiecesNo;
 use vos_reads::punch::punched_at;
 use vos_values::keys::name_key;
 use vos_values::values::Roots;
-
-// There are no more block numbers, so no tree has more pairs.
-const PAIRS: u64 = 1 << 32;
 
 // The key of a container's identity alone.
 #[tactic(auto, unfolding(crate::specs::Stands::cont_key))]

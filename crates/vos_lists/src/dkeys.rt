@@ -9,7 +9,7 @@ ghost use Rattle.vos_path.specs.Objects.{akey_level, below_owner, below_roots, d
 ghost use Rattle.vos_lists.specs.Stands.{below_stands, dkey_names};
 
 use crate::akeys::{akey_names, push_name};
-use crate::entry::{least_key, next_dkey};
+use crate::entry::{PAIRS, least_key, next_dkey};
 use crate::values::covered;
 use crate::view::View;
 use base_types::answer::Keys;
@@ -22,9 +22,6 @@ use std::sync::ledger::Ledger;
 use vos_chain::refusal::PiecesNo;
 use vos_values::keys::Moment;
 use vos_values::values::Roots;
-
-// There are no more block numbers, so no tree has more pairs.
-const PAIRS: u64 = 1 << 32;
 
 // Whether a dkey has a cell, in what lies under a punch: whether one of its akeys has one that the dkey's
 // own last punch doesn't hide either.

@@ -21,6 +21,9 @@ use std::sync::ledger::Ledger;
 use vos_values::keys::{Layout, ObjectKey, name_key, object_key, read_name, read_object};
 use vos_values::values::{AkeyRoots, Roots, read_akey, read_roots};
 
+/// There are no more block numbers, so no tree has more pairs: a walk over one ends after as many.
+pub const PAIRS: u64 = 1 << 32;
+
 /// An akey in a tree: its key, and the roots of what it holds.
 #[derive(Clone, Copy)]
 pub struct AkeyEntry {

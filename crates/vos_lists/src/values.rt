@@ -17,7 +17,7 @@ ghost use Rattle.vos_reads.specs.Ways.{start_of};
 ghost use Rattle.vos_lists.specs.Entries.{moment_in_pair};
 ghost use Rattle.vos_lists.specs.Stands.{covered, has_extent, has_single, is_there, newest_at, outlasts, values_stand};
 
-use crate::entry::least_key;
+use crate::entry::{PAIRS, least_key};
 use crate::view::View;
 use base_types::epoch::Epoch;
 use pmem_pages::pages::Pages;
@@ -30,9 +30,6 @@ use vos_extent::pieces::Placed;
 use vos_reads::punch::{hides, is_earlier, later_moment, punched_at};
 use vos_values::keys::{ExtentKey, Moment, extent_key, moment_key, read_extent, read_moment};
 use vos_values::values::{AkeyRoots, read_version};
-
-// There are no more block numbers, so no tree has more pairs.
-const PAIRS: u64 = 1 << 32;
 
 // The first moment of an epoch.
 fn start_of(epoch: Epoch) -> Moment
