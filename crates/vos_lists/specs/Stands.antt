@@ -59,17 +59,25 @@ values_stand w punched a = has_single w (covered w punched a.0) a.1.0 || has_ext
 abbrev pub akey_stands : View → Option Moment → Akey → Bool
 akey_stands w punched a = values_stand w punched a.holds
 
+-- below one of a tree's akeys
+abbrev pub any_akey : View → Option Moment → Hung Akey → Bool
+any_akey w punched g = list_any (akey_stands w punched) (things g)
+
 -- a cell is there below a dkey: below one of its akeys
 abbrev pub below_stands : View → Option Moment → Below Akey → Bool
-below_stands w punched b = list_any (akey_stands w (covered w punched b.0)) (things b.1)
+below_stands w punched b = any_akey w (covered w punched b.0) b.1
 
 -- below one dkey of a tree
 abbrev pub dkey_stands : View → Option Moment → Dkey → Bool
 dkey_stands w punched d = below_stands w punched d.holds
 
+-- below one of a tree's dkeys
+abbrev pub any_dkey : View → Option Moment → Hung Dkey → Bool
+any_dkey w punched g = list_any (dkey_stands w punched) (things g)
+
 -- a cell is there below an object: below one of its dkeys
 abbrev pub object_stands : View → Below Dkey → Bool
-object_stands w b = list_any (dkey_stands w (punched_at w.below b.0)) (things b.1)
+object_stands w b = any_dkey w (punched_at w.below b.0) b.1
 
 -- an object is of a container, and a cell is there below it
 abbrev pub stands_in : ContId → Epoch → Object → Bool

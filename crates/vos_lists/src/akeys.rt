@@ -6,7 +6,7 @@ ghost use Rattle.vos_levels.specs.Levels.{hung, hung_root};
 ghost use Rattle.vos_chain.specs.declared.refusal.PiecesNo.TheVariants.{Stopped as stopped_no};
 ghost use Rattle.vos_path.specs.Objects.{akey_level};
 ghost use Rattle.vos_lists.specs.Entries.{name_of};
-ghost use Rattle.vos_lists.specs.Stands.{akey_names};
+ghost use Rattle.vos_lists.specs.Stands.{akey_names, any_akey};
 
 use crate::entry::{PAIRS, least_key, name_of, next_akey};
 use crate::values::values_stand;
@@ -77,4 +77,29 @@ pub fn akey_names<P: Pages, L: Ledger>(
         key = akey.key;
     }
     Ok(names)
+}
+
+/// Whether one of the akeys below a root has a cell, in what lies under a punch.
+///
+/// # Errors
+///
+/// `Stopped` comes only where the pages answered it.
+pub fn any_akey<P: Pages, L: Ledger>(
+    root: u32,
+    pages: &mut P,
+    alloc: Global,
+    view: View,
+    punched: Option<Moment>,
+    steps: &mut Steps<L>,
+) -> Result<bool, PiecesNo>
+    requires here { HasThing P.tells (hung akey_level) hung_root (P.blocks pages.old) root (λ g. ⊤) }
+    ensures found { IfOk result (λ b. OfThing P.tells (hung akey_level) hung_root (P.blocks pages.old) root (λ g. b ≡ any_akey view punched g)) }
+    ensures kept { IsTrue P.tells → P.blocks pages.new ≡ P.blocks pages.old }
+    ensures budget { P.budget pages.new ≡ P.budget pages.old }
+    ensures goes { Goes P.stopped P.count P.burns pages.old pages.new }
+    ensures stopped { IsErrOf result stopped_no → P.stopped pages.new ≡ true }
+    ensures went_on { OnOk result (P.stopped pages.new ≡ P.stopped pages.old) }
+{
+    let names = akey_names(root, pages, alloc, view, punched, 1, steps)?;
+    Ok(!names.is_empty())
 }

@@ -9,7 +9,7 @@ ghost use Rattle.vos_path.specs.Calls.{HasAt, OfAt};
 ghost use Rattle.vos_path.specs.Objects.{below_owner, below_roots, dkey_level, objects_owner};
 ghost use Rattle.vos_lists.specs.Stands.{cont_key, cont_stands, object_stands};
 
-use crate::dkeys::dkey_names;
+use crate::dkeys::any_dkey;
 use crate::entry::{PAIRS, next_object};
 use crate::view::View;
 use base_types::epoch::Epoch;
@@ -53,8 +53,7 @@ fn object_stands<P: Pages, L: Ledger>(
     ensures went_on { OnOk result (P.stopped pages.new ≡ P.stopped pages.old) }
 {
     let punched = punched_at(roots.log, pages, view.below, steps)?;
-    let names = dkey_names(roots.below, pages, alloc, view, punched, 1, steps)?;
-    Ok(!names.is_empty())
+    any_dkey(roots.below, pages, alloc, view, punched, steps)
 }
 
 /// Whether a container has a cell below an epoch: whether one of its objects has one.

@@ -6,9 +6,9 @@ ghost use Rattle.vos_levels.specs.Levels.{hung, hung_root};
 ghost use Rattle.vos_chain.specs.declared.refusal.PiecesNo.TheVariants.{Stopped as stopped_no};
 ghost use Rattle.vos_path.specs.Calls.{HasAt, OfAt};
 ghost use Rattle.vos_path.specs.Objects.{akey_level, below_owner, below_roots, dkey_level};
-ghost use Rattle.vos_lists.specs.Stands.{below_stands, dkey_names};
+ghost use Rattle.vos_lists.specs.Stands.{any_dkey, below_stands, dkey_names};
 
-use crate::akeys::{akey_names, push_name};
+use crate::akeys::{any_akey, push_name};
 use crate::entry::{PAIRS, least_key, next_dkey};
 use crate::values::covered;
 use crate::view::View;
@@ -42,8 +42,7 @@ fn below_stands<P: Pages, L: Ledger>(
     ensures went_on { OnOk result (P.stopped pages.new ≡ P.stopped pages.old) }
 {
     let punched = covered(roots.log, pages, view, punched, steps)?;
-    let names = akey_names(roots.below, pages, alloc, view, punched, 1, steps)?;
-    Ok(!names.is_empty())
+    any_akey(roots.below, pages, alloc, view, punched, steps)
 }
 
 /// The names of the dkeys below a root that have a cell, in what lies under a punch: at most so many, the
@@ -85,4 +84,29 @@ pub fn dkey_names<P: Pages, L: Ledger>(
         key = dkey.key;
     }
     Ok(names)
+}
+
+/// Whether one of the dkeys below a root has a cell, in what lies under a punch.
+///
+/// # Errors
+///
+/// `Stopped` comes only where the pages answered it.
+pub fn any_dkey<P: Pages, L: Ledger>(
+    root: u32,
+    pages: &mut P,
+    alloc: Global,
+    view: View,
+    punched: Option<Moment>,
+    steps: &mut Steps<L>,
+) -> Result<bool, PiecesNo>
+    requires here { HasThing P.tells (hung dkey_level) hung_root (P.blocks pages.old) root (λ g. ⊤) }
+    ensures found { IfOk result (λ b. OfThing P.tells (hung dkey_level) hung_root (P.blocks pages.old) root (λ g. b ≡ any_dkey view punched g)) }
+    ensures kept { IsTrue P.tells → P.blocks pages.new ≡ P.blocks pages.old }
+    ensures budget { P.budget pages.new ≡ P.budget pages.old }
+    ensures goes { Goes P.stopped P.count P.burns pages.old pages.new }
+    ensures stopped { IsErrOf result stopped_no → P.stopped pages.new ≡ true }
+    ensures went_on { OnOk result (P.stopped pages.new ≡ P.stopped pages.old) }
+{
+    let names = dkey_names(root, pages, alloc, view, punched, 1, steps)?;
+    Ok(!names.is_empty())
 }

@@ -19,9 +19,9 @@ ghost use Rattle.vos_reads.specs.Ways.{IsSettled, akey_of, below_object, dkey_of
 ghost use Rattle.vos_lists.specs.Stands.{below_stands, object_stands, values_stand};
 ghost use Rattle.vos_lists.specs.Unders.{over_akeys, over_dkeys};
 
-use crate::akeys::akey_names;
+use crate::akeys::any_akey;
 use crate::conts::cont_stands;
-use crate::dkeys::dkey_names;
+use crate::dkeys::any_dkey;
 use crate::under::{under_dkey, under_object};
 use crate::values::values_stand;
 use crate::view::View;
@@ -61,8 +61,7 @@ fn object_stands<P: Pages, L: Ledger>(
     ensures went_on { OnOk result (P.stopped pages.new ≡ P.stopped pages.old) }
 {
     let under = under_object(objects, pages, object, view, steps)?;
-    let names = dkey_names(under.root, pages, alloc, view, under.punched, 1, steps)?;
-    Ok(!names.is_empty())
+    any_dkey(under.root, pages, alloc, view, under.punched, steps)
 }
 
 // Whether a dkey has a cell.
@@ -88,8 +87,7 @@ fn dkey_stands<P: Pages, L: Ledger>(
     ensures went_on { OnOk result (P.stopped pages.new ≡ P.stopped pages.old) }
 {
     let under = under_dkey(objects, pages, object, dkey, view, steps)?;
-    let names = akey_names(under.root, pages, alloc, view, under.punched, 1, steps)?;
-    Ok(!names.is_empty())
+    any_akey(under.root, pages, alloc, view, under.punched, steps)
 }
 
 // Whether an akey has a cell.
