@@ -1,11 +1,12 @@
 -- What is asked of a write and of a read, and what is said of them.
-use Rattle.std.specs.Prelude.{◌≡◌, ◌<◌, ◌+◌, ℕ, true, false, Bool}
+use Rattle.std.specs.Prelude.{◌≡◌, ◌<◌, ◌+◌, ℕ, true, false, Bool, is_none, if◌then◌else◌}
 use Rattle.base_types.specs.declared.epoch.Epoch.{Epoch}
 use Rattle.base_types.specs.declared.id.AttemptId.{AttemptId}
 use Rattle.base_types.specs.declared.operation.MinorWrite.{MinorWrite}
 use Rattle.base_types.specs.declared.operation.Read.{Read}
 use Rattle.base_types.specs.declared.operation.Write.{Write}
 use Rattle.base_types.specs.declared.operation.Read.TheVariants as read
+use Rattle.base_types.specs.declared.path.Path.{Path}
 use Rattle.base_types.specs.Operations.{write_path}
 use Rattle.base_types.specs.Paths.{record_size}
 use Rattle.daos_model.specs.declared.durable.Version.{Version}
@@ -35,13 +36,13 @@ most_blocks w = data_blocks w + object_pairs w 1
 abbrev pub new_version : Epoch → AttemptId → MinorWrite → Version
 new_version epoch by w = record { epoch = epoch; minor = w.minor; by = by; done = false; write = w.write }
 
--- a read of a single value or of an array
+-- a read of a single value or of an array, or of whether there is a cell; and no listing
 abbrev pub is_value_read : Read → Bool
 is_value_read (read.Single p) = true
 is_value_read (read.Extent p low len) = true
 is_value_read (read.Dkeys p) = false
 is_value_read (read.Akeys p) = false
-is_value_read (read.Exists p) = false
+is_value_read (read.Exists p) = true
 
 -- when a write is made, and whose it is
 abbrev pub stamp_of : Epoch → AttemptId → MinorWrite → Stamp
@@ -53,3 +54,7 @@ abbrev pub Added : Epoch → AttemptId → MinorWrite → Blocks → Objects →
 Added epoch by w m g n at =
     (o : ObjectKey) → IsAtObject o (write_path w.write)
     → Turns objects_owner hung_root objects_versions m g n at (HasMore (new_version epoch by w)) (ObjectsNoted (stamp_of epoch by w) w.write o (write_path w.write).dkey (write_path w.write).akey)
+
+-- the listing of a path: of the dkeys of an object, or of the akeys of a dkey
+abbrev pub listing : Path → Read
+listing p = if is_none p.dkey then read.Dkeys p else read.Akeys p

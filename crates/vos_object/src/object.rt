@@ -1,7 +1,8 @@
-// Objects in a tree: updates, punches and reads of values.
+// Objects in a tree: updates, punches, reads of values, and listings.
 ghost use Rattle.std.specs.Prelude.{◌≡◌, ◌≤◌, ◌<◌, ◌+◌, true, false, ℕ, IfOk, OnOk, IsErrOf, IsTrue};
 ghost use Rattle.base_types.specs.Operations.{read_path};
 ghost use Rattle.base_types.specs.Paths.{record_size};
+ghost use Rattle.base_types.specs.declared.answer.Answer.TheVariants.{Names};
 ghost use Rattle.daos_model.specs.Answers.{answer};
 ghost use Rattle.daos_model.specs.Blocks.{write_blocks};
 ghost use Rattle.daos_model.specs.Durables.{version_key};
@@ -17,12 +18,13 @@ ghost use Rattle.vos_path.specs.Calls.{LacksFor, SpendsAtMost, for_pair};
 ghost use Rattle.vos_path.specs.Objects.{objects_owner, objects_versions};
 ghost use Rattle.vos_path.specs.Writes.{IsNewIn, NamesAreKeys, ObjectsAreSmall, below_object_pairs, data_blocks, is_update, object_pairs};
 ghost use Rattle.vos_reads.specs.Ways.{IsSettled};
-ghost use Rattle.vos_object.specs.Updates.{Added, IsWritable, is_value_read, most_blocks, new_version};
+ghost use Rattle.vos_object.specs.Updates.{Added, IsWritable, is_value_read, listing, most_blocks, new_version};
 
-use base_types::answer::Answer;
+use base_types::answer::{Answer, Keys};
 use base_types::epoch::Epoch;
 use base_types::id::AttemptId;
 use base_types::operation::{MinorWrite, Read};
+use base_types::path::Path;
 use pmem_pages::pages::Pages;
 use pmem_pages::steps::Steps;
 use pmem_tree::TreeNo;
@@ -30,6 +32,8 @@ use pmem_tree::tree::Tree;
 use std::alloc::Global;
 use std::sync::ledger::Ledger;
 use vos_chain::refusal::PiecesNo;
+use vos_lists::exists::fetch_exists;
+use vos_lists::list::{list_akeys, list_dkeys};
 use vos_path::objects::write_objects;
 use vos_path::stamp::Stamp;
 use vos_reads::extent::fetch_extent;
@@ -117,9 +121,9 @@ impl Objects {
         write_objects(&mut self.tree, pages, Stamp { at, by }, &write.write, steps)
     }
 
-    /// What a read of a single value or of an array is answered below an epoch, where every version below it
-    /// that overlaps the path is settled: what the map of the versions below is answered. Listings, and
-    /// whether something is there, aren't read here yet.
+    /// What a read of a single value or of an array, or of whether there is a cell below a path, is answered
+    /// below an epoch, where every version below it that overlaps the path is settled: what the map of the
+    /// versions below is answered.
     ///
     /// # Errors
     ///
@@ -150,7 +154,42 @@ impl Objects {
             Read::Extent(path, low, len) => {
                 fetch_extent(self.tree, pages, alloc, path, *low, *len, below, steps)
             }
-            Read::Dkeys(_) | Read::Akeys(_) | Read::Exists(_) => Ok(Answer::Absent),
+            Read::Exists(path) => fetch_exists(self.tree, pages, alloc, path, below, steps),
+            Read::Dkeys(_) | Read::Akeys(_) => Ok(Answer::Absent),
+        }
+    }
+
+    /// The names of an object's dkeys, or of a dkey's akeys, that have a cell below an epoch, where every
+    /// version below it that overlaps the path is settled: what a listing is answered on the map of the
+    /// versions below.
+    ///
+    /// # Errors
+    ///
+    /// `Stopped` comes only where the pages answered it.
+    pub fn list<P: Pages, L: Ledger>(
+        &self,
+        pages: &mut P,
+        alloc: Global,
+        path: &Path,
+        below: Epoch,
+        steps: &mut Steps<L>,
+    ) -> Result<Keys, PiecesNo>
+        requires kind { self.now.tree.kind ≡ 1 }
+        requires form { is_read_in_form (listing path.now) ≡ true }
+        requires size { is_unit (record_size path.now) ≡ true }
+        requires names { NamesAreKeys path.now }
+        requires here { HasThing P.tells objects_owner hung_root (P.blocks pages.old) self.now.tree.root (IsSettled path.now below) }
+        ensures found { IfOk result (λ names. OfThing P.tells objects_owner hung_root (P.blocks pages.old) self.now.tree.root (λ g. IsSettled path.now below g → Names names ≡ answer (listing path.now) (map_below (in_order version_key (objects_versions g)) below.0))) }
+        ensures kept { IsTrue P.tells → P.blocks pages.new ≡ P.blocks pages.old }
+        ensures budget { P.budget pages.new ≡ P.budget pages.old }
+        ensures goes { Goes P.stopped P.count P.burns pages.old pages.new }
+        ensures stopped { IsErrOf result stopped_no → P.stopped pages.new ≡ true }
+        ensures went_on { OnOk result (P.stopped pages.new ≡ P.stopped pages.old) }
+    {
+        if path.dkey.is_none() {
+            list_dkeys(self.tree, pages, alloc, path, below, steps)
+        } else {
+            list_akeys(self.tree, pages, alloc, path, below, steps)
         }
     }
 }

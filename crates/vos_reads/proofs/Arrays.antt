@@ -227,7 +227,8 @@ module _ (m : Blocks) (g : Objects) (o : ObjectKey) (d a : List ℕ) (held : Hol
   abbrev punched : Option Moment
   punched = last_punch e (below_object o g).0 (dkey_of o d g).0 v2.0
 
-  index_law : (i : ℕ) → value_at map_of (index_cell (akey_path o d a) i) ≡ shown_of o.obj.unit punched i (greatest (is_seen o.obj.unit (start_of e) i) (extents v2.1.1))
+  -- what the map holds at an index
+  pub index_law : (i : ℕ) → value_at map_of (index_cell (akey_path o d a) i) ≡ shown_of o.obj.unit punched i (greatest (is_seen o.obj.unit (start_of e) i) (extents v2.1.1))
   index_law i =
       let p = akey_path o d a in
       let t = speaks e.0 (index_cell p i) in

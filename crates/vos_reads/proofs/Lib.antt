@@ -1,5 +1,5 @@
-mod Rising
-mod Quiet
-mod Covered
-mod Going
-mod Arrays
+pub mod Rising
+pub mod Quiet
+pub mod Covered
+pub mod Going
+pub mod Arrays

@@ -12,13 +12,12 @@ ghost use Rattle.pmem_tree_base.specs.Calls.{Goes};
 ghost use Rattle.vos_levels.specs.Calls.{HasThing, OfThing};
 ghost use Rattle.vos_levels.specs.Levels.{find_last, hung_root, things};
 ghost use Rattle.vos_chain.specs.declared.refusal.PiecesNo.TheVariants.{Stopped as stopped_no};
-ghost use Rattle.vos_extent.specs.Shown.{hides};
 ghost use Rattle.vos_single.specs.Singles.{is_under, single_owner, version_of};
 ghost use Rattle.vos_path.specs.Objects.{objects_owner, objects_versions};
 ghost use Rattle.vos_path.specs.Writes.{NamesAreKeys};
 ghost use Rattle.vos_reads.specs.Ways.{IsSettled, single_answer, start_of};
 
-use crate::punch::{is_earlier, last_punch};
+use crate::punch::{hides, last_punch};
 use crate::way::way_down;
 use base_types::answer::Answer;
 use base_types::epoch::Epoch;
@@ -31,16 +30,6 @@ use std::sync::ledger::Ledger;
 use vos_chain::refusal::PiecesNo;
 use vos_single::single::{Single, SingleVersion};
 use vos_values::keys::{Moment, ObjectKey};
-
-// Whether a punch is later than a moment.
-fn hides(punched: Option<Moment>, moment: Moment) -> bool
-    ensures { result ≡ hides punched moment }
-{
-    match punched {
-        Some(punch) => is_earlier(moment, punch),
-        None => false,
-    }
-}
 
 // The answer that a version makes, if there is one, and a punch.
 fn single_answer(punched: Option<Moment>, version: Option<SingleVersion>) -> Answer

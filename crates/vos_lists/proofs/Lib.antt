@@ -1,0 +1,9 @@
+mod Walking
+mod Reading
+mod Alive
+mod Naming
+mod Full
+mod Settled
+mod Below
+mod Ends
+mod Ranges
