@@ -50,7 +50,7 @@ use Rattle.world_lives.specs.Legal.{AreCaused}
 use Rattle.world_lone.specs.LoneRuns.{AreIssuedThere}
 use Rattle.world_whole.specs.Begins.{IsBegun}
 use Rattle.run_ends.specs.Armed.{before-fuse, fuses-started, fuses-tell, states_of}
-use Rattle.run_ends.specs.Arming.{AreArmed, HaveFuses}
+use Rattle.run_ends.specs.Arming.{AreArmed, AreUnfused}
 use Rattle.run_ends.specs.Begun.{first_world, is-begun, state_now, told-is, told-there}
 use Rattle.run_ends.specs.Caused.{end-caused, stops-caused}
 use Rattle.run_ends.specs.Comes.{ComesTo, EndsUnstopped, IsAsStored, IsCommittedIn, IsOrdered, IsOutside, LacksMember, MayBeFound, StandPlainly, report_with}
@@ -74,7 +74,7 @@ module _ {S C : Type 0} (durable : S → Option Durable) (state : S → State) (
     pub run : HasRunWith durable state may (rules_of g) g.job.order (first_world durable state cs armed) (left_of rest in_the_end lines)
     pub accounted : AreAccounted durable state (states_of state xs) g.script.stops (left_of rest in_the_end lines)
     pub many : length rest ≡ length armed
-    pub unfused : HaveFuses durable state may rest ys
+    pub unfused : AreUnfused durable state may rest ys
 
   module _ (steady : AreSteady durable state may) (findable : AreFindable durable may) (alike : AreAlike durable) (g : Given) (cs : List ClientNow) (xs ys : List (TargetOf S C)) (lines : List Line) (k : HaveStarted durable state g cs xs)
       (told : AllTell durable (stores_of xs)) (e : HasEndedSo g cs xs ys lines) where
@@ -130,7 +130,7 @@ module _ {S C : Type 0} (durable : S → Option Durable) (state : S → State) (
       kept-running t z s at here runs =
           let x = its-target durable state may steady e.rest ys e.in_the_end lines e.unfused lasts m r g.job.order first run t s here in
           let y = from-map (λ p. p.store) ys t z at in
-          ap durable y.is ∙ (e.unfused.each t x.0 y.of_it x.1 y.at).1.kept ∙ (subst (λ l. IsTargetOf durable state (target_plan r t) l (found_at lasts t) x.0 s) runs x.2).so.told
+          ap durable y.is ∙ (e.unfused.each t x.0 y.of_it x.1 y.at).kept ∙ (subst (λ l. IsTargetOf durable state (target_plan r t) l (found_at lasts t) x.0 s) runs x.2).so.told
 
       there : (t : ℕ) (z : S) → slice_get (stores_of ys) t ≡ Some z → (s : TargetState) × (slice_get last.targets t ≡ Some s)
       there t z at = at-both (stores_of ys) last.targets t z (run.many ∙ sym e.unfused.many ∙ sym (length-map (λ p. p.store) ys)) at
@@ -229,7 +229,7 @@ module _ {S C : Type 0} (durable : S → Option Durable) (state : S → State) (
           let s = there t z at in
           let x = its-target durable state may steady e.rest ys e.in_the_end lines e.unfused lasts m r g.job.order first run t s.0 s.1 in
           let y = from-map (λ p. p.store) ys t z at in
-          ap (λ q. (state q).stopped) y.is ∙ ap (λ h. h.stopped) (e.unfused.each t x.0 y.of_it x.1 y.at).1.state_is.rest ∙ (subst (λ l. IsTargetOf durable state (target_plan r t) l (found_at lasts t) x.0 s.0) (runs-there t z s.0 at s.1 up) x.2).so.running
+          ap (λ q. (state q).stopped) y.is ∙ ap (λ h. h.stopped) (e.unfused.each t x.0 y.of_it x.1 y.at).state_is.rest ∙ (subst (λ l. IsTargetOf durable state (target_plan r t) l (found_at lasts t) x.0 s.0) (runs-there t z s.0 at s.1 up) x.2).so.running
 
       -- what a target keeps that wasn't given up
       entries : (t : ℕ) (y : S) (d : Durable) (x : Entry) → slice_get (stores_of ys) t ≡ Some y → (Contains (down_targets lines) t → ⊥) → durable y ≡ Some d → Contains d.entries x → (x.committed ≡ true) ⊎ LacksMember g report x.attempt
@@ -253,7 +253,7 @@ module _ {S C : Type 0} (durable : S → Option Durable) (state : S → State) (
       free-first free t s here =
           let z = from-map (state_now durable state) e.armed t s here in
           let x = before-fuse durable state may xs e.armed e.fuses.fuses t z.of_it z.at in
-          ap (λ y. y.free) z.is ∙ ap (λ h. h.free) (e.fuses.fuses.each t x.0 z.of_it x.1 z.at).1.state_is.rest ∙ free t x.0.store (map-get (λ p. p.store) xs t x.0 x.1)
+          ap (λ y. y.free) z.is ∙ ap (λ h. h.free) (e.fuses.fuses.each t x.0 z.of_it x.1 z.at).state_is.rest ∙ free t x.0.store (map-get (λ p. p.store) xs t x.0 x.1)
 
       -- a target of that world is as its store says, since a fuse changes nothing of this
       as-stored : (t : ℕ) (x : S) (s : TargetState) → slice_get (stores_of xs) t ≡ Some x → slice_get first.targets t ≡ Some s → IsAsStored durable state x s
@@ -263,8 +263,8 @@ module _ {S C : Type 0} (durable : S → Option Durable) (state : S → State) (
           let f = e.fuses.fuses.each t y.0 z.of_it y.1 z.at in
           let same : y.0.store ≡ x = let two : Some y.0.store ≡ Some x = sym (map-get (λ p. p.store) xs t y.0 y.1) ∙ at in cc in
           record {
-            kept = ap durable (sym same) ∙ sym f.1.kept ∙ told-is (durable z.of_it.store) (all z.of_it.store) ∙ ap (λ q. Some q.durable) (sym z.is);
-            opening = ap (λ q. q.opening) z.is ∙ ap (λ h. h.opening) f.1.state_is.rest ∙ ap (λ q. (state q).opening) same;
+            kept = ap durable (sym same) ∙ sym f.kept ∙ told-is (durable z.of_it.store) (all z.of_it.store) ∙ ap (λ q. Some q.durable) (sym z.is);
+            opening = ap (λ q. q.opening) z.is ∙ ap (λ h. h.opening) f.state_is.rest ∙ ap (λ q. (state q).opening) same;
           }
 
       is-ordered : ((t : ℕ) (x : S) → slice_get (stores_of xs) t ≡ Some x → (state x).free ≡ g.opening.free t) → IsOrdered durable state may g report (stores_of xs) (stores_of ys)

@@ -54,7 +54,7 @@ module _ {S : Type 0} (durable : S → Option Durable) (may : S → Durable → 
 -- ---- where a run has ended
 
 module _ {S C : Type 0} (durable : S → Option Durable) (state : S → State) (may : S → Durable → Type 0) where
-  module _ (steady : AreSteady durable state may) (ws ys : List (TargetOf S C)) (watch : WatchNow) (lines : List Line) (unfused : HaveFuses durable state may ws ys) where
+  module _ (steady : AreSteady durable state may) (ws ys : List (TargetOf S C)) (watch : WatchNow) (lines : List Line) {write : ℕ → ℕ} (unfused : HaveFuses durable state may write ws ys) where
     abbrev left : StageNow S C
     left = left_of ws watch lines
 
@@ -65,7 +65,7 @@ module _ {S C : Type 0} (durable : S → Option Durable) (state : S → State) (
           let y = at-both ws ys t x unfused.many at in
           let there = map-get (λ z. z.store) ys t y.0 y.1 in
           let d = at-both (stores_of ys) lasts t y.0.store m.many there in
-          (d.0, d.1, (unfused.each t x y.0 at y.1).1.left d.0 (m.each t y.0.store d.0 there d.1))
+          (d.0, d.1, (unfused.each t x y.0 at y.1).left d.0 (m.each t y.0.store d.0 there d.1))
 
       pub are-found : AreFound may left (found_at lasts)
       are-found t x life place rests =

@@ -1,6 +1,7 @@
 -- How a run of clients and targets begins, and what it comes to.
 pub mod Starts
 pub mod Arming
+pub mod FuseLaws
 pub mod Comes
 pub mod Known
 pub mod Places

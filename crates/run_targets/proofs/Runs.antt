@@ -13,15 +13,15 @@ use Rattle.client_core.specs.Clients.{ClientNow}
 use Rattle.daos_model.specs.Opening.{Given, Opening}
 use Rattle.daos_model.specs.declared.durable.Durable.{Durable}
 use Rattle.run_base.specs.Letters.{BetweenNow}
-use Rattle.run_ends.specs.Armed.{armed-accounted, fuses-serve, fuses-started, fuses-tell, states_of}
-use Rattle.run_ends.specs.Arming.{AreArmed, AreUnfused, HaveFuses}
+use Rattle.run_ends.specs.Armed.{armed-accounted, before-fuse, fuses-serve, fuses-started, fuses-tell, states_of, told-fuse}
+use Rattle.run_ends.specs.Arming.{AreArmed, AreUnfused}
 use Rattle.run_ends.specs.Begun.{can-go, first_stage, first_world, is-begun, nothing, shows-first}
 use Rattle.run_ends.specs.Comes.{ComesTo, report_with}
 use Rattle.run_ends.specs.Ending.{comes-to}
 use Rattle.run_ends.specs.Lasts.{AreSteady}
 use Rattle.run_ends.specs.Starts.{AllTell, HaveStarted, given_by, stores_of}
 use Rattle.run_reports.specs.Reports.{AreTyped}
-use Rattle.run_shows.specs.Accounts.{AreAccounted, AreServed, one_if}
+use Rattle.run_shows.specs.Accounts.{AreAccounted, AreServed}
 use Rattle.run_shows.specs.CanGo.{CanGo}
 use Rattle.run_shows.specs.Going.{AreAlike, AreFindable}
 use Rattle.run_shows.specs.Serving.{served-then}
@@ -51,22 +51,21 @@ first-is cs ts armed v b same messages asked issued lines =
 
 -- ---- no fuse is set any more
 
-unset : (b : Bool) → one_if b ≡ 0 → b ≡ false
-unset false none = refl
-unset true none = absurd (omega (arith, none))
-
 module _ {S C Z : Type 0} (durable : S → Option Durable) (state : S → State) (may : S → Durable → Type 0) (v : Vec (TargetOf S C) Z) (xs ys : List (TargetOf S C)) (its : xs ≡ v.items) (k : AreUnfused durable state may xs ys) where
   unfused : AreUnfused durable state may v.items ys
   unfused = subst (λ zs. AreUnfused durable state may zs ys) its k
 
   pub put-is : (with_items v ys).items ≡ ys
-  put-is = with_items_is v ys (unfused.fuses.many ∙ sym v.ok.0)
+  put-is = with_items_is v ys (unfused.many ∙ sym v.ok.0)
 
   pub put-served : (is_read : C → C → Type 0) → AreServed durable state is_read v.items (with_items v ys).items
-  put-served is_read = subst (AreServed durable state is_read v.items) (sym put-is) (fuses-serve durable state may v.items ys unfused.fuses is_read)
+  put-served is_read = subst (AreServed durable state is_read v.items) (sym put-is) (fuses-serve durable state may v.items ys unfused is_read)
 
   pub put-unfused : (t : ℕ) (y : TargetOf S C) → slice_get (with_items v ys).items t ≡ Some y → (state y.store).tells_fuse ≡ true → (state y.store).fused ≡ false
-  put-unfused t y there tells = unset (state y.store).fused (unfused.gone t y (ap (λ zs. slice_get zs t) (sym put-is) ∙ there) tells)
+  put-unfused t y there tells =
+      let at : slice_get ys t ≡ Some y = ap (λ zs. slice_get zs t) (sym put-is) ∙ there in
+      let x = before-fuse durable state may v.items ys unfused t y at in
+      told-fuse durable state may 0 x.0 y (unfused.each t x.0 y x.1 at) tells
 
 -- ---- before the run
 
@@ -145,6 +144,6 @@ module _ {S C Z : Type 0} (durable : S → Option Durable) (state : S → State)
               run = has-run run;
               accounted = accounted accounts;
               many = serves.many;
-              unfused = subst (λ zs. HaveFuses durable state may zs ys) those gone.fuses;
+              unfused = subst (λ zs. AreUnfused durable state may zs ys) those gone;
             })
             typed byte))
