@@ -1,5 +1,5 @@
 -- Where a run in which targets may stop has ended, and what its report and its stores are to be.
-use Rattle.std.specs.Prelude.{ℕ, ◌≡◌, ◌⊎◌, ◌<◌, true, false, List, [], Contains, length, slice_get, Some, None}
+use Rattle.std.specs.Prelude.{ℕ, ◌≡◌, ◌⊎◌, ◌<◌, ◌^◌, true, false, List, [], Contains, length, map, slice_get, Some, None}
 use Rattle.base_types.specs.declared.epoch.Epoch.{Epoch}
 use Rattle.base_types.specs.declared.id.AttemptId.{AttemptId}
 use Rattle.base_types.specs.declared.outcome.Outcome.TheVariants.{Committed}
@@ -7,12 +7,17 @@ use Rattle.base_types.specs.declared.report.Attempt.{Attempt}
 use Rattle.base_types.specs.declared.report.Line.TheVariants as line
 use Rattle.base_types.specs.declared.report.Report.{Report}
 use Rattle.base_messages.specs.declared.actor.ActorId.{ActorId}
+use Rattle.base_types.specs.declared.script.Script.{Script}
+use Rattle.model_laws.specs.Decided.{AreDecided, taken_in}
 use Rattle.model_laws.specs.Members.{Has}
+use Rattle.daos_model.specs.declared.durable.Durable.{Durable}
 use Rattle.daos_model.specs.declared.durable.Version.{Version}
 use Rattle.daos_model.specs.Attempts.{is_unknown, tries}
-use Rattle.daos_model.specs.Family.{resolved}
-use Rattle.daos_model.specs.Finals.{HeadlineOver}
-use Rattle.daos_model.specs.Opening.{Given, Opening, Outside}
+use Rattle.daos_model.specs.AsOf.{as_of}
+use Rattle.daos_model.specs.Family.{Agree, resolved, stand}
+use Rattle.daos_model.specs.Finals.{HeadlineOver, SameMap}
+use Rattle.daos_model.specs.Opening.{Given, Opening, Outside, top}
+use Rattle.daos_model.specs.Sound.{Sound}
 use Rattle.daos_model.specs.Stops.{AreCounted, down_targets, least, restart_numbers}
 use Rattle.dtx_base.specs.declared.leading.Undecided.{Undecided}
 use Rattle.world_attempts.specs.Attempts.{IsOther}
@@ -33,6 +38,7 @@ use Rattle.world_lines.specs.LastLines.{AreDone, HasClients}
 use Rattle.world_lives.specs.Legal.{AreCaused, NoneIsStopped}
 use Rattle.world_outcomes.specs.Outcomes.{is_failed}
 use Rattle.world_reads.specs.Reads.{Reads}
+use Rattle.world_reads.specs.Transactions.{decided_of}
 use Rattle.world_reads.specs.Versions.{Versions}
 use Rattle.world_reasons.specs.Accounted.{stored_over}
 use Rattle.world_verdicts.specs.Verdicts.{HasWrites}
@@ -84,9 +90,7 @@ abbrev pub IsResolved : World → AttemptId → Type 0
 IsResolved v x = resolved (durables_of v) x ≡ true
 
 -- A history goes on from this one in which just the resolved attempts are decided: what targets keep, and what they answered, stands for it.
--- Each of them has its line, which tells that it is committed or unknown. One that is told to be committed was decided, at that epoch, and
--- none that failed is resolved.
-pub record Concluded (r : Rules) (o : Opening) (held : ℕ → List Version) (h : History) (v : World) : Type 0 where
+pub record Resolves (r : Rules) (o : Opening) (held : ℕ → List Version) (h : History) (v : World) : Type 0 where
   pub later : History
   pub grew : (x : AttemptId) (e : Epoch) → Decided h x e → Decided later x e
   pub served : later.served ≡ h.served
@@ -94,9 +98,27 @@ pub record Concluded (r : Rules) (o : Opening) (held : ℕ → List Version) (h 
   pub reads : Reads r o later v
   pub only : (x : AttemptId) (e : Epoch) → Decided later x e → IsResolved v x
   pub all : (x : AttemptId) → IsResolved v x → (e : Epoch) × Decided later x e
-  pub told : (x : AttemptId) (e : Epoch) → Decided later x e → IsToldOf v x e
+
+-- And each of them has its line, which tells that it is committed or unknown. One that is told to be committed was decided, at that epoch, and
+-- none that failed is resolved.
+pub record Concluded (r : Rules) (o : Opening) (held : ℕ → List Version) (h : History) (v : World) : Type 0 where
+  pub so : Resolves r o held h v
+  pub told : (x : AttemptId) (e : Epoch) → Decided so.later x e → IsToldOf v x e
   pub committed : (a : Attempt) → Contains (tries v.lines) a → a.outcome ≡ Committed → HasWrites r a.id → (e : Epoch) × (a.epoch ≡ Some e) × Decided h a.id e
   pub failed : (a : Attempt) → Contains (tries v.lines) a → HasWrites r a.id → is_failed a.outcome ≡ true → resolved (durables_of v) a.id ≡ false
+
+-- ---- at any moment
+
+-- What targets keep stands for the opening and, one by one in the order of their epochs, for just these attempts, which are those that are resolved
+-- there: no two of them have one epoch, and each one's lies above the opening. No snapshot is kept, and replicas agree.
+pub record StandsForResolved (s : Script) (o : Opening) (F : List Durable) : Type 0 where
+  pub attempts : List (AttemptId × Epoch)
+  pub only : (x : AttemptId) (e : Epoch) → Contains attempts (x, e) → (resolved F x ≡ true) × (top o < e.0)
+  pub all : (x : AttemptId) → resolved F x ≡ true → (e : Epoch) × Contains attempts (x, e)
+  pub apart : AreDecided (map (decided_of s) attempts)
+  pub now : SameMap (stand F).now (as_of o.stand (taken_in (map (decided_of s) attempts)) (2 ^ 64))
+  pub snaps : (stand F).snaps ≡ []
+  pub agree : Agree F
 
 -- ---- the report
 
@@ -117,6 +139,15 @@ EndedRunsAreOver = (r : Rules) (o : Opening) (w v : World) → IsSimple r → Is
 -- and so it is known what became of attempts
 abbrev pub EndedRunsConclude : Type 0
 EndedRunsConclude = (r : Rules) (o : Opening) (w v : World) → IsSimple r → IsBegun r o w → WorldRun r w v → HasEnded r v → (h : History) × Concluded r o (held_at w) h v
+
+-- At each moment of a run what the targets keep, those that are stopped or were given up among them, stands for the opening and the attempts that
+-- are resolved there.
+abbrev pub RunsStandForResolved : Type 0
+RunsStandForResolved = (r : Rules) (o : Opening) (w v : World) → IsSimple r → IsBegun r o w → WorldRun r w v → StandsForResolved r.script o (durables_of v)
+
+-- And it is sound where it was sound when the run began.
+abbrev pub RunsKeepSound : Type 0
+RunsKeepSound = (r : Rules) (o : Opening) (w v : World) → IsSimple r → IsBegun r o w → Sound (durables_of w) → WorldRun r w v → Sound (durables_of v)
 
 -- Of a run of a script in form, without snapshots and aggregation, in which targets may stop, from its beginning to where it has ended: where
 -- each outcome shows its cause at each moment, where stops and given up targets were caused from outside, and where the numbers of restarts are

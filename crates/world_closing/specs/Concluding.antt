@@ -38,7 +38,7 @@ use Rattle.world_standing.specs.Requests.{heard-right}
 use Rattle.world_verdicts.specs.Verdicts.{HasWrites}
 use Rattle.world_whole.specs.Begins.{IsSimple}
 use Rattle.world_whole.specs.Everything.{AreBefore}
-use Rattle.world_closing.specs.Closing.{Concluded, IsResolved, IsToldOf}
+use Rattle.world_closing.specs.Closing.{Concluded, IsResolved, IsToldOf, Resolves}
 use Rattle.world_closing.specs.Holding.{AreHeld, HasEntries, decided-held, durable-at, held-at, held-resolved, resolved-held}
 
 -- ---- the entries of all targets
@@ -60,11 +60,11 @@ of-one (c ∷ ds) e i = elim (has-cases c.entries (all_entries ds) e i) [
 ]
 
 -- a target keeps an entry
-record IsThere (v : World) (e : Entry) : Type 0 where
-  t : ℕ
-  s : TargetState
-  here : slice_get v.targets t ≡ Some s
-  among : Has e s.durable.entries
+pub record IsThere (v : World) (e : Entry) : Type 0 where
+  pub t : ℕ
+  pub s : TargetState
+  pub here : slice_get v.targets t ≡ Some s
+  pub among : Has e s.durable.entries
 
 there : (v : World) (e : Entry) → Has e (all_entries (durables_of v)) → IsThere v e
 there v e i =
@@ -92,14 +92,14 @@ module _ (r : Rules) (o : Opening) (held : ℕ → List Version) (h : History) (
   abbrev epochs : Epochs r (top o) v
   epochs = k.standing.heard.epochs
 
-  one-epoch : (x : AttemptId) (e f : Epoch) → Has (x, e) v.issued → Has (x, f) v.issued → e ≡ f
+  pub one-epoch : (x : AttemptId) (e f : Epoch) → Has (x, e) v.issued → Has (x, f) v.issued → e ≡ f
   one-epoch x e f i j = epochs.one x e f (contains-from_has v.issued (x, e) i) (contains-from_has v.issued (x, f) j)
 
   found : (e : Entry) (z : IsThere v e) → entry_at v z.t e.attempt ≡ Some e
   unfolding entry_of
   found e z = ap (λ y. entry_in y e.attempt) z.here ∙ row-found entry_attempt z.s.durable.entries e (k.standing.heard.attempts.on.ordered z.t z.s z.here).entries z.among
 
-  its : (e : Entry) (z : IsThere v e) → IsItsEntry r v e.attempt z.t e
+  pub its : (e : Entry) (z : IsThere v e) → IsItsEntry r v e.attempt z.t e
   its e z = (has-entries.entries e.attempt).one z.t e (found e z)
 
   may-end : (e : Entry) → Has e (resolved_entries v) → MayEnd r v e
@@ -149,6 +149,18 @@ module _ (r : Rules) (o : Opening) (held : ℕ → List Version) (h : History) (
           among : Has y.leader.entry (all_entries (durables_of v))
           among = among-all (durables_of v) s.durable y.leader.entry (has-at (durables_of v) (leader_of r x) s.durable (durable-at r h v has-entries (leader_of r x) s here)) (has-from_contains s.durable.entries y.leader.entry (entry-among s.durable x y.leader.entry found-here))
 
+  -- a history goes on in which just these are decided
+  pub resolves : Resolves r o held h v
+  resolves = record {
+    later = ended.later;
+    grew = ended.before;
+    served = ended.served;
+    versions = ended.kept.0;
+    reads = ended.kept.1;
+    only = decided-resolved;
+    all = resolved-decided;
+  }
+
   -- ---- and told
 
   -- one that is resolved isn't told to have failed
@@ -183,13 +195,7 @@ module _ (r : Rules) (o : Opening) (held : ℕ → List Version) (h : History) (
 
     pub concluded : Concluded r o held h v
     concluded = record {
-      later = ended.later;
-      grew = ended.before;
-      served = ended.served;
-      versions = ended.kept.0;
-      reads = ended.kept.1;
-      only = decided-resolved;
-      all = resolved-decided;
+      so = resolves;
       told = told;
       committed = λ a i how some. (k.standing.outcomes.lines a i some).committed how;
       failed = λ a i some how. false_of (resolved (durables_of v) a.id) (λ is. not-failed a i some how is);

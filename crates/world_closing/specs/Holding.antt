@@ -66,7 +66,7 @@ other-there r x m some i =
 -- ---- bits
 
 -- a bit is set in either reading of a field
-field-is : (field t : ℕ) → is_in_field field t ≡ has_target field t
+pub field-is : (field t : ℕ) → is_in_field field t ≡ has_target field t
 unfolding has_target
 field-is field t = by (bit_at field t) refl
   where

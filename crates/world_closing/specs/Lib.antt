@@ -9,6 +9,7 @@ pub mod Outcomes
 pub mod Causes
 pub mod Stores
 pub mod Kept
+pub mod Sounding
 pub mod Issued
 pub mod Gone
 pub mod Rowed

@@ -88,14 +88,14 @@ legal-same s o T U a plain same k = by a.epoch k
 
 module _ (r : Rules) (o : Opening) (held : ℕ → List Version) (h : History) (v : World) (plain : Unsnapped r) (form : IsInForm r.script.targets r.script) (opens : IsOpeningPlain o) (gots : Gots r h v) (c : Concluded r o held h v) (l : AreLines r.script v) where
   -- what lines tell was served by the history that goes on, too
-  served-later : (a : Attempt) → IsLineServed r h a → IsLineServed r c.later a
-  served-later a s = served-more h c.later a.id r.script.targets (attempt_ops r.script a.id) a.epoch a.epoch a.gots a.conds (stays-remembered h c.later a.id a.epoch (λ q i. subst (Has q) (sym c.served) i)) s
+  served-later : (a : Attempt) → IsLineServed r h a → IsLineServed r c.so.later a
+  served-later a s = served-more h c.so.later a.id r.script.targets (attempt_ops r.script a.id) a.epoch a.epoch a.gots a.conds (stays-remembered h c.so.later a.id a.epoch (λ q i. subst (Has q) (sym c.so.served) i)) s
 
   pub reads-legal : ReadsLegal r.script o.stand (took r.script (resolved (durables_of v)) v.lines) (report_over r v)
   reads-legal = all-from_has (AttemptReadsLegal r.script o.stand (took r.script (resolved (durables_of v)) v.lines)) (tries v.lines) one
     where
       one : (a : Attempt) → Has a (tries v.lines) → AttemptReadsLegal r.script o.stand (took r.script (resolved (durables_of v)) v.lines) a
       one a i =
-          legal-same r.script o.stand (taken_in (transactions r.script c.later)) (took r.script (resolved (durables_of v)) v.lines) a (no-snapshots r plain a.id)
+          legal-same r.script o.stand (taken_in (transactions r.script c.so.later)) (took r.script (resolved (durables_of v)) v.lines) a (no-snapshots r plain a.id)
           (λ e cell. sym (took-same_map r o held h v c l e cell))
-          (lines-right r o c.later r.script.targets a form c.reads.answers (seen-dkeys r o c.later r.script.targets plain form opens) (served-later a (has-all (IsLineServed r h) (tries v.lines) a gots.lines i)))
+          (lines-right r o c.so.later r.script.targets a form c.so.reads.answers (seen-dkeys r o c.so.later r.script.targets plain form opens) (served-later a (has-all (IsLineServed r h) (tries v.lines) a gots.lines i)))

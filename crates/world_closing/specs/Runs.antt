@@ -7,6 +7,7 @@ use Rattle.daos_model.specs.declared.durable.Version.{Version}
 use Rattle.daos_model.specs.Finals.{HeadlineOver}
 use Rattle.daos_model.specs.Opening.{Given, Opening, Outside, top}
 use Rattle.daos_model.specs.Order.{AllInTurn}
+use Rattle.daos_model.specs.Sound.{Sound}
 use Rattle.daos_model.specs.Stops.{AreCounted, restart_numbers}
 use Rattle.dtx_base.specs.Leading.{undecided_attempt}
 use Rattle.dtx_base.specs.Rows.{row_of}
@@ -44,8 +45,8 @@ use Rattle.world_whole.specs.Everything.{AreBefore}
 use Rattle.world_whole.specs.Whole.{held-before}
 use Rattle.world_closing.specs.Asking.{AreAsking, events-ask}
 use Rattle.world_closing.specs.Causes.{AllAreTold, causes-shown}
-use Rattle.world_closing.specs.Closing.{Concluded, EndedRunsAreLegal, EndedRunsAreOver, EndedRunsConclude, IsOver, IsStill, StillRunsAreOver, report_over}
-use Rattle.world_closing.specs.Concluding.{concluded, given, has-entries, issued-line}
+use Rattle.world_closing.specs.Closing.{Concluded, EndedRunsAreLegal, EndedRunsAreOver, EndedRunsConclude, IsOver, IsStill, RunsKeepSound, RunsStandForResolved, StandsForResolved, StillRunsAreOver, report_over}
+use Rattle.world_closing.specs.Concluding.{concluded, given, has-entries, issued-line, resolves}
 use Rattle.world_closing.specs.Done.{is-over}
 use Rattle.world_closing.specs.Gone.{NoneGoesToGivenUp, none-goes}
 use Rattle.world_closing.specs.Holding.{many}
@@ -53,7 +54,8 @@ use Rattle.world_closing.specs.Issued.{events-issue_once}
 use Rattle.world_closing.specs.Kept.{AreAll, HoldsNoSnapshots, all-there, events-hold_none}
 use Rattle.world_closing.specs.Outcomes.{OutcomesStand, in-turn, outcomes-legal}
 use Rattle.world_closing.specs.Reads.{reads-legal}
-use Rattle.world_closing.specs.Stores.{AreStores, none-pruned, stands-last}
+use Rattle.world_closing.specs.Sounding.{covered-of, is-sound, runs-stay_covered}
+use Rattle.world_closing.specs.Stores.{AreStores, none-pruned, stands-for_resolved, stands-last}
 use Rattle.world_closing.specs.Took.{AreLines}
 use Rattle.world_closing.specs.Waited.{WaitersAreAsked}
 
@@ -133,6 +135,34 @@ runs-go_on : (r : Rules) (o : Opening) (w v : World) → IsSimple r → IsBegun 
 runs-go_on r o w v A B Begins = begins r o w A B
 runs-go_on r o w v A B (Goes u x run e) =
     goes r o (held_at w) (stored_over r run) u v A (held-before r o w B) (none-goes r o w u B run) (all-there r o w u B run).targets (all-there r o w v B (Goes u x run e)).targets (runs-go_on r o w u A B run) e
+
+-- ---- what is kept at each moment
+
+module _ (r : Rules) (o : Opening) (w v : World) (A : IsSimple r) (B : IsBegun r o w) (run : WorldRun r w v) where
+  goes-on : GoesOn r o (held_at w) (stored_over r run) v
+  goes-on = runs-go_on r o w v A B run
+
+  are-all : AreAll r v
+  are-all = all-there r o w v B run
+
+  stands : StandsForResolved r.script o (durables_of v)
+  stands =
+      let h = goes-on.h in
+      let k = goes-on.accounted in
+      stands-for_resolved r o (held_at w) h v B.plain (given r o (held_at w) h (stored_over r run) v A (held-before r o w B) k are-all.targets)
+      (resolves r o (held_at w) h (stored_over r run) v A (held-before r o w B) k are-all.targets)
+      (record { targets = are-all.targets; some = A.some_target; unpruned = none-pruned r o v A.unsnapped k.standing.makings k.standing.floors; no_snaps = goes-on.unsnapped })
+      (many r h v (has-entries r o (held_at w) h (stored_over r run) v A (held-before r o w B) k are-all.targets))
+
+  stays-sound : Sound (durables_of w) → Sound (durables_of v)
+  stays-sound sound =
+      is-sound r o (held_at w) goes-on.h (stored_over r run) v A (held-before r o w B) goes-on.accounted are-all.targets (runs-stay_covered r o w v A B (covered-of w sound) run) goes-on.unsnapped stands.agree
+
+pub runs-stand_for_resolved : RunsStandForResolved
+runs-stand_for_resolved r o w v A B run = stands r o w v A B run
+
+pub runs-keep_sound : RunsKeepSound
+runs-keep_sound r o w v A B sound run = stays-sound r o w v A B run sound
 
 -- ---- in the end
 

@@ -52,7 +52,7 @@ use Rattle.world_snapshots.specs.Makings.{ComesOf, Makings}
 use Rattle.world_whole.specs.Begins.{IsOpeningPlain}
 use Rattle.world_whole.specs.Everything.{AreUnpruned}
 use Rattle.world_whole.specs.ScriptForm.{of-end}
-use Rattle.world_closing.specs.Closing.{Concluded, report_over}
+use Rattle.world_closing.specs.Closing.{Concluded, Resolves, StandsForResolved, report_over}
 use Rattle.world_closing.specs.Outcomes.{no-aggregation}
 use Rattle.world_closing.specs.Took.{AreLines, took-same_map}
 
@@ -97,7 +97,7 @@ pub record AreStores (r : Rules) (o : Opening) (v : World) : Type 0 where
   pub unpruned : AreUnpruned o v
   pub no_snaps : (t : ℕ) (s : TargetState) → slice_get v.targets t ≡ Some s → s.durable.snaps ≡ []
 
-module _ (r : Rules) (o : Opening) (held : ℕ → List Version) (h : History) (v : World) (plain : IsOpeningPlain o) (given : Given r o held v) (c : Concluded r o held h v) (k : AreStores r o v) (many : length (durables_of v) ≡ r.script.targets) where
+module _ (r : Rules) (o : Opening) (held : ℕ → List Version) (h : History) (v : World) (plain : IsOpeningPlain o) (given : Given r o held v) (c : Resolves r o held h v) (k : AreStores r o v) (many : length (durables_of v) ≡ r.script.targets) where
   -- what is decided in the end is what is resolved
   resolved-is : (x : AttemptId) → resolved (durables_of v) x ≡ is_decided c.later x
   resolved-is x = same-bool (resolved (durables_of v) x) (is_decided c.later x)
@@ -166,12 +166,24 @@ module _ (r : Rules) (o : Opening) (held : ℕ → List Version) (h : History) (
     snaps = subst (All (λ s. AgreeOn (durables_of v) (counts_at (durables_of v) s))) (sym no-created) (All-nil (λ s. AgreeOn (durables_of v) (counts_at (durables_of v) s)));
   }
 
+  -- the opening and the resolved attempts
+  pub stands-for_resolved : StandsForResolved r.script o (durables_of v)
+  stands-for_resolved = record {
+    attempts = c.later.decided;
+    only = λ x e i. let d = has-from_contains c.later.decided (x, e) i in (c.only x e d, given.above x e (c.versions.issued x e d));
+    all = λ x is. let z = c.all x is in (z.0, contains-from_has c.later.decided (x, z.0) z.1);
+    apart = c.versions.apart;
+    now = stands-now;
+    snaps = no-kept;
+    agree = replicas-agree;
+  }
+
 -- ---- all of it
 
 pub stands-last : (g : Run) (held : ℕ → List Version) (h : History) (v : World) → Unsnapped (rules_of g) → IsOpeningPlain g.opening → Given (rules_of g) g.opening held v → Concluded (rules_of g) g.opening held h v → AreStores (rules_of g) g.opening v → AreLines g.script v
     → length (durables_of v) ≡ g.script.targets → StandInTheEnd g (durables_of v) (report_over (rules_of g) v)
 stands-last g held h v plain opens given c k l many = record {
-  now = λ cell. stands-now (rules_of g) g.opening held h v opens given c k many cell ∙ sym (took-same_map (rules_of g) g.opening held h v c l (2 ^ 64) cell);
-  snaps = snaps-end (rules_of g) g.opening.stand (took g.script (resolved (durables_of v)) v.lines) (tries v.lines) (stand (durables_of v)).snaps plain opens.no_snaps (no-kept (rules_of g) g.opening held h v opens given c k many);
-  agree = replicas-agree (rules_of g) g.opening held h v opens given c k many;
+  now = λ cell. stands-now (rules_of g) g.opening held h v opens given c.so k many cell ∙ sym (took-same_map (rules_of g) g.opening held h v c l (2 ^ 64) cell);
+  snaps = snaps-end (rules_of g) g.opening.stand (took g.script (resolved (durables_of v)) v.lines) (tries v.lines) (stand (durables_of v)).snaps plain opens.no_snaps (no-kept (rules_of g) g.opening held h v opens given c.so k many);
+  agree = replicas-agree (rules_of g) g.opening held h v opens given c.so k many;
 }

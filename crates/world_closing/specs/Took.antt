@@ -216,24 +216,24 @@ module _ (r : Rules) (o : Opening) (held : ℕ → List Version) (h : History) (
   told = all_took r.script is_resolved (tries v.lines)
 
   -- what took effect is decided
-  to-decided : (x : AttemptId) (e : Epoch) → Has (x, e) told → history.Decided c.later x e
-  to-decided x e i = subst (λ y. history.Decided c.later y e) t.of_it (by t.a.outcome refl t.took)
+  to-decided : (x : AttemptId) (e : Epoch) → Has (x, e) told → history.Decided c.so.later x e
+  to-decided x e i = subst (λ y. history.Decided c.so.later y e) t.of_it (by t.a.outcome refl t.took)
     where
       t : TookEffect r.script is_resolved (tries v.lines) x e
       t = took-has r.script is_resolved (tries v.lines) x e i
 
       -- at the epoch that its line shows
-      its : (f : Epoch) → history.Decided c.later t.a.id f → history.Decided c.later t.a.id e
+      its : (f : Epoch) → history.Decided c.so.later t.a.id f → history.Decided c.so.later t.a.id e
       its f d =
           let z : IsToldOf v t.a.id f = c.told t.a.id f d in
           let one : z.a ≡ t.a = one-line (tries v.lines) z.a t.a l.apart (has-from_contains (tries v.lines) z.a z.among) t.among z.of_it in
           let epochs : Some f ≡ Some e = sym z.at ∙ ap (λ y. y.epoch) one ∙ t.at in
           let same : f ≡ e = cc in
-          subst (history.Decided c.later t.a.id) same d
+          subst (history.Decided c.so.later t.a.id) same d
 
-      by : (how : Outcome) → t.a.outcome ≡ how → took_effect (is_resolved t.a.id) how ≡ true → history.Decided c.later t.a.id e
-      by outcome.Committed is took = let k = c.committed t.a (contains-from_has (tries v.lines) t.a t.among) is t.writes in its k.0 (c.grew t.a.id k.0 k.2)
-      by (outcome.Unknown target) is took = let k = c.all t.a.id took in its k.0 k.1
+      by : (how : Outcome) → t.a.outcome ≡ how → took_effect (is_resolved t.a.id) how ≡ true → history.Decided c.so.later t.a.id e
+      by outcome.Committed is took = let k = c.committed t.a (contains-from_has (tries v.lines) t.a t.among) is t.writes in its k.0 (c.so.grew t.a.id k.0 k.2)
+      by (outcome.Unknown target) is took = let k = c.so.all t.a.id took in its k.0 k.1
       by (outcome.CondFailed op) is took = let no : ⊥ = cc in absurd no
       by (outcome.Restart why) is took = let no : ⊥ = cc in absurd no
       by (outcome.NoSpace target need free) is took = let no : ⊥ = cc in absurd no
@@ -241,15 +241,15 @@ module _ (r : Rules) (o : Opening) (held : ℕ → List Version) (h : History) (
       by outcome.NoSnapshot is took = let no : ⊥ = cc in absurd no
 
   -- what is decided took effect
-  from-decided : (x : AttemptId) (e : Epoch) → history.Decided c.later x e → Has (x, e) told
+  from-decided : (x : AttemptId) (e : Epoch) → history.Decided c.so.later x e → Has (x, e) told
   from-decided x e d =
-      subst (λ y. Has (y, e) told) z.of_it (has-took r.script is_resolved (tries v.lines) z.a e (has-from_contains (tries v.lines) z.a z.among) z.at (by z.a.outcome z.how) (subst (λ y. minor_writes 0 (attempt_ops r.script y) ≢ []) (sym z.of_it) (c.versions.written x e d)))
+      subst (λ y. Has (y, e) told) z.of_it (has-took r.script is_resolved (tries v.lines) z.a e (has-from_contains (tries v.lines) z.a z.among) z.at (by z.a.outcome z.how) (subst (λ y. minor_writes 0 (attempt_ops r.script y) ≢ []) (sym z.of_it) (c.so.versions.written x e d)))
     where
       z : IsToldOf v x e
       z = c.told x e d
 
       is : is_resolved z.a.id ≡ true
-      is = ap is_resolved z.of_it ∙ c.only x e d
+      is = ap is_resolved z.of_it ∙ c.so.only x e d
 
       by : (how : Outcome) → (how ≡ outcome.Committed) ⊎ (is_unknown how ≡ true) → took_effect (is_resolved z.a.id) how ≡ true
       by outcome.Committed k = refl
@@ -260,26 +260,26 @@ module _ (r : Rules) (o : Opening) (held : ℕ → List Version) (h : History) (
       by outcome.EpochsSpent k = absurd (neither _ k refl (λ same. let no : ⊥ = cc in no))
       by outcome.NoSnapshot k = absurd (neither _ k refl (λ same. let no : ⊥ = cc in no))
 
-  to-transactions : (d : Decided) → Has d (map (decided_of r.script) told) → Has d (transactions r.script c.later)
+  to-transactions : (d : Decided) → Has d (map (decided_of r.script) told) → Has d (transactions r.script c.so.later)
   to-transactions d i =
       let p = has-from_map (decided_of r.script) told d i in
-      subst (λ f. Has f (transactions r.script c.later)) p.2 (has-map (decided_of r.script) c.later.decided p.0 (to-decided p.0.0 p.0.1 p.1))
+      subst (λ f. Has f (transactions r.script c.so.later)) p.2 (has-map (decided_of r.script) c.so.later.decided p.0 (to-decided p.0.0 p.0.1 p.1))
 
-  from-transactions : (d : Decided) → Has d (transactions r.script c.later) → Has d (map (decided_of r.script) told)
+  from-transactions : (d : Decided) → Has d (transactions r.script c.so.later) → Has d (map (decided_of r.script) told)
   from-transactions d i =
-      let p = has-from_map (decided_of r.script) c.later.decided d i in
+      let p = has-from_map (decided_of r.script) c.so.later.decided d i in
       subst (λ f. Has f (map (decided_of r.script) told)) p.2 (has-map (decided_of r.script) told p.0 (from-decided p.0.0 p.0.1 p.1))
 
   are-decided : AreDecided (map (decided_of r.script) told)
   are-decided = record {
     apart = took-apart r.script is_resolved (tries v.lines) l.plain l.distinct;
-    numbered = all-from_has IsNumbered (map (decided_of r.script) told) (λ d i. has-all IsNumbered (transactions r.script c.later) d c.versions.apart.numbered (to-transactions d i));
+    numbered = all-from_has IsNumbered (map (decided_of r.script) told) (λ d i. has-all IsNumbered (transactions r.script c.so.later) d c.so.versions.apart.numbered (to-transactions d i));
   }
 
   -- The map as of an epoch is the same of what took effect by the lines, and of what was decided.
-  pub took-same_map : (e : ℕ) → SameMap (as_of o.stand (took r.script is_resolved v.lines) e) (as_of o.stand (taken_in (transactions r.script c.later)) e)
+  pub took-same_map : (e : ℕ) → SameMap (as_of o.stand (took r.script is_resolved v.lines) e) (as_of o.stand (taken_in (transactions r.script c.so.later)) e)
   took-same_map e =
-      subst (λ ts. SameMap (as_of o.stand ts e) (as_of o.stand (taken_in (transactions r.script c.later)) e)) (sym (took-all r.script is_resolved v.lines))
-      (as_of-set o.stand (map (decided_of r.script) told) (transactions r.script c.later) e are-decided c.versions.apart
-      (λ d i. contains-from_has (transactions r.script c.later) d (to-transactions d (has-from_contains (map (decided_of r.script) told) d i)))
-      (λ d i. contains-from_has (map (decided_of r.script) told) d (from-transactions d (has-from_contains (transactions r.script c.later) d i))))
+      subst (λ ts. SameMap (as_of o.stand ts e) (as_of o.stand (taken_in (transactions r.script c.so.later)) e)) (sym (took-all r.script is_resolved v.lines))
+      (as_of-set o.stand (map (decided_of r.script) told) (transactions r.script c.so.later) e are-decided c.so.versions.apart
+      (λ d i. contains-from_has (transactions r.script c.so.later) d (to-transactions d (has-from_contains (map (decided_of r.script) told) d i)))
+      (λ d i. contains-from_has (map (decided_of r.script) told) d (from-transactions d (has-from_contains (transactions r.script c.so.later) d i))))

@@ -1,7 +1,7 @@
 // Where a run in which targets may stop has ended, the report of its lines is legal, and the stores stand for what it tells.
 #![tactic(auto)]
 
-ghost use Rattle.world_closing.specs.Closing.{EndedRunsAreLegal, EndedRunsAreOver, EndedRunsConclude, StillRunsAreOver};
+ghost use Rattle.world_closing.specs.Closing.{EndedRunsAreLegal, EndedRunsAreOver, EndedRunsConclude, RunsKeepSound, RunsStandForResolved, StillRunsAreOver};
 
 /// Says where a run has ended in which targets may stop, open again, or be given up, of a script in form
 /// without snapshots and aggregation, from its beginning. It is over: nothing in flight goes to anyone who is
@@ -15,9 +15,15 @@ ghost use Rattle.world_closing.specs.Closing.{EndedRunsAreLegal, EndedRunsAreOve
 /// caused from outside, and where the numbers of restarts are counted by the lines if turns are taken in a
 /// stated order, the report of the lines is legal in each part, with the least target that was given up named;
 /// and the targets stand for what it tells, and replicas agree.
+///
+/// At each moment what the targets keep, those that are stopped or were given up among them, stands for the
+/// opening and the attempts that are resolved there, and replicas agree; and it is sound where it was sound
+/// when the run began.
 pub fn laws_of_closing()
     ensures still { StillRunsAreOver }
     ensures over { EndedRunsAreOver }
     ensures concluded { EndedRunsConclude }
     ensures legal { EndedRunsAreLegal }
+    ensures resolved { RunsStandForResolved }
+    ensures sound { RunsKeepSound }
 {}
