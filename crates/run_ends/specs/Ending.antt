@@ -1,5 +1,5 @@
 -- What a run of clients and targets has come to where it has ended.
-use Rattle.std.specs.Prelude.{ℕ, ◌≡◌, ◌≤◌, ◌<◌, ◌⊎◌, true, false, filter, List, [], All, Contains, length, slice_get, Option, Some, None, is_some, refl}
+use Rattle.std.specs.Prelude.{ℕ, ◌≡◌, ◌≤◌, ◌<◌, ◌⊎◌, true, false, filter, List, [], ◌∷◌, map, All, Contains, length, slice_get, Option, Some, None, is_some, refl}
 use Rattle.std.proofs.Common.{inl, inr, sym, ◌∙◌, ap, subst, arith}
 use Rattle.std.proofs.lemmas.Bool.{true≢false}
 use Rattle.base_types.specs.declared.entry.Entry.{Entry}
@@ -9,10 +9,13 @@ use Rattle.base_types.specs.declared.report.Report.{Report}
 use Rattle.client_core.specs.Clients.{ClientNow}
 use Rattle.daos_model.specs.declared.durable.Durable.{Durable}
 use Rattle.daos_model.specs.Durables.{entry_of}
+use Rattle.base_types.specs.declared.snapshot.Snap.{Snap}
+use Rattle.daos_model.specs.Family.{created_snaps, snap_map, stand}
 use Rattle.daos_model.specs.FormLaws.{length-map}
 use Rattle.daos_model.specs.Finals.{HeadlineOver}
 use Rattle.daos_model.specs.Headline.{Headline}
 use Rattle.daos_model.specs.Opening.{Given, Outside, undisturbed}
+use Rattle.daos_model.specs.Sound.{Sound}
 use Rattle.daos_model.specs.Stops.{AtMostWith, HasTarget, down_targets, is_stop_at, least, lines_at, stop_numbers}
 use Rattle.dtx_base.specs.Members.{has_target}
 use Rattle.model_laws.specs.DecidedLaws.{has-all}
@@ -33,6 +36,7 @@ use Rattle.run_shows.specs.Parts.{at-both}
 use Rattle.run_shows.specs.Shows.{IsTargetOf}
 use Rattle.run_shows.specs.Stages.{StageNow}
 use Rattle.run_steps.specs.Ended.{HasRun, HasRunWith, left_of}
+use Rattle.run_turns.specs.OrderLaws.{orders-are-runs}
 use Rattle.run_watch.specs.Watches.{WatchNow, first_watch}
 use Rattle.script_runnable.specs.Keyed.{MapHasKeys, ScriptHasKeys}
 use Rattle.target_core.specs.Targets.{TargetOf}
@@ -44,6 +48,7 @@ use Rattle.world_base.specs.declared.world.World.{World}
 use Rattle.world_base.specs.Events.{Rules, target_plan}
 use Rattle.world_causes.specs.Causes.{is_try}
 use Rattle.world_closing.specs.Closing.{report_over}
+use Rattle.world_closing.specs.Runs.{runs-keep_sound, runs-stand_for_resolved}
 use Rattle.world_ends.specs.Ends.{durable_of, durables_of, rules_of}
 use Rattle.world_facts.specs.Facts.{IsMember}
 use Rattle.world_lives.specs.Legal.{AreCaused}
@@ -53,10 +58,19 @@ use Rattle.run_ends.specs.Armed.{before-fuse, fuses-started, fuses-tell, states_
 use Rattle.run_ends.specs.Arming.{AreArmed, AreUnfused}
 use Rattle.run_ends.specs.Begun.{first_world, is-begun, state_now, told-is, told-there}
 use Rattle.run_ends.specs.Caused.{end-caused, stops-caused}
-use Rattle.run_ends.specs.Comes.{ComesTo, EndsUnstopped, IsAsStored, IsCommittedIn, IsOrdered, IsOutside, LacksMember, MayBeFound, StandPlainly, report_with}
+use Rattle.run_ends.specs.Comes.{AreKept, ComesTo, EndsUnstopped, IsAsStored, IsCommittedIn, IsOrdered, IsOutside, IsSoundAgain, LacksMember, MayBeFound, StandPlainly, report_with}
 use Rattle.run_ends.specs.Lasts.{AreSteady, are-found, found_at, its-target, keeps-lasts, some-may_be, some_lasts}
-use Rattle.run_ends.specs.Places.{IsMapped, from-map}
+use Rattle.run_ends.specs.Places.{IsMapped, from-map, same-lists}
 use Rattle.run_ends.specs.Starts.{AllTell, HaveStarted, stores_of}
+
+-- where no snapshot's map stands, none is created
+none-created : (F : List Durable) → (stand F).snaps ≡ [] → created_snaps F ≡ []
+unfolding stand
+none-created F none = by (created_snaps F) none
+  where
+    by : (xs : List Snap) → map (snap_map F) xs ≡ [] → xs ≡ []
+    by [] is = refl
+    by (x ∷ xs) is = let no : ⊥ = cc in absurd no
 
 -- an outside that may have caused whatever stopped and was given up
 abbrev anything : Outside
@@ -267,6 +281,28 @@ module _ {S C : Type 0} (durable : S → Option Durable) (state : S → State) (
             opening = ap (λ q. q.opening) z.is ∙ ap (λ h. h.opening) f.state_is.rest ∙ ap (λ q. (state q).opening) same;
           }
 
+      -- ---- a run after this one
+
+      -- the first world keeps what the stores kept
+      first-keeps : (F : List Durable) → AreKept durable (stores_of xs) F → durables_of first ≡ F
+      first-keeps F f = same-lists (durables_of first) F many-first (λ t d z here at.
+          let s = from-map durable_of first.targets t d here in
+          let x = at-both F (stores_of xs) t z (sym f.many) at in
+          let one : Some s.of_it.durable ≡ Some z = sym (as-stored t x.0 s.of_it x.1 s.at).kept ∙ f.each t x.0 z x.1 at in
+          let same : s.of_it.durable ≡ z = cc in
+          s.is ∙ same)
+        where
+          many-first : length (durables_of first) ≡ length F
+          many-first = length-map durable_of first.targets ∙ length-map (state_now durable state) e.armed ∙ e.fuses.fuses.many ∙ sym (length-map (λ p. p.store) xs) ∙ sym f.many
+
+      sound-again : (F : List Durable) → AreKept durable (stores_of xs) F → Sound F → IsSoundAgain lasts
+      sound-again F f sound =
+          let events = orders-are-runs r g.job.order first last run.run in
+          record {
+            sound = subst Sound keeps (runs-keep_sound r g.opening first last k.simple begun (subst Sound (sym (first-keeps F f)) sound) events);
+            unsnapped = subst (λ ds. created_snaps ds ≡ []) keeps (none-created (durables_of last) (runs-stand_for_resolved r g.opening first last k.simple begun events).snaps);
+          }
+
       is-ordered : ((t : ℕ) (x : S) → slice_get (stores_of xs) t ≡ Some x → (state x).free ≡ g.opening.free t) → IsOrdered durable state may g report (stores_of xs) (stores_of ys)
       is-ordered free = record {
         follows = record { first = first; begun = begun; free = free-first free; restarts = refl; last = last; run = run.run; lines = run.told };
@@ -290,5 +326,6 @@ module _ {S C : Type 0} (durable : S → Option Durable) (state : S → State) (
       running = store-runs some so;
       settled = record { entries = entries some so; held = held };
       unstopped = ends-unstopped some so;
+      sound = λ F f sound lasts m. sound-again lasts m F f sound;
       ordered = is-ordered some so;
     }

@@ -150,7 +150,7 @@ module _ (r : Rules) (o : Opening) (held : ℕ → List Version) (h : History) (
           among = among-all (durables_of v) s.durable y.leader.entry (has-at (durables_of v) (leader_of r x) s.durable (durable-at r h v has-entries (leader_of r x) s here)) (has-from_contains s.durable.entries y.leader.entry (entry-among s.durable x y.leader.entry found-here))
 
   -- a history goes on in which just these are decided
-  pub resolves : Resolves r o held h v
+  abbrev pub resolves : Resolves r o held h v
   resolves = record {
     later = ended.later;
     grew = ended.before;
