@@ -121,16 +121,16 @@ module _ (r : Rules) (o : Opening) (held : ℕ → List Version) (h : History) (
       held-all : AreHeld r v e.attempt
       held-all = resolved-held r h v has-entries e.attempt f.1
 
-  ended : AreEnded r o held h v (resolved_entries v)
+  pub ended : AreEnded r o held h v (resolved_entries v)
   ended = end-all r o held h v given one-epoch k.standing.versions k.standing.reads (resolved_entries v) may-end
 
-  decided-resolved : (x : AttemptId) (e : Epoch) → Decided ended.later x e → IsResolved v x
+  pub decided-resolved : (x : AttemptId) (e : Epoch) → Decided ended.later x e → IsResolved v x
   decided-resolved x e d = elim (ended.only x e d) [
     | inl was ↦ held-resolved r h v has-entries x (decided-held r h v has-entries x e was)
     | inr z ↦ subst (IsResolved v) (sym z.2) (has-from_filter (is_resolved_in v) (all_entries (durables_of v)) z.0 z.1).1
   ]
 
-  resolved-decided : (x : AttemptId) → IsResolved v x → (e : Epoch) × Decided ended.later x e
+  pub resolved-decided : (x : AttemptId) → IsResolved v x → (e : Epoch) × Decided ended.later x e
   resolved-decided x is = by (slice_get v.targets (leader_of r x)) refl
     where
       y : AreHeld r v x
@@ -150,7 +150,7 @@ module _ (r : Rules) (o : Opening) (held : ℕ → List Version) (h : History) (
           among = among-all (durables_of v) s.durable y.leader.entry (has-at (durables_of v) (leader_of r x) s.durable (durable-at r h v has-entries (leader_of r x) s here)) (has-from_contains s.durable.entries y.leader.entry (entry-among s.durable x y.leader.entry found-here))
 
   -- a history goes on in which just these are decided
-  abbrev pub resolves : Resolves r o held h v
+  unfoldable pub resolves : Resolves r o held h v
   resolves = record {
     later = ended.later;
     grew = ended.before;
@@ -194,6 +194,7 @@ module _ (r : Rules) (o : Opening) (held : ℕ → List Version) (h : History) (
         record { a = l.0; among = l.1; of_it = l.2; at = l.3; how = fate l.0.outcome (λ failed. not-failed l.0 l.1 (subst (HasWrites r) (sym l.2) (ended.kept.0.written x e d)) failed (subst (IsResolved v) (sym l.2) (decided-resolved x e d))) }
 
     pub concluded : Concluded r o held h v
+    unfolding resolves
     concluded = record {
       so = resolves;
       told = told;
