@@ -25,9 +25,7 @@ use Rattle.daos_run.proofs.Disarmed.{kept-from, unfused-free, unfused-may_run, u
 use Rattle.daos_run.proofs.Places.{at-low, in-place, store-at, stores-back, stores-many}
 use Rattle.daos_run.proofs.Slots.{same-pair}
 use Rattle.model_laws.specs.Lists.{at-within}
-use Rattle.run_ends.specs.Comes.{ComesTo, IsOutside}
-use Rattle.run_ends.specs.Places.{from-map, one-there, same-lists}
-use Rattle.run_ends.specs.Starts.{AllTell, HaveStarted, given_by, stores_of}
+use Rattle.run_targets.specs.Ends.{AllTell, ComesTo, HaveStarted, IsOutside, from-map, given_by, one-there, same-lists, stores_of}
 use Rattle.run_opening.specs.All.{AreKept, FromTo as ListsFromTo}
 use Rattle.run_opening.specs.EnlistLaws.{enlisting-sound}
 use Rattle.run_opening.specs.Opened.{enlisted_family, keeps}

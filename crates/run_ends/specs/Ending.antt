@@ -1,5 +1,5 @@
 -- What a run of clients and targets has come to where it has ended.
-use Rattle.std.specs.Prelude.{ℕ, ◌≡◌, ◌≤◌, ◌<◌, ◌⊎◌, true, false, filter, List, [], ◌∷◌, map, All, Contains, length, slice_get, Option, Some, None, is_some, refl}
+use Rattle.std.specs.Prelude.{ℕ, ◌≡◌, ◌≤◌, ◌<◌, ◌⊎◌, true, false, filter, List, [], All, Contains, length, slice_get, Option, Some, None, is_some, refl}
 use Rattle.std.proofs.Common.{inl, inr, sym, ◌∙◌, ap, subst, arith}
 use Rattle.std.proofs.lemmas.Bool.{true≢false}
 use Rattle.base_types.specs.declared.entry.Entry.{Entry}
@@ -9,8 +9,7 @@ use Rattle.base_types.specs.declared.report.Report.{Report}
 use Rattle.client_core.specs.Clients.{ClientNow}
 use Rattle.daos_model.specs.declared.durable.Durable.{Durable}
 use Rattle.daos_model.specs.Durables.{entry_of}
-use Rattle.base_types.specs.declared.snapshot.Snap.{Snap}
-use Rattle.daos_model.specs.Family.{created_snaps, snap_map, stand}
+use Rattle.daos_model.specs.Family.{created_snaps}
 use Rattle.daos_model.specs.FormLaws.{length-map}
 use Rattle.daos_model.specs.Finals.{HeadlineOver}
 use Rattle.daos_model.specs.Headline.{Headline}
@@ -47,8 +46,8 @@ use Rattle.world_base.specs.declared.target.TargetState.{TargetState}
 use Rattle.world_base.specs.declared.world.World.{World}
 use Rattle.world_base.specs.Events.{Rules, target_plan}
 use Rattle.world_causes.specs.Causes.{is_try}
-use Rattle.world_closing.specs.Closing.{report_over}
-use Rattle.world_closing.specs.Runs.{runs-keep_sound, runs-stand_for_resolved}
+use Rattle.world_legal.specs.closing.Closing.{report_over}
+use Rattle.world_legal.specs.closing.Runs.{runs-keep_sound, runs-stand_for_resolved}
 use Rattle.world_ends.specs.Ends.{durable_of, durables_of, rules_of}
 use Rattle.world_facts.specs.Facts.{IsMember}
 use Rattle.world_lives.specs.Legal.{AreCaused}
@@ -62,15 +61,6 @@ use Rattle.run_ends.specs.Comes.{AreKept, ComesTo, EndsUnstopped, IsAsStored, Is
 use Rattle.run_ends.specs.Lasts.{AreSteady, are-found, found_at, its-target, keeps-lasts, some-may_be, some_lasts}
 use Rattle.run_ends.specs.Places.{IsMapped, from-map, same-lists}
 use Rattle.run_ends.specs.Starts.{AllTell, HaveStarted, stores_of}
-
--- where no snapshot's map stands, none is created
-none-created : (F : List Durable) → (stand F).snaps ≡ [] → created_snaps F ≡ []
-unfolding stand
-none-created F none = by (created_snaps F) none
-  where
-    by : (xs : List Snap) → map (snap_map F) xs ≡ [] → xs ≡ []
-    by [] is = refl
-    by (x ∷ xs) is = let no : ⊥ = cc in absurd no
 
 -- an outside that may have caused whatever stopped and was given up
 abbrev anything : Outside
@@ -300,7 +290,7 @@ module _ {S C : Type 0} (durable : S → Option Durable) (state : S → State) (
           let events = orders-are-runs r g.job.order first last run.run in
           record {
             sound = subst Sound keeps (runs-keep_sound r g.opening first last k.simple begun (subst Sound (sym (first-keeps F f)) sound) events);
-            unsnapped = subst (λ ds. created_snaps ds ≡ []) keeps (none-created (durables_of last) (runs-stand_for_resolved r g.opening first last k.simple begun events).snaps);
+            unsnapped = subst (λ ds. created_snaps ds ≡ []) keeps (runs-stand_for_resolved r g.opening first last k.simple begun events).snaps;
           }
 
       is-ordered : ((t : ℕ) (x : S) → slice_get (stores_of xs) t ≡ Some x → (state x).free ≡ g.opening.free t) → IsOrdered durable state may g report (stores_of xs) (stores_of ys)

@@ -20,7 +20,7 @@ use Rattle.run_ends.specs.Comes.{ComesTo, report_with}
 use Rattle.run_ends.specs.Ending.{comes-to}
 use Rattle.run_ends.specs.Lasts.{AreSteady}
 use Rattle.run_ends.specs.Starts.{AllTell, HaveStarted, given_by, stores_of}
-use Rattle.run_reports.specs.Reports.{AreTyped}
+use Rattle.run_ends.specs.Reports.{AreTyped}
 use Rattle.run_shows.specs.Accounts.{AreAccounted, AreServed}
 use Rattle.run_shows.specs.CanGo.{CanGo}
 use Rattle.run_shows.specs.Going.{AreAlike, AreFindable}
