@@ -29,7 +29,7 @@ use Rattle.run_reports.specs.Reports.{AreTyped, EndsPlainlyIn, GoesInOrder, IsSe
 use Rattle.run_reports.specs.Unknown.{down-among}
 use Rattle.run_reports.specs.Unstopped.{unstopped-end-plainly}
 use Rattle.run_shows.specs.Accounts.{AreAccounted}
-use Rattle.run_shows.specs.Going.{AreAlike, AreFindable}
+use Rattle.run_shows.specs.Going.{AreAlike, AreFindable, AreSteady}
 use Rattle.run_shows.specs.ListLaws.{map-get}
 use Rattle.run_shows.specs.Parts.{at-both}
 use Rattle.run_shows.specs.Shows.{IsTargetOf}
@@ -58,7 +58,7 @@ use Rattle.run_ends.specs.Arming.{AreArmed, AreUnfused}
 use Rattle.run_ends.specs.Begun.{first_world, is-begun, state_now, told-is, told-there}
 use Rattle.run_ends.specs.Caused.{end-caused, stops-caused}
 use Rattle.run_ends.specs.Comes.{AreKept, ComesTo, EndsUnstopped, IsAsStored, IsCommittedIn, IsOrdered, IsOutside, IsSoundAgain, LacksMember, MayBeFound, StandPlainly, report_with}
-use Rattle.run_ends.specs.Lasts.{AreSteady, are-found, found_at, its-target, keeps-lasts, some-may_be, some_lasts}
+use Rattle.run_ends.specs.Lasts.{are-found, found_at, its-target, keeps-lasts, some-may_be, some_lasts}
 use Rattle.run_ends.specs.Places.{IsMapped, from-map, same-lists}
 use Rattle.run_ends.specs.Starts.{AllTell, HaveStarted, stores_of}
 

@@ -59,14 +59,14 @@ fewer-left (suc n) t stops = let one = fewer-lines n t (lines_left n stops) in l
 -- one fewer of a target for which a fuse was set
 pub taken-left : (n t : ℕ) (stops : List StopDecl) → t < n → stop_lines_of t (lines_left n stops) + one_if (nat_lt 0 (next_fuse t stops)) ≤ stop_lines_of t stops
 taken-left zero t stops low = absurd (omega (arith, low))
-taken-left (suc n) t stops low = by (cases_eq t n)
+taken-left (suc n) t stops low = by (cases_eq t n) (λ less. taken-left n t stops less)
   where
-    by : (t ≡ n) ⊎ ((t ≡ n) → ⊥) → stop_lines_of t (lines_left (suc n) stops) + one_if (nat_lt 0 (next_fuse t stops)) ≤ stop_lines_of t stops
-    by (inl same) =
+    by : (t ≡ n) ⊎ ((t ≡ n) → ⊥) → (t < n → stop_lines_of t (lines_left n stops) + one_if (nat_lt 0 (next_fuse t stops)) ≤ stop_lines_of t stops) → stop_lines_of t (lines_left (suc n) stops) + one_if (nat_lt 0 (next_fuse t stops)) ≤ stop_lines_of t stops
+    by (inl same) rest =
         let its : next_fuse t (lines_left n stops) ≡ next_fuse t stops = next-left n t stops (omega (arith, same)) in
         let one : stop_lines_of t (without_first (is_stop_at n) (lines_left n stops)) + one_if (nat_lt 0 (next_fuse t (lines_left n stops))) ≤ stop_lines_of t (lines_left n stops) =
         subst (λ m. stop_lines_of t (without_first (is_stop_at m) (lines_left n stops)) + one_if (nat_lt 0 (next_fuse t (lines_left n stops))) ≤ stop_lines_of t (lines_left n stops)) same (fuse-taken t (lines_left n stops)) in
         let two = fewer-left n t stops in
         let few : one_if (nat_lt 0 (next_fuse t (lines_left n stops))) ≡ one_if (nat_lt 0 (next_fuse t stops)) = ap (λ k. one_if (nat_lt 0 k)) its in
         omega (arith, one, two, few)
-    by (inr apart) = let one = fewer-lines n t (lines_left n stops) in let two = taken-left n t stops (omega (arith, low, apart)) in omega (arith, one, two)
+    by (inr apart) rest = let one = fewer-lines n t (lines_left n stops) in let two = rest (omega (arith, low, apart)) in omega (arith, one, two)

@@ -4,7 +4,7 @@ use Rattle.std.proofs.Common.{sym, ◌∙◌, ap, subst}
 use Rattle.base_types.specs.declared.report.Line.{Line}
 use Rattle.daos_model.specs.declared.durable.Durable.{Durable}
 use Rattle.daos_model.specs.FormLaws.{length-map}
-use Rattle.run_shows.specs.Going.{AreFindable}
+use Rattle.run_shows.specs.Going.{AreFindable, AreSteady}
 use Rattle.run_shows.specs.ListLaws.{map-get}
 use Rattle.run_shows.specs.Parts.{at-both}
 use Rattle.run_shows.specs.Shows.{IsTargetOf}
@@ -24,10 +24,6 @@ use Rattle.run_ends.specs.Begun.{or_empty}
 use Rattle.run_ends.specs.Comes.{MayBeFound}
 use Rattle.run_ends.specs.Places.{from-map, same-lists}
 use Rattle.run_ends.specs.Starts.{stores_of}
-
--- a store that isn't stopped opens with what it keeps
-abbrev pub AreSteady : {S : Type 0} → (S → Option Durable) → (S → State) → (S → Durable → Type 0) → Type 0
-AreSteady {S} durable state may = (s : S) (d x : Durable) → (state s).stopped ≡ false → durable s ≡ Some d → may s x → x ≡ d
 
 -- of these one is at a place
 abbrev pub found_at : List Durable → ℕ → Durable

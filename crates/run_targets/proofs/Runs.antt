@@ -18,12 +18,11 @@ use Rattle.run_ends.specs.Arming.{AreArmed, AreUnfused}
 use Rattle.run_ends.specs.Begun.{can-go, first_stage, first_world, is-begun, nothing, shows-first}
 use Rattle.run_ends.specs.Comes.{ComesTo, report_with}
 use Rattle.run_ends.specs.Ending.{comes-to}
-use Rattle.run_ends.specs.Lasts.{AreSteady}
 use Rattle.run_ends.specs.Starts.{AllTell, HaveStarted, given_by, stores_of}
 use Rattle.run_ends.specs.Reports.{AreTyped}
 use Rattle.run_shows.specs.Accounts.{AreAccounted, AreServed}
 use Rattle.run_shows.specs.CanGo.{CanGo}
-use Rattle.run_shows.specs.Going.{AreAlike, AreFindable}
+use Rattle.run_shows.specs.Going.{AreAlike, AreFindable, AreSteady}
 use Rattle.run_shows.specs.Serving.{served-then}
 use Rattle.run_shows.specs.Shows.{Shows}
 use Rattle.run_shows.specs.Stages.{StageNow}
