@@ -28,19 +28,23 @@ use Rattle.run_shows.specs.Stopping.{hearing-in-world, idling-in-world}
 use Rattle.run_shows.specs.Leading.{NonePrunes}
 use Rattle.run_shows.specs.Turned.{ByHearing, ByIdling, IsTurned}
 
-module _ {S C : Type 0} (durable : S → Option Durable) (state : S → State) (may : S → Durable → Type 0) where
-  -- ---- the statements
+-- ---- the statements
 
+-- From a world a run has come to one of so many targets that keep this.
+pub record HasBrokenOff (r : Rules) (w : World) (n : ℕ) (found : ℕ → Durable) : Type 0 where
+  pub last : World
+  pub run : (first : World) → WorldRun r first w → WorldRun r first last
+  pub many : length last.targets ≡ n
+  pub keeps : (t : ℕ) (s : TargetState) → slice_get last.targets t ≡ Some s → s.durable ≡ found t
+
+-- what leads from one world to another goes on a run
+abbrev pub GoesOnRuns : (World → World → Type 0) → Rules → Type 0
+GoesOnRuns T r = (w v first : World) → T w v → WorldRun r first w → WorldRun r first v
+
+module _ {S C : Type 0} (durable : S → Option Durable) (state : S → State) (may : S → Durable → Type 0) where
   -- the next openings of these targets' stores may find this
   abbrev pub MayBeFoundOf : List (TargetOf S C) → (ℕ → Durable) → Type 0
   MayBeFoundOf xs found = (t : ℕ) (x : TargetOf S C) → slice_get xs t ≡ Some x → may x.store (found t)
-
-  -- From a world a run has come to one of so many targets that keep this.
-  pub record HasBrokenOff (r : Rules) (w : World) (n : ℕ) (found : ℕ → Durable) : Type 0 where
-    pub last : World
-    pub run : (first : World) → WorldRun r first w → WorldRun r first last
-    pub many : length last.targets ≡ n
-    pub keeps : (t : ℕ) (s : TargetState) → slice_get last.targets t ≡ Some s → s.durable ≡ found t
 
   -- what was to be found before, so that the targets keep what is found of these now
   pub record IsBrokenFrom (r : Rules) (a : StageNow S C) (xs : List (TargetOf S C)) (found : ℕ → Durable) : Type 0 where
@@ -52,10 +56,6 @@ module _ {S C : Type 0} (durable : S → Option Durable) (state : S → State) (
   -- what the next openings find, whatever that is.
   abbrev pub BreaksOff : Rules → StageNow S C → List (TargetOf S C) → Type 0
   BreaksOff r a xs = (found : ℕ → Durable) → MayBeFoundOf xs found → IsBrokenFrom r a xs found
-
-  -- what leads from one world to another goes on a run
-  abbrev pub GoesOnRuns : (World → World → Type 0) → Rules → Type 0
-  GoesOnRuns T r = (w v first : World) → T w v → WorldRun r first w → WorldRun r first v
 
   -- ---- what is shown
 

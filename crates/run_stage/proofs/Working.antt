@@ -43,7 +43,7 @@ heard-one (Err e) n number c d b left l awake picked only turn = tt
 module _ {S C : Type 0} (durable : S → Option Durable) (state : S → State) (may : S → Durable → Type 0) (is_read : C → C → Type 0) (settling : Bool) (t number : ℕ) (x y : TargetOf S C) (left : BetweenNow) (said : Result Did TargetStop) (a b : StageNow S C)
     (place : IsPlace a t x Running) (plan : y.plan ≡ x.plan) (opened : y.opened ≡ true) (runs : Runs stop_store said (state x.store) (state y.store) (durable x.store) (durable y.store)) (clock : IsReadOn is_read x.clock y.clock)
     (posts : IfOk said (λ did. PostsInForm x.plan.targets x.memory.leader y.memory.leader did.posts)) (turned : IsTurned durable state may settling t number x y a.between left said) where
-  has-worked : HasWorked durable state may is_read settling t number a
+  abbrev has-worked : HasWorked durable state may is_read settling t number a
   has-worked = record { before = x; now = y; left = left; result = said; place = place; plan = plan; opened = opened; runs = runs; clock = clock; posts = posts; turned = turned }
 
   worked : WorkEnds durable state may t x y left a b said → TargetWorked durable state may is_read settling t number a b

@@ -55,10 +55,10 @@ module _ {S C : Type 0} (durable : S → Option Durable) (state : S → State) (
   -- ---- in a target's turn
 
   module _ (findable : AreFindable durable may) (alike : AreAlike durable) (a : StageNow S C) (can : CanGo durable state may a) (settling : Bool) (t number : ℕ) (tell : AllTell durable) (r : Rules) where
-    turns-go : GoesOnRuns durable state may (TurnOf settling r (target t) number) r
+    turns-go : GoesOnRuns (TurnOf settling r (target t) number) r
     turns-go w v first turn run = turn-goes settling r (target t) number first w v turn run
 
-    faults-go : (raised : ℕ) (stops : Option ℕ) → GoesOnRuns durable state may (FaultBy r t settling number raised stops) r
+    faults-go : (raised : ℕ) (stops : Option ℕ) → GoesOnRuns (FaultBy r t settling number raised stops) r
     faults-go raised stops w v first by run = Goes w v run by.0.event
 
     after-turn : (b : StageNow S C) → GoesOn durable state may is_read (λ q. TurnOf settling q (target t) number) a b → BreaksOff durable state may r a b.targets
@@ -98,7 +98,7 @@ module _ {S C : Type 0} (durable : S → Option Durable) (state : S → State) (
         (after-turn left (reopening-goes durable state may is_read findable alike a left can settling t number (record { was = k; ends = Opened did is (record { armed = armed; fuse = fuse; after = refl }) })))
 
   pub target-turn-breaks : AreFindable durable may → AreAlike durable → (a : StageNow S C) → CanGo durable state may a → (settling : Bool) (t number : ℕ) (xs : List (TargetOf S C)) → TargetBroke durable state may is_read settling t number a xs → Breaks durable state may a xs
-  target-turn-breaks findable alike a can settling t number xs (NotBegun same) = broke-between a xs same
+  target-turn-breaks findable alike a can settling t number xs (NotBegun same) tell r = broke-between a xs same tell r
   target-turn-breaks findable alike a can settling t number xs (InWork k same) tell r = subst (BreaksOff durable state may r a) (sym same) (work-breaks findable alike a can settling t number tell r k)
   target-turn-breaks findable alike a can settling t number xs (InOpening k why is same) tell r = subst (BreaksOff durable state may r a) (sym same) (opening-breaks findable alike a can settling t number tell r k)
   target-turn-breaks findable alike a can settling t number xs (OnceOpened k did armed is fuse same) tell r = subst (BreaksOff durable state may r a) (sym same) (opened-breaks findable alike a can settling t number tell r k did armed is fuse)

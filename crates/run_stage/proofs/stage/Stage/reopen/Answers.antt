@@ -1,15 +1,11 @@
-use Rattle.std.specs.Prelude.{◌≡◌, OnErr}
 use Rattle.std.proofs.Common.{◌∙◌, ap, refl, subst, sym}
 use Rattle.std.proofs.Math.ListN.{set}
 use Rattle.model_laws.specs.Lists.{at-index}
 use Rattle.run_shows.specs.Accounts.{AreServed}
 use Rattle.run_shows.specs.Serving.{served-by-opening, served-first, served-one, served-then}
 use Rattle.run_stage.specs.Now.{stage_now}
-use Rattle.run_shows.specs.Openings.{HasFuse}
 use Rattle.run_shows.specs.Steps.{NotBegun}
-use Rattle.run_watch.specs.Watches.{next_fuse}
-use Rattle.target_core.specs.Targets.{TargetOf}
-use Rattle.run_stage.proofs.Opening.{opened-broke, opening-broke, reopened-not, reopened-whole, same-there}
+use Rattle.run_stage.proofs.Opening.{on-err, opened-broke, opening-broke, reopened-not, reopened-whole, same-there}
 use Rattle.target_parts.specs.Readings.{IsReadOn, not-read_on}
 use Rattle.world_base.specs.StepLaws.{set-here}
 use Rattle.run_stage.proofs.stage.Stage.reopen.Goals as goal
@@ -18,7 +14,7 @@ pub returns-in_err-try_opening-clause-served : goal.returns-in_err-try_opening-c
 returns-in_err-try_opening-clause-served g c = served-first g.S.Store.durable g.S.Store.state g.C.Clock.is_read c.args.self.now.targets.items
 
 pub returns-in_err-try_opening-clause-broke : goal.returns-in_err-try_opening-clause-broke
-returns-in_err-try_opening-clause-broke g c settling k = NotBegun refl
+returns-in_err-try_opening-clause-broke g c settling k = on-err _ c.from_residual.result (NotBegun refl)
 
 pub restart-requires-clause-counted : goal.restart-requires-clause-counted
 restart-requires-clause-counted g c =
@@ -54,8 +50,7 @@ returns-in-Ok-clause-broke g c settling k =
     opened-broke g.S.Store.durable g.S.Store.state g.S.Store.may c.args.t c.next_restart-number.result x y c.restart.result c.try_opening.new.self (stage_now now) (stage_now c.opened.new.self)
     (record { there = there; stands = c.requires.stopped }) c.in_ok-try_opening.ensures.tried c.in_ok-try_opening.ensures.few c.next_restart-number.ensures e.plan e.clock e.opens e.turn e.left e.bare e.native e.posts e.line e.opened
     g.C.Clock.is_read settling k c.opened.result c.in-Ok.did c.in-Ok.is
-    (subst (λ w. OnErr c.opened.result ((armed : TargetOf g.S.Self g.C.Self) × HasFuse g.S.Store.durable g.S.Store.state g.S.Store.may (next_fuse c.args.t w.stops) y armed × (c.opened.new.self.targets.items ≡ set (set xs c.args.t y) c.args.t armed))) c.in_ok-try_opening.ensures.tried
-    (c.opened.ensures.broke y (set-here xs c.args.t x y there)))
+    (c.opened.ensures.broke y (set-here xs c.args.t x y there))
 
 pub returns-in-Ok-clause-served : goal.returns-in-Ok-clause-served
 returns-in-Ok-clause-served g c =
