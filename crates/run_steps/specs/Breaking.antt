@@ -52,6 +52,15 @@ module _ {S C : Type 0} (durable : S → Option Durable) (state : S → State) (
   goes-then_breaks-err way a b xs (Ok x) runs k broke = broke
   goes-then_breaks-err way a b xs (Err e) runs k broke = goes-then_breaks way a b xs runs k broke
 
+  pub broke-between-err : {T E : Type 0} (a : StageNow S C) (xs : List (TargetOf S C)) (result : Result T E) → xs ≡ a.targets → OnErr result (Breaks durable state may a xs)
+  broke-between-err a xs (Ok x) same = tt
+  broke-between-err a xs (Err e) same = broke-between a xs same
+
+  -- what some turns led to, where a call after them failed
+  pub broke-after-err : {T E : Type 0} (way : Rules → World → World → Type 0) (a b : StageNow S C) (xs : List (TargetOf S C)) (result : Result T E) → IsRun way → GoesOn durable state may is_read way a b → Breaks durable state may b xs → OnErr result (Breaks durable state may a xs)
+  broke-after-err way a b xs (Ok x) runs k broke = tt
+  broke-after-err way a b xs (Err e) runs k broke = goes-then_breaks way a b xs runs k broke
+
   -- ---- in a target's turn
 
   module _ (findable : AreFindable durable may) (alike : AreAlike durable) (a : StageNow S C) (can : CanGo durable state may a) (settling : Bool) (t number : ℕ) (tell : AllTell durable) (r : Rules) where
@@ -102,3 +111,8 @@ module _ {S C : Type 0} (durable : S → Option Durable) (state : S → State) (
   target-turn-breaks findable alike a can settling t number xs (InWork k same) tell r = subst (BreaksOff durable state may r a) (sym same) (work-breaks findable alike a can settling t number tell r k)
   target-turn-breaks findable alike a can settling t number xs (InOpening k why is same) tell r = subst (BreaksOff durable state may r a) (sym same) (opening-breaks findable alike a can settling t number tell r k)
   target-turn-breaks findable alike a can settling t number xs (OnceOpened k did armed is fuse same) tell r = subst (BreaksOff durable state may r a) (sym same) (opened-breaks findable alike a can settling t number tell r k did armed is fuse)
+
+  pub target-turn-breaks-err : {T E : Type 0} → AreFindable durable may → AreAlike durable → (a : StageNow S C) → CanGo durable state may a → (settling : Bool) (t number : ℕ) (xs : List (TargetOf S C)) (result : Result T E)
+      → OnErr result (TargetBroke durable state may is_read settling t number a xs) → OnErr result (Breaks durable state may a xs)
+  target-turn-breaks-err findable alike a can settling t number xs (Ok x) broke = tt
+  target-turn-breaks-err findable alike a can settling t number xs (Err e) broke = target-turn-breaks findable alike a can settling t number xs broke
