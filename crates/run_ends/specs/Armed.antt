@@ -19,7 +19,7 @@ use Rattle.vos_store.specs.Calls.{State}
 use Rattle.world_base.specs.declared.target.Life.TheVariants.{Running}
 use Rattle.world_whole.specs.Begins.{StartsWith}
 use Rattle.run_ends.specs.Arming.{AreArmed, HaveFuses, lines_left}
-use Rattle.run_ends.specs.Begun.{first_stage, told-there}
+use Rattle.run_ends.specs.Begun.{IsFirstWatch, first_stage, told-there}
 use Rattle.run_ends.specs.FuseLaws.{taken-left}
 use Rattle.run_ends.specs.Places.{from-map, replicate-at}
 use Rattle.run_ends.specs.Starts.{AllTell, HasStarted, HaveStarted, KeepsAtFirst, stores_of, target_state}
@@ -130,3 +130,7 @@ module _ {S C : Type 0} (durable : S → Option Durable) (state : S → State) (
 
       low : (n before now : ℕ) → n ≡ 0 → now ≡ before → n + before ≤ 0 + now
       low n before now none e = omega (arith, none, e)
+
+  -- nothing else is told of the targets yet
+  pub armed-first : (stops : List StopDecl) (targets : ℕ) (xs ys : List (TargetOf S C)) (v : WatchNow) → AreArmed durable state may xs ys (first_watch targets stops) v → IsFirstWatch targets v
+  armed-first stops targets xs ys v k = k.watch ∙ ap (first_watch targets) (sym (ap (λ w. w.stops) k.watch))

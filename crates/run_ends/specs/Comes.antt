@@ -23,6 +23,7 @@ use Rattle.world_base.specs.declared.target.TargetState.{TargetState}
 use Rattle.world_base.specs.declared.world.World.{World}
 use Rattle.world_ends.specs.Ends.{durables_of, rules_of}
 use Rattle.world_facts.specs.Facts.{IsMember}
+use Rattle.world_legal.specs.closing.Closing.{StandsForResolved}
 use Rattle.world_lone.specs.LoneRuns.{AreIssuedThere}
 use Rattle.world_whole.specs.Begins.{IsBegun}
 
@@ -134,6 +135,14 @@ pub record IsSoundAgain (lasts : List Durable) : Type 0 where
 -- Where the stores kept what is sound together, so is whatever their next openings find.
 abbrev pub LeavesSound : {S : Type 0} → (S → Option Durable) → (S → Durable → Type 0) → List S → List S → Type 0
 LeavesSound durable may xs ys = (F : List Durable) → AreKept durable xs F → Sound F → (lasts : List Durable) → MayBeFound may ys lasts → IsSoundAgain lasts
+
+-- ---- where memory was wanting
+
+-- Whatever the next openings find stands for the opening and the attempts that are resolved there; and it is sound where the stores kept what is
+-- sound together.
+pub record BreaksOffSo {S : Type 0} (durable : S → Option Durable) (may : S → Durable → Type 0) (g : Given) (xs ys : List S) : Type 0 where
+  pub stand : (lasts : List Durable) → MayBeFound may ys lasts → StandsForResolved g.script g.opening lasts
+  pub sound : LeavesSound durable may xs ys
 
 -- ---- all of it
 

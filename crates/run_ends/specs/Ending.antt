@@ -9,7 +9,6 @@ use Rattle.base_types.specs.declared.report.Report.{Report}
 use Rattle.client_core.specs.Clients.{ClientNow}
 use Rattle.daos_model.specs.declared.durable.Durable.{Durable}
 use Rattle.daos_model.specs.Durables.{entry_of}
-use Rattle.daos_model.specs.Family.{created_snaps}
 use Rattle.daos_model.specs.FormLaws.{length-map}
 use Rattle.daos_model.specs.Finals.{HeadlineOver}
 use Rattle.daos_model.specs.Headline.{Headline}
@@ -47,7 +46,6 @@ use Rattle.world_base.specs.declared.world.World.{World}
 use Rattle.world_base.specs.Events.{Rules, target_plan}
 use Rattle.world_causes.specs.Causes.{is_try}
 use Rattle.world_legal.specs.closing.Closing.{report_over}
-use Rattle.world_legal.specs.closing.Runs.{runs-keep_sound, runs-stand_for_resolved}
 use Rattle.world_ends.specs.Ends.{durable_of, durables_of, rules_of}
 use Rattle.world_facts.specs.Facts.{IsMember}
 use Rattle.world_lives.specs.Legal.{AreCaused}
@@ -58,8 +56,9 @@ use Rattle.run_ends.specs.Arming.{AreArmed, AreUnfused}
 use Rattle.run_ends.specs.Begun.{first_world, is-begun, state_now, told-is, told-there}
 use Rattle.run_ends.specs.Caused.{end-caused, stops-caused}
 use Rattle.run_ends.specs.Comes.{AreKept, ComesTo, EndsUnstopped, IsAsStored, IsCommittedIn, IsOrdered, IsOutside, IsSoundAgain, LacksMember, MayBeFound, StandPlainly, report_with}
+use Rattle.run_ends.specs.Keeping.{all-tell, first-keeps, sound-again}
 use Rattle.run_ends.specs.Lasts.{are-found, found_at, its-target, keeps-lasts, some-may_be, some_lasts}
-use Rattle.run_ends.specs.Places.{IsMapped, from-map, same-lists}
+use Rattle.run_ends.specs.Places.{IsMapped, from-map}
 use Rattle.run_ends.specs.Starts.{AllTell, HaveStarted, stores_of}
 
 -- an outside that may have caused whatever stopped and was given up
@@ -96,7 +95,7 @@ module _ {S C : Type 0} (durable : S → Option Durable) (state : S → State) (
 
     -- all stores tell what they keep
     all : (s : S) → is_some (durable s) ≡ true
-    all s = let some : 0 < g.script.targets = k.simple.some_target in let many : length xs ≡ g.script.targets = k.many in let x = at-within xs 0 (omega (arith, some, many)) in alike x.0.store s (told-there durable xs told 0 x.0 x.1)
+    all = all-tell durable state may alike g cs xs k told
 
     begun : IsBegun r g.opening first
     begun = is-begun durable state g cs e.armed (fuses-started durable state may xs e.armed e.fuses.fuses g cs k) (fuses-tell durable state may xs e.armed e.fuses.fuses told)
@@ -273,25 +272,10 @@ module _ {S C : Type 0} (durable : S → Option Durable) (state : S → State) (
 
       -- ---- a run after this one
 
-      -- the first world keeps what the stores kept
-      first-keeps : (F : List Durable) → AreKept durable (stores_of xs) F → durables_of first ≡ F
-      first-keeps F f = same-lists (durables_of first) F many-first (λ t d z here at.
-          let s = from-map durable_of first.targets t d here in
-          let x = at-both F (stores_of xs) t z (sym f.many) at in
-          let one : Some s.of_it.durable ≡ Some z = sym (as-stored t x.0 s.of_it x.1 s.at).kept ∙ f.each t x.0 z x.1 at in
-          let same : s.of_it.durable ≡ z = cc in
-          s.is ∙ same)
-        where
-          many-first : length (durables_of first) ≡ length F
-          many-first = length-map durable_of first.targets ∙ length-map (state_now durable state) e.armed ∙ e.fuses.fuses.many ∙ sym (length-map (λ p. p.store) xs) ∙ sym f.many
-
-      sound-again : (F : List Durable) → AreKept durable (stores_of xs) F → Sound F → IsSoundAgain lasts
-      sound-again F f sound =
-          let events = orders-are-runs r g.job.order first last run.run in
-          record {
-            sound = subst Sound keeps (runs-keep_sound r g.opening first last k.simple begun (subst Sound (sym (first-keeps F f)) sound) events);
-            unsnapped = subst (λ ds. created_snaps ds ≡ []) keeps (runs-stand_for_resolved r g.opening first last k.simple begun events).snaps;
-          }
+      leaves-sound : (F : List Durable) → AreKept durable (stores_of xs) F → Sound F → IsSoundAgain lasts
+      leaves-sound F f sound =
+          sound-again r g first last F lasts k.simple begun (orders-are-runs r g.job.order first last run.run)
+          (first-keeps durable state may cs xs e.armed e.fuses.fuses.many (λ t x y at there. (e.fuses.fuses.each t x y at there).kept) all F f) keeps sound
 
       is-ordered : ((t : ℕ) (x : S) → slice_get (stores_of xs) t ≡ Some x → (state x).free ≡ g.opening.free t) → IsOrdered durable state may g report (stores_of xs) (stores_of ys)
       is-ordered free = record {
@@ -316,6 +300,6 @@ module _ {S C : Type 0} (durable : S → Option Durable) (state : S → State) (
       running = store-runs some so;
       settled = record { entries = entries some so; held = held };
       unstopped = ends-unstopped some so;
-      sound = λ F f sound lasts m. sound-again lasts m F f sound;
+      sound = λ F f sound lasts m. leaves-sound lasts m F f sound;
       ordered = is-ordered some so;
     }

@@ -50,22 +50,23 @@ module _ {S : Type 0} (durable : S → Option Durable) (may : S → Durable → 
 -- ---- where a run has ended
 
 module _ {S C : Type 0} (durable : S → Option Durable) (state : S → State) (may : S → Durable → Type 0) where
+  -- what may be found once no fuse is set any more might have been found before
+  module _ (ws ys : List (TargetOf S C)) {write : ℕ → ℕ} (unfused : HaveFuses durable state may write ws ys) (lasts : List Durable) (m : MayBeFound may (stores_of ys) lasts) where
+    pub one-may_be : (t : ℕ) (x : TargetOf S C) → slice_get ws t ≡ Some x → (d : Durable) × (slice_get lasts t ≡ Some d) × may x.store d
+    one-may_be t x at =
+        let y = at-both ws ys t x unfused.many at in
+        let there = map-get (λ z. z.store) ys t y.0 y.1 in
+        let d = at-both (stores_of ys) lasts t y.0.store m.many there in
+        (d.0, d.1, (unfused.each t x y.0 at y.1).left d.0 (m.each t y.0.store d.0 there d.1))
+
   module _ (steady : AreSteady durable state may) (ws ys : List (TargetOf S C)) (watch : WatchNow) (lines : List Line) {write : ℕ → ℕ} (unfused : HaveFuses durable state may write ws ys) where
     abbrev left : StageNow S C
     left = left_of ws watch lines
 
-    -- what may be found once no fuse is set any more might have been found before
     module _ (lasts : List Durable) (m : MayBeFound may (stores_of ys) lasts) where
-      pub one-may_be : (t : ℕ) (x : TargetOf S C) → slice_get ws t ≡ Some x → (d : Durable) × (slice_get lasts t ≡ Some d) × may x.store d
-      one-may_be t x at =
-          let y = at-both ws ys t x unfused.many at in
-          let there = map-get (λ z. z.store) ys t y.0 y.1 in
-          let d = at-both (stores_of ys) lasts t y.0.store m.many there in
-          (d.0, d.1, (unfused.each t x y.0 at y.1).left d.0 (m.each t y.0.store d.0 there d.1))
-
       pub are-found : AreFound may left (found_at lasts)
       are-found t x life place rests =
-          let d = one-may_be t x place.there in
+          let d = one-may_be ws ys unfused lasts m t x place.there in
           subst (may x.store) (ap or_empty (sym d.1)) d.2
 
       -- so the last world keeps that
@@ -81,7 +82,7 @@ module _ {S C : Type 0} (durable : S → Option Durable) (state : S → State) (
         kept-there : (t : ℕ) (s : TargetState) (d : Durable) → slice_get run.last.targets t ≡ Some s → slice_get lasts t ≡ Some d → s.durable ≡ d
         kept-there t s d here at =
             let x = its-target t s here in
-            let e = one-may_be t x.0 x.1 in
+            let e = one-may_be ws ys unfused lasts m t x.0 x.1 in
             let same : e.0 ≡ d = let two : Some e.0 ≡ Some d = sym e.1 ∙ at in cc in
             by s.life x.0 x.2 (subst (may x.0.store) same e.2)
           where

@@ -9,5 +9,6 @@ pub mod Places
 pub mod Begun
 pub mod Armed
 pub mod Lasts
+pub mod Keeping
 pub mod Caused
 pub mod Ending

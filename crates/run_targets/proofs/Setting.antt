@@ -13,6 +13,9 @@ use Rattle.target_core.specs.Targets.{TargetOf}
 use Rattle.vos_store.specs.Calls.{State}
 use Rattle.world_base.specs.StepLaws.{set-is, set-there}
 
+both-ways : (a b : ℕ) → b ≤ a → a ≤ b → a ≡ b
+both-ways a b low high = omega (arith, low, high)
+
 module _ {S C : Type 0} (durable : S → Option Durable) (state : S → State) (may : S → Durable → Type 0) where
   -- fuses of the first t targets were set so, and nothing else of any target changed
   pub record AreSetTo (write : ℕ → ℕ) (t : ℕ) (xs ys : List (TargetOf S C)) : Type 0 where
@@ -83,7 +86,7 @@ module _ {S C : Type 0} (durable : S → Option Durable) (state : S → State) (
   pub all-armed : (t : ℕ) (xs ys : List (TargetOf S C)) (w v : WatchNow) → length xs ≤ t → AreArmedTo t xs ys w v → AreArmed durable state may xs ys w v
   all-armed t xs ys w v all k = record {
     fuses = all-set (λ u. next_fuse u w.stops) t xs ys all k.set;
-    watch = k.watch ∙ ap (λ n. record w { stops = lines_left n w.stops }) (let low = k.set.within in omega (arith, all, low));
+    watch = k.watch ∙ ap (λ n. record w { stops = lines_left n w.stops }) (both-ways t (length xs) all k.set.within);
   }
 
   pub all-unfused : (t : ℕ) (xs ys : List (TargetOf S C)) → length xs ≤ t → AreUnfusedTo t xs ys → AreUnfused durable state may xs ys
