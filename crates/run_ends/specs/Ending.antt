@@ -1,6 +1,6 @@
 -- What a run of clients and targets has come to where it has ended.
-use Rattle.std.specs.Prelude.{ℕ, ◌≡◌, ◌≤◌, ◌<◌, ◌⊎◌, true, false, filter, List, [], All, Contains, length, slice_get, Option, Some, None, is_some, refl}
-use Rattle.std.proofs.Common.{inl, inr, sym, ◌∙◌, ap, subst, arith}
+use Rattle.std.specs.Prelude.{ℕ, ◌≡◌, ◌≤◌, ◌⊎◌, true, false, filter, List, [], All, Contains, length, slice_get, Option, Some, None, is_some, refl}
+use Rattle.std.proofs.Common.{inl, inr, sym, ◌∙◌, ap, subst}
 use Rattle.std.proofs.lemmas.Bool.{true≢false}
 use Rattle.base_types.specs.declared.entry.Entry.{Entry}
 use Rattle.base_types.specs.declared.report.Line.{Line}
@@ -17,7 +17,6 @@ use Rattle.daos_model.specs.Sound.{Sound}
 use Rattle.daos_model.specs.Stops.{AtMostWith, HasTarget, down_targets, is_stop_at, least, lines_at, stop_numbers}
 use Rattle.dtx_base.specs.Members.{has_target}
 use Rattle.model_laws.specs.DecidedLaws.{has-all}
-use Rattle.model_laws.specs.Lists.{at-within}
 use Rattle.model_laws.specs.Members.{contains-from_has, has-from_contains}
 use Rattle.report_writer.specs.Forms.{IsReportOf}
 use Rattle.run_reports.specs.Forms.{orders-report_in_form}
@@ -33,7 +32,7 @@ use Rattle.run_shows.specs.ListLaws.{map-get}
 use Rattle.run_shows.specs.Parts.{at-both}
 use Rattle.run_shows.specs.Shows.{IsTargetOf}
 use Rattle.run_shows.specs.Stages.{StageNow}
-use Rattle.run_steps.specs.Ended.{HasRun, HasRunWith, left_of}
+use Rattle.run_steps.specs.Ended.{AllCanReopen, HasRun, HasRunWith, left_of}
 use Rattle.run_turns.specs.OrderLaws.{orders-are-runs}
 use Rattle.run_watch.specs.Watches.{WatchNow, first_watch}
 use Rattle.script_runnable.specs.Keyed.{MapHasKeys, ScriptHasKeys}
@@ -53,9 +52,9 @@ use Rattle.world_lone.specs.LoneRuns.{AreIssuedThere}
 use Rattle.world_whole.specs.Begins.{IsBegun}
 use Rattle.run_ends.specs.Armed.{before-fuse, fuses-started, fuses-tell, states_of}
 use Rattle.run_ends.specs.Arming.{AreArmed, AreUnfused}
-use Rattle.run_ends.specs.Begun.{first_world, is-begun, state_now, told-is, told-there}
+use Rattle.run_ends.specs.Begun.{first_world, is-begun, state_now, told-is}
 use Rattle.run_ends.specs.Caused.{end-caused, stops-caused}
-use Rattle.run_ends.specs.Comes.{AreKept, ComesTo, EndsUnstopped, IsAsStored, IsCommittedIn, IsOrdered, IsOutside, IsSoundAgain, LacksMember, MayBeFound, StandPlainly, report_with}
+use Rattle.run_ends.specs.Comes.{AreKept, ComesTo, EndsUnstopped, IsAsStored, IsCommittedIn, IsOrdered, IsOutside, IsSoundAgain, LacksMember, LeavesReopenable, MayBeFound, StandPlainly, report_with}
 use Rattle.run_ends.specs.Keeping.{all-tell, first-keeps, sound-again}
 use Rattle.run_ends.specs.Lasts.{are-found, found_at, its-target, keeps-lasts, some-may_be, some_lasts}
 use Rattle.run_ends.specs.Places.{IsMapped, from-map}
@@ -77,6 +76,7 @@ module _ {S C : Type 0} (durable : S → Option Durable) (state : S → State) (
     pub run : HasRunWith durable state may (rules_of g) g.job.order (first_world durable state cs armed) (left_of rest in_the_end lines)
     pub accounted : AreAccounted durable state (states_of state xs) g.script.stops (left_of rest in_the_end lines)
     pub many : length rest ≡ length armed
+    pub reopens : AllCanReopen durable state may rest
     pub unfused : AreUnfused durable state may rest ys
 
   module _ (steady : AreSteady durable state may) (findable : AreFindable durable may) (alike : AreAlike durable) (g : Given) (cs : List ClientNow) (xs ys : List (TargetOf S C)) (lines : List Line) (k : HaveStarted durable state g cs xs)
@@ -284,6 +284,14 @@ module _ {S C : Type 0} (durable : S → Option Durable) (state : S → State) (
         kept = subst (MayBeFound may (stores_of ys)) (sym keeps) m;
       }
 
+    -- the fuses that are taken away leave it so that stores may be opened again
+    reopenable : LeavesReopenable durable may (stores_of ys)
+    reopenable t y at d told f found =
+        let z = from-map (λ p. p.store) ys t y at in
+        let x = before-fuse durable state may e.rest ys e.unfused t z.of_it z.at in
+        let fuse = e.unfused.each t x.0 z.of_it x.1 z.at in
+        e.reopens t x.0 x.1 d (sym fuse.kept ∙ ap durable (sym z.is) ∙ told) f (fuse.left f (subst (λ q. may q f) z.is found))
+
     -- ---- all of it
 
     abbrev some : List Durable
@@ -301,5 +309,6 @@ module _ {S C : Type 0} (durable : S → Option Durable) (state : S → State) (
       settled = record { entries = entries some so; held = held };
       unstopped = ends-unstopped some so;
       sound = λ F f sound lasts m. leaves-sound lasts m F f sound;
+      reopens = reopenable;
       ordered = is-ordered some so;
     }

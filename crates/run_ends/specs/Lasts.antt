@@ -1,5 +1,5 @@
 -- What the stores of targets keep where a run has ended.
-use Rattle.std.specs.Prelude.{ℕ, ◌≡◌, false, true, List, length, map, slice_get, Option, Some, is_some}
+use Rattle.std.specs.Prelude.{ℕ, ◌≡◌, true, List, length, map, slice_get, Option, Some, is_some}
 use Rattle.std.proofs.Common.{sym, ◌∙◌, ap, subst}
 use Rattle.base_types.specs.declared.report.Line.{Line}
 use Rattle.daos_model.specs.declared.durable.Durable.{Durable}

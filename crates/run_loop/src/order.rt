@@ -5,7 +5,7 @@ ghost use Rattle.daos_model.specs.declared.durable.Durable.{Durable};
 ghost use Rattle.daos_model.specs.Opening.{Opening};
 ghost use Rattle.run_base.specs.Orders.{after_pick, pick};
 ghost use Rattle.run_base.specs.Picks.{count_to};
-ghost use Rattle.run_steps.specs.Ended.{HasRunWith, left_of};
+ghost use Rattle.run_steps.specs.Ended.{AllCanReopen, HasRunWith, left_of};
 ghost use Rattle.run_loop.specs.Loops.{all_from_draw, in_order, turn_of};
 ghost use Rattle.run_shows.specs.Accounts.{AreAccounted, AreServed};
 ghost use Rattle.run_shows.specs.CanGo.{CanGo};
@@ -221,6 +221,7 @@ pub fn run_in_order<R: Wait, S: Fuse, C: Clock, G: Gate>(
     ensures served { AreServed S.durable S.state C.is_read stage.targets.items result.0.items }
     ensures accounts { (h : ℕ → State) (stops : List StopDecl) → AreAccounted S.durable S.state h stops (stage_now stage)
         → IfOk result.2 (λ lines. AreAccounted S.durable S.state h stops (left_of result.0.items result.1 lines)) }
+    ensures reopens { IfOk result.2 (λ lines. AllCanReopen S.durable S.state S.may result.0.items) }
 {
     let went = go(rt, alloc, order, &mut stage, gate);
     let Stage {

@@ -1,7 +1,6 @@
 -- Where memory is wanting in a turn, the run has come to a world whose targets keep what the next openings find.
-use Rattle.std.specs.Prelude.{ℕ, ◌≡◌, false, Bool, List, slice_set, Option, Some, None, Result, Ok, Err, OnErr, refl}
+use Rattle.std.specs.Prelude.{ℕ, ◌≡◌, Bool, List, slice_set, Option, Some, None, Result, Ok, Err, OnErr, refl}
 use Rattle.std.proofs.Common.{sym, ◌∙◌, ap, subst}
-use Rattle.base_messages.specs.declared.actor.ActorId.{ActorId}
 use Rattle.daos_model.specs.declared.durable.Durable.{Durable}
 use Rattle.run_shows.specs.Broken.{BreaksOff, GoesOnRuns, breaks-after, breaks-here, breaks-in_work, breaks-then}
 use Rattle.run_shows.specs.CanGo.{CanGo}
@@ -30,7 +29,7 @@ use Rattle.world_base.specs.declared.did.Did.{Did}
 use Rattle.world_base.specs.declared.world.World.{World}
 use Rattle.world_base.specs.Events.{Rules}
 use Rattle.world_base.specs.Letters.{target}
-use Rattle.world_base.specs.Stops.{Goes, WorldRun}
+use Rattle.world_base.specs.Stops.{Goes}
 
 -- A run broke off and left these targets, where stores tell what they keep.
 abbrev pub Breaks : {S C : Type 0} → (S → Option Durable) → (S → State) → (S → Durable → Type 0) → StageNow S C → List (TargetOf S C) → Type 0

@@ -1,8 +1,8 @@
 -- A run of clients and targets, from its first stage to its report.
-use Rattle.std.specs.Prelude.{ℕ, ◌≡◌, ◌≤◌, true, false, List, [], slice_get, Bool, Option, Some, IfErr, IfOk, Err, Ok, Result, refl}
+use Rattle.std.specs.Prelude.{ℕ, ◌≡◌, ◌≤◌, true, false, List, [], slice_get, Option, Some, IfErr, IfOk, Err, Ok, Result, refl}
 use Rattle.std.specs.Vec.{with_items}
 use Rattle.std.specs.declared.vec.Vec.{Vec}
-use Rattle.std.proofs.Common.{sym, ◌∙◌, ap, subst, arith}
+use Rattle.std.proofs.Common.{sym, ◌∙◌, ap, subst}
 use Rattle.std.proofs.lemmas.List.{with_items_is}
 use Rattle.base_types.specs.declared.job.Job.{Job}
 use Rattle.base_types.specs.declared.report.Line.{Line}
@@ -28,7 +28,7 @@ use Rattle.run_shows.specs.Serving.{served-then}
 use Rattle.run_shows.specs.Shows.{Shows}
 use Rattle.run_shows.specs.Stages.{StageNow}
 use Rattle.run_steps.specs.Breaking.{Breaks, broke-between}
-use Rattle.run_steps.specs.Ended.{HasRunWith, left_of}
+use Rattle.run_steps.specs.Ended.{AllCanReopen, HasRunWith, left_of}
 use Rattle.run_watch.specs.Watches.{WatchNow, first_watch}
 use Rattle.target_core.specs.Targets.{TargetOf}
 use Rattle.vos_store.specs.Calls.{State}
@@ -145,8 +145,8 @@ module _ {S C Z : Type 0} (durable : S → Option Durable) (state : S → State)
         pub comes : AreSteady durable state may → AreFindable durable may → AreAlike durable
             → ((r : Rules) (first : World) (p : Opening) → IsSimple r → IsBegun r p first → ((found : ℕ → Durable) → Shows durable state r found stage first) → IfOk ran (λ ls. HasRunWith durable state may r j.order first (left_of rest.items in_the_end ls)))
             → ((h : ℕ → State) (some : List StopDecl) → AreAccounted durable state h some stage → IfOk ran (λ ls. AreAccounted durable state h some (left_of rest.items in_the_end ls)))
-            → (q : Report) → q ≡ report_with s found-lines → AreTyped found-lines → j.attempts ≤ 256 → ComesTo durable state may (given_by s j o) (stores_of v.items) (stores_of (with_items rest ys).items) q
-        comes steady findable alike run accounts q report typed byte =
+            → IfOk ran (λ ls. AllCanReopen durable state may rest.items) → (q : Report) → q ≡ report_with s found-lines → AreTyped found-lines → j.attempts ≤ 256 → ComesTo durable state may (given_by s j o) (stores_of v.items) (stores_of (with_items rest ys).items) q
+        comes steady findable alike run accounts reopens q report typed byte =
             subst (ComesTo durable state may (given_by s j o) (stores_of v.items) (stores_of (with_items rest ys).items)) (sym report)
             (subst (λ zs. ComesTo durable state may (given_by s j o) (stores_of v.items) (stores_of zs) (report_with s found-lines)) (sym (put-is durable state may rest left ys those gone))
             (comes-to durable state may steady findable alike (given_by s j o) cs v.items ys found-lines started told
@@ -159,6 +159,7 @@ module _ {S C Z : Type 0} (durable : S → Option Durable) (state : S → State)
               run = has-run run;
               accounted = accounted accounts;
               many = serves.many;
+              reopens = subst (λ z. IfOk z (λ ls. AllCanReopen durable state may rest.items)) is reopens;
               unfused = subst (λ zs. AreUnfused durable state may zs ys) those gone;
             })
             typed byte))
