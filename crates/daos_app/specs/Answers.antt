@@ -16,7 +16,7 @@ use Rattle.report_writer.specs.Reports.{report_text}
 use Rattle.model_reports.specs.Rooms.{FindsRoom, HasRoom}
 use Rattle.daos_run.specs.Alone.{IsOfLoneClient}
 use Rattle.daos_run.specs.Comes.{FollowsFromZeros}
-use Rattle.run_ends.specs.Comes.{IsLegal}
+use Rattle.daos_run.specs.Legal.{IsLegal}
 use Rattle.daos_status.specs.declared.status.Status.{Status}
 use Rattle.daos_status.specs.declared.status.Status.TheVariants as status
 use Rattle.daos_summary.specs.Summaries.{summary_text}

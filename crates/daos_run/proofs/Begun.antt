@@ -18,8 +18,7 @@ use Rattle.daos_model.specs.FormLaws.{length-map}
 use Rattle.daos_model.specs.Opening.{Opening, top}
 use Rattle.daos_run.specs.Opens.{AreFirst, IsNew}
 use Rattle.script_runnable.specs.Runnable.{IsRunnable, are_run, is_run, runs}
-use Rattle.run_ends.specs.Places.{from-map, same-lists}
-use Rattle.run_ends.specs.Starts.{HasStarted, HaveStarted, given_by, target_state}
+use Rattle.run_targets.specs.Ends.{HasStarted, HaveStarted, from-map, given_by, same-lists, target_state}
 use Rattle.run_shows.specs.Shows.{state_of}
 use Rattle.target_core.specs.Targets.{TargetOf}
 use Rattle.target_parts.specs.Knowing.{IsHeard}

@@ -12,7 +12,7 @@ use Rattle.daos_run.specs.Stops.{ArePartsCalled, MayStop, is_fault_of, stopped_b
 use Rattle.daos_run.proofs.Places.{at-low, store-at, stores-many}
 use Rattle.daos_run.proofs.Slots.{same-pair}
 use Rattle.model_laws.specs.Lists.{at-within}
-use Rattle.run_ends.specs.Places.{one-there, same-lists}
+use Rattle.run_targets.specs.Ends.{one-there, same-lists}
 use Rattle.run_opening.specs.All.{AllRun, FromTo as ListsFromTo}
 use Rattle.run_starts.specs.Calls.{RunAll, WhyNotOpened}
 use Rattle.run_starts.specs.Stops.{is_fault_of as is_start_fault}

@@ -4,8 +4,7 @@ use Rattle.std.proofs.Common.{zero, suc, sym, ◌∙◌, ap, subst, arith}
 use Rattle.std.proofs.lemmas.Option.{slice_get_within}
 use Rattle.daos_model.specs.FormLaws.{length-map}
 use Rattle.daos_run.specs.Slots.{AreBack, AreSet, IsAt, stores_in}
-use Rattle.run_ends.specs.Places.{from-map, same-lists}
-use Rattle.run_ends.specs.Starts.{stores_of}
+use Rattle.run_targets.specs.Ends.{from-map, same-lists, stores_of}
 use Rattle.target_core.specs.Targets.{TargetOf}
 
 -- each place has a store and a clock

@@ -23,10 +23,7 @@ use Rattle.daos_run.specs.Starts.{IsNewStore}
 use Rattle.daos_run.specs.Stops.{HasRisen, IsOpeningFault, MayStop}
 use Rattle.daos_run.proofs.Places.{in-place, store-at, stores-many}
 use Rattle.daos_run.proofs.Unstopped.{no-down-told, no-stops-told}
-use Rattle.run_ends.specs.Comes.{IsLegal, IsOrdered, IsOutside}
-use Rattle.run_ends.specs.Known.{legal-by-any}
-use Rattle.run_ends.specs.Places.{from-map, one-there}
-use Rattle.run_ends.specs.Starts.{given_by}
+use Rattle.run_targets.specs.Ends.{IsLegal, IsOrdered, IsOutside, from-map, given_by, legal-by-any, one-there}
 use Rattle.run_opening.specs.All.{AreKept}
 use Rattle.run_opening.specs.Laws.{AreUnused}
 use Rattle.run_opening.specs.Opened.{enlisted_family, keeps, lasting_snaps}

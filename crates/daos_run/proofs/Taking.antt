@@ -4,7 +4,7 @@ use Rattle.std.proofs.Common.{inl, inr, sym, ◌∙◌, ap, subst, arith}
 use Rattle.std.proofs.lemmas.Bool.{cases_eq}
 use Rattle.daos_run.specs.Slots.{AreApart, AreSetBack, AreTaken, IsAt}
 use Rattle.daos_run.proofs.Slots.{at-last, before-end, beyond, length-end, same-pair}
-use Rattle.run_ends.specs.Places.{one-there}
+use Rattle.run_targets.specs.Ends.{one-there}
 use Rattle.run_shows.specs.ListLaws.{length-set}
 use Rattle.world_base.specs.StepLaws.{set-here, set-there}
 

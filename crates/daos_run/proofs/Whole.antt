@@ -1,5 +1,5 @@
 -- A run of targets that started over stores which were opened for it, from the clients' first turns to the report.
-use Rattle.std.specs.Prelude.{ℕ, ◌≡◌, ◌≤◌, ◌<◌, ◌+◌, ◌^◌, Bool, true, false, List, length, map, slice_get, Option, Some, None, is_some, Ok, refl}
+use Rattle.std.specs.Prelude.{ℕ, ◌≡◌, ◌≤◌, ◌<◌, ◌+◌, ◌^◌, Bool, true, false, List, filter, length, map, slice_get, Option, Some, None, is_some, Ok, refl}
 use Rattle.std.proofs.Common.{sym, ◌∙◌, ap, subst, arith}
 use Rattle.std.proofs.lemmas.Bool.{true≢false}
 use Rattle.std.proofs.lemmas.Option.{slice_get_within}
@@ -25,17 +25,18 @@ use Rattle.daos_run.proofs.Disarmed.{kept-from, unfused-free, unfused-may_run, u
 use Rattle.daos_run.proofs.Places.{at-low, in-place, store-at, stores-back, stores-many}
 use Rattle.daos_run.proofs.Slots.{same-pair}
 use Rattle.model_laws.specs.Lists.{at-within}
-use Rattle.run_ends.specs.Comes.{ComesTo, IsOutside}
-use Rattle.run_ends.specs.Places.{from-map, one-there, same-lists}
-use Rattle.run_ends.specs.Starts.{AllTell, HaveStarted, given_by, stores_of}
+use Rattle.run_targets.specs.Ends.{AllTell, ComesTo, HaveStarted, IsOutside, from-map, given_by, one-there, same-lists, stores_of}
 use Rattle.run_opening.specs.All.{AreKept, FromTo as ListsFromTo}
+use Rattle.run_opening.specs.EnlistLaws.{enlisting-sound}
+use Rattle.run_opening.specs.Opened.{enlisted_family, keeps}
+use Rattle.run_opening.specs.SoundLaws.{opened-sound}
 use Rattle.run_shows.specs.Going.{AreAlike}
 use Rattle.run_shows.specs.Serving.{served-by-runs, served-on}
 use Rattle.run_starts.specs.Starts.{AreOpened, BeginsAs, begun_family}
 use Rattle.script_runnable.specs.Runnable.{IsRunnable}
 use Rattle.target_core.specs.Targets.{TargetOf}
 use Rattle.vos_store.specs.Calls.{State}
-use Rattle.world_whole.specs.Begins.{OpensWith}
+use Rattle.world_whole.specs.Begins.{OpensWith, declared_conts}
 
 -- ---- what stores keep that tell it
 
@@ -246,6 +247,11 @@ module _ {S C : Type 0} (durable : S → Option Durable) (state : S → State) (
             (from.served.tells_fuse ∙ c.0, c.1, omega (arith, more, most));
       }
 
+      ends-so : (L : List Durable) (free : ℕ → ℕ) (q : Report) → ComesTo durable state may (given s j L free) (stores_of xs) (stores_of ys) q → ComesTo durable state may (given s j L free) (stores_in opened) (stores_in new) q
+      ends-so L free q c =
+          subst (λ l. ComesTo durable state may (given s j L free) (stores_in opened) l q) (stores-back j.targets ys slots new after (many ∙ A.many) B)
+          (subst (λ l. ComesTo durable state may (given s j L free) l (stores_of ys) q) their-stores c)
+
       pub come-from : (L : List Durable) (free : ℕ → ℕ) (q : Report) → ComesTo durable state may (given s j L free) (stores_of xs) (stores_of ys) q → ComesFrom durable state may (given s j L free) (stores_in old) (stores_in new) q
       come-from L free q c = record {
         opened = stores_in opened;
@@ -253,5 +259,9 @@ module _ {S C : Type 0} (durable : S → Option Durable) (state : S → State) (
         each = opened-from;
         kept = λ B k. (O B (now-kept B k)).kept;
         since = since;
-        comes = subst (λ l. ComesTo durable state may (given s j L free) (stores_in opened) l q) (stores-back j.targets ys slots new after (many ∙ A.many) B) (subst (λ l. ComesTo durable state may (given s j L free) l (stores_of ys) q) their-stores c);
+        comes = ends-so L free q c;
+        sound = λ F k sound lasts found other.
+            let begun = (O F (now-kept F k)).kept in
+            let again = (ends-so L free q c).sound (begun_family s F) (record { many = begun.many; each = begun.each }) (opened-sound s (enlisted_family (declared_conts s) F) (enlisting-sound (declared_conts s) F sound)) lasts found in
+            record { sound = again.sound; unsnapped = ap (filter (keeps other)) again.unsnapped };
       }

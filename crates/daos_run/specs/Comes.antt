@@ -5,10 +5,12 @@ use Rattle.daos_model.specs.declared.durable.Durable.{Durable}
 use Rattle.daos_model.specs.Changes.{enlisted}
 use Rattle.daos_model.specs.Durables.{empty_durable}
 use Rattle.daos_model.specs.Opening.{Given, Outside}
-use Rattle.run_ends.specs.Comes.{ComesTo, FollowsOrder, IsOutside}
+use Rattle.daos_model.specs.Sound.{Sound}
+use Rattle.base_types.specs.declared.script.Script.{Script}
+use Rattle.run_targets.specs.Ends.{ComesTo, FollowsOrder, IsOutside, MayBeFound}
 use Rattle.run_opening.specs.All.{AreKept, FromTo}
 use Rattle.run_shows.specs.Accounts.{IsServed}
-use Rattle.run_starts.specs.Starts.{begun_family}
+use Rattle.run_starts.specs.Starts.{CanOpen, begun_family}
 use Rattle.vos_store.specs.Calls.{State}
 use Rattle.world_base.specs.declared.target.TargetState.{TargetState}
 use Rattle.world_whole.specs.Begins.{declared_conts}
@@ -20,7 +22,8 @@ pub record IsOpenedFrom {S : Type 0} (durable : S → Option Durable) (state : S
   pub still : (d : Durable) → durable old ≡ Some d → d.entries ≡ [] → (state new).free ≡ (state old).free
 
 -- What a run comes to from these stores: what it comes to from them once they got the script's containers and were opened together. An outside
--- that may have failed them since before may have failed them since.
+-- that may have failed them since before may have failed them since. Whatever the next openings find, another run of any script may begin with it,
+-- where these stores were sound together.
 pub record ComesFrom {S : Type 0} (durable : S → Option Durable) (state : S → State) (may : S → Durable → Type 0) (g : Given) (old new : List S) (q : Report) : Type 0 where
   pub opened : List S
   pub many : length opened ≡ length old
@@ -28,6 +31,7 @@ pub record ComesFrom {S : Type 0} (durable : S → Option Durable) (state : S �
   pub kept : (B : List Durable) → AreKept durable old B → AreKept durable opened (begun_family g.script B)
   pub since : (o : Outside) → IsOutside state o old new → IsOutside state o opened new
   pub comes : ComesTo durable state may g opened new q
+  pub sound : (B : List Durable) → AreKept durable old B → Sound B → (lasts : List Durable) → MayBeFound may new lasts → (s : Script) → CanOpen s lasts
 
 -- A report over regions of zeros tells of the turns in the order asked, from where each target keeps the script's containers alone and was opened once.
 pub record FollowsFromZeros (g : Given) (q : Report) : Type 0 where

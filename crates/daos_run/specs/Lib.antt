@@ -5,3 +5,4 @@ pub mod Starts
 pub mod Stops
 pub mod Comes
 pub mod Alone
+pub mod Legal

@@ -11,7 +11,7 @@ use Rattle.daos_model.specs.Finals.{opening_of}
 use Rattle.daos_model.specs.Opening.{Given}
 use Rattle.dtx_base.specs.Joining.{first_member}
 use Rattle.dtx_base.specs.Leading.{first_memory}
-use Rattle.run_ends.specs.Starts.{given_by}
+use Rattle.run_targets.specs.Ends.{given_by}
 use Rattle.target_core.specs.Targets.{TargetOf}
 use Rattle.target_parts.specs.Knowing.{IsHeard}
 use Rattle.vos_store.specs.Calls.{State}

@@ -2,7 +2,7 @@
 ghost use Rattle.std.specs.Prelude.{◌≡◌, ◌≤◌, [], replicate, IfOk, IsOkUnless, None, OnOk};
 ghost use Rattle.daos_model.specs.Opening.{fresh};
 ghost use Rattle.daos_run.specs.Comes.{FollowsFromZeros};
-ghost use Rattle.run_ends.specs.Comes.{IsLegal};
+ghost use Rattle.run_targets.specs.Ends.{IsLegal};
 ghost use Rattle.report_writer.specs.Forms.{IsReportOf};
 ghost use Rattle.model_reports.specs.Lone.{HasOneClient};
 ghost use Rattle.model_reports.specs.Rooms.{FindsRoom, HasRoom};

@@ -8,9 +8,8 @@ ghost use Rattle.daos_run.specs.Slots.{AreFree, AreSet, ClocksAreRead, FusesAreG
 ghost use Rattle.daos_run.specs.Stops.{IsOpeningFault, MayStop};
 ghost use Rattle.model_reports.specs.Lone.{HasOneClient};
 ghost use Rattle.model_reports.specs.Rooms.{FindsRoom, HasRoom};
-ghost use Rattle.run_ends.specs.Comes.{IsReportOfLines};
+ghost use Rattle.run_targets.specs.Ends.{IsReportOfLines, TellsOfLoneClient};
 ghost use Rattle.run_opening.specs.All.{AreKept};
-ghost use Rattle.run_reports.specs.Reports.{TellsOfLoneClient};
 ghost use Rattle.run_starts.specs.Starts.{CanOpen};
 ghost use Rattle.script_runnable.specs.Runnable.{IsRunnable};
 ghost use Rattle.world_whole.specs.Begins.{declared_conts};

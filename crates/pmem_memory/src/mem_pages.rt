@@ -5,6 +5,7 @@ use pmem_pages::pages::Pages;
 use pmem_pages::refusal::{PageNo, Stopped, TooMuch};
 use pmem_pages::steps::Steps;
 use std::alloc::{AllocError, Global};
+use std::marker::Model;
 use std::sync::ledger::Ledger;
 
 // The number of the first block.
@@ -23,13 +24,23 @@ pub struct MemPages {
     reads: u64,
 }
 
+impl Model for MemPages {
+    ghost use Rattle.pmem_memory.specs.MemPagesState.{MemPagesState};
+
+    ghost Value = { MemPagesState };
+
+    ghost view = { λ p. record { free = p.free; ranges = p.ranges; bytes = p.bytes; reads = p.reads } };
+}
+
 impl MemPages {
     /// So many blocks. No range is left to stage, until `grant` gives some.
     ///
     /// # Errors
     ///
     /// `AllocError` comes where there was no memory.
-    pub fn new(alloc: Global, count: u32) -> Result<MemPages, AllocError> {
+    pub fn new(alloc: Global, count: u32) -> Result<MemPages, AllocError>
+        ensures { IfOk result (λ p. p ≡ record { free = count; ranges = 0; bytes = 0; reads = 0 }) }
+    {
         let mut blocks = Vec::new(alloc);
         let mut next = Vec::new(alloc);
         for block in 0..count {
@@ -48,23 +59,31 @@ impl MemPages {
     }
 
     /// Lets so many ranges and bytes be staged.
-    pub fn grant(&mut self, ranges: u32, bytes: u32) {
+    pub fn grant(&mut self, ranges: u32, bytes: u32)
+        ensures { self.new ≡ record self.old { ranges = ranges; bytes = bytes } }
+    {
         self.ranges = ranges;
         self.bytes = bytes;
     }
 
     /// How many blocks are free.
-    pub fn free(&self) -> u32 {
+    pub fn free(&self) -> u32
+        ensures { result ≡ self.now.free }
+    {
         self.free
     }
 
     /// How many ranges are left to stage.
-    pub fn ranges(&self) -> u32 {
+    pub fn ranges(&self) -> u32
+        ensures { result ≡ self.now.ranges }
+    {
         self.ranges
     }
 
     /// How many blocks were read.
-    pub fn reads(&self) -> u64 {
+    pub fn reads(&self) -> u64
+        ensures { result ≡ self.now.reads }
+    {
         self.reads
     }
 }

@@ -18,17 +18,11 @@ fn goes_to(letter: &Letter, target: TargetId) -> bool
     !letter.to.client && letter.to.number == u16::from(target)
 }
 
-// Those of some letters that don't go to a target.
-fn left_of(alloc: Global, letters: Vec<Letter>, target: TargetId) -> Result<Vec<Letter>, Memory>
-    ensures { IfOk result (λ left. left.items ≡ filter (is_not_to target) letters.items) }
+// What goes to a target is taken out.
+fn take_out(letters: &mut Vec<Letter>, target: TargetId)
+    ensures { letters.new.items ≡ filter (is_not_to target) letters.old.items }
 {
-    let mut left = Vec::new(alloc);
-    for letter in letters {
-        if !goes_to(&letter, target) {
-            left.push(letter)?;
-        }
-    }
-    Ok(left)
+    letters.retain(|letter| !goes_to(letter, target));
 }
 
 // Who sent a letter to a target is told that it got no answer.
@@ -88,9 +82,9 @@ impl Between {
         ensures issued { self.new.issued ≡ self.old.issued }
         ensures lines { self.new.lines ≡ self.old.lines }
     {
-        let messages = replace(&mut self.messages, Vec::new(alloc));
+        let mut messages = replace(&mut self.messages, Vec::new(alloc));
         let asked = replace(&mut self.asked, Vec::new(alloc));
-        let mut messages = left_of(alloc, messages, target)?;
+        take_out(&mut messages, target);
         self.asked = reset_all(alloc, &mut messages, asked, target, down)?;
         self.messages = messages;
         Ok(())

@@ -28,17 +28,11 @@ fn is_lost_by(lives: &[Life], letter: &Letter) -> bool
     !letter.to.client && is_down_in(lives, letter.to.number)
 }
 
-// Those of some letters that don't go to such targets.
-fn left_by(alloc: Global, letters: Vec<Letter>, lives: &[Life]) -> Result<Vec<Letter>, Memory>
-    ensures { IfOk result (λ left. left.items ≡ filter (is_left_by lives.now) letters.items) }
+// What goes to such targets is taken out.
+fn take_out(letters: &mut Vec<Letter>, lives: &[Life])
+    ensures { letters.new.items ≡ filter (is_left_by lives.now) letters.old.items }
 {
-    let mut left = Vec::new(alloc);
-    for letter in letters {
-        if !is_lost_by(lives, &letter) {
-            left.push(letter)?;
-        }
-    }
-    Ok(left)
+    letters.retain(|letter| !is_lost_by(lives, letter));
 }
 
 // Who sent a letter to such a target is told that it got no answer.
@@ -90,7 +84,8 @@ impl Between {
         let mut messages = replace(&mut self.messages, Vec::new(alloc));
         let asked = replace(&mut self.asked, Vec::new(alloc));
         self.asked = reset_lost(alloc, &mut messages, asked, lives)?;
-        self.messages = left_by(alloc, messages, lives)?;
+        take_out(&mut messages, lives);
+        self.messages = messages;
         Ok(())
     }
 }

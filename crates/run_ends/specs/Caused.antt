@@ -42,7 +42,7 @@ none-past t targets lines past bounded = ap (λ ls. length (stop_numbers ls)) (f
 -- ---- of all targets
 
 module _ {S C : Type 0} (durable : S → Option Durable) (state : S → State) (may : S → Durable → Type 0) (all : (s : S) → is_some (durable s) ≡ true) (stops : List StopDecl) (xs ys : List (TargetOf S C)) (a : StageNow S C)
-    (k : AreAccounted durable state (states_of state xs) stops a) (unfused : HaveFuses durable state may a.targets ys) (o : Outside) (outside : IsOutside state o (stores_of xs) (stores_of ys)) where
+    (k : AreAccounted durable state (states_of state xs) stops a) {write : ℕ → ℕ} (unfused : HaveFuses durable state may write a.targets ys) (o : Outside) (outside : IsOutside state o (stores_of xs) (stores_of ys)) where
   module _ (t : ℕ) (x y : TargetOf S C) (here : slice_get xs t ≡ Some x) (there : slice_get ys t ≡ Some y) where
     left : (z : TargetOf S C) × (slice_get a.targets t ≡ Some z)
     left = at-both ys a.targets t y (sym unfused.many) there
@@ -52,7 +52,7 @@ module _ {S C : Type 0} (durable : S → Option Durable) (state : S → State) (
     told = subst (λ h. IsAccounted state h stops a t left.0) (state-at state xs t x here) (k t left.0 left.1 (all left.0.store))
 
     same : (state y.store).faults ≡ (state left.0.store).faults
-    same = ap (λ h. h.faults) (unfused.each t left.0 y left.1 there).1.state_is.rest
+    same = ap (λ h. h.faults) (unfused.each t left.0 y left.1 there).state_is.rest
 
     counts : (n : ℕ) → o.rises t ≡ Some n → ((state x.store).tells_fuse ≡ true) × ((state y.store).faults < 2 ^ 64 - 1) × ((state y.store).faults ≤ (state x.store).faults + n)
     counts n is = outside.counts t x.store y.store n (map-get (λ z. z.store) xs t x here) (map-get (λ z. z.store) ys t y there) is

@@ -7,12 +7,15 @@ use Rattle.base_types.specs.declared.report.Report.{Report}
 use Rattle.base_types.specs.declared.script.Script.{Script}
 use Rattle.daos_model.specs.declared.durable.Durable.{Durable}
 use Rattle.daos_model.specs.Durables.{entry_of}
+use Rattle.daos_model.specs.Family.{created_snaps}
 use Rattle.daos_model.specs.Finals.{HeadlineOver}
 use Rattle.daos_model.specs.Headline.{Headline}
 use Rattle.daos_model.specs.Opening.{Given, Outside, undisturbed}
+use Rattle.daos_model.specs.Sound.{Sound}
 use Rattle.daos_model.specs.Stops.{down_targets, least, stop_numbers}
 use Rattle.dtx_base.specs.Members.{has_target}
 use Rattle.report_writer.specs.Forms.{IsReportOf}
+use Rattle.run_steps.specs.Ended.{CanReopen}
 use Rattle.run_turns.specs.Orders.{InOrder}
 use Rattle.script_runnable.specs.Keyed.{MapHasKeys, ScriptHasKeys}
 use Rattle.vos_store.specs.Calls.{State}
@@ -21,6 +24,7 @@ use Rattle.world_base.specs.declared.target.TargetState.{TargetState}
 use Rattle.world_base.specs.declared.world.World.{World}
 use Rattle.world_ends.specs.Ends.{durables_of, rules_of}
 use Rattle.world_facts.specs.Facts.{IsMember}
+use Rattle.world_legal.specs.closing.Closing.{StandsForResolved}
 use Rattle.world_lone.specs.LoneRuns.{AreIssuedThere}
 use Rattle.world_whole.specs.Begins.{IsBegun}
 
@@ -122,12 +126,36 @@ pub record IsOrdered {S : Type 0} (durable : S → Option Durable) (state : S �
   pub begins : (t : ℕ) (x : S) (s : TargetState) → slice_get xs t ≡ Some x → slice_get follows.first.targets t ≡ Some s → IsAsStored durable state x s
   pub kept : MayBeFound may ys (durables_of follows.last)
 
+-- ---- a run after this one
+
+-- What was kept is sound together, and target 0 holds no snapshot as created.
+pub record IsSoundAgain (lasts : List Durable) : Type 0 where
+  pub sound : Sound lasts
+  pub unsnapped : created_snaps lasts ≡ []
+
+-- Where the stores kept what is sound together, so is whatever their next openings find.
+abbrev pub LeavesSound : {S : Type 0} → (S → Option Durable) → (S → Durable → Type 0) → List S → List S → Type 0
+LeavesSound durable may xs ys = (F : List Durable) → AreKept durable xs F → Sound F → (lasts : List Durable) → MayBeFound may ys lasts → IsSoundAgain lasts
+
+-- Each store may be opened again.
+abbrev pub LeavesReopenable : {S : Type 0} → (S → Option Durable) → (S → Durable → Type 0) → List S → Type 0
+LeavesReopenable {S} durable may ys = (t : ℕ) (y : S) → slice_get ys t ≡ Some y → CanReopen durable may y
+
+-- ---- where memory was wanting
+
+-- Whatever the next openings find stands for the opening and the attempts that are resolved there; and it is sound where the stores kept what is
+-- sound together.
+pub record BreaksOffSo {S : Type 0} (durable : S → Option Durable) (may : S → Durable → Type 0) (g : Given) (xs ys : List S) : Type 0 where
+  pub stand : (lasts : List Durable) → MayBeFound may ys lasts → StandsForResolved g.script g.opening lasts
+  pub sound : LeavesSound durable may xs ys
+
 -- ---- all of it
 
 -- What a run of these targets, which begins so, comes to. Whatever the next openings of their stores find, these stand for what the report
 -- tells, which is legal, by the headline, for each outside that may have failed them so. The report is in form where names and keys are keys;
--- one of the targets issued each epoch of which it tells; stores of targets that weren't given up run, and nothing is left to settle there; and
--- the report tells of the turns in the order asked, where just so many blocks were free at the beginning.
+-- one of the targets issued each epoch of which it tells; stores of targets that weren't given up run, and nothing is left to settle there; what is
+-- kept is sound again, and may be opened again; and the report tells of the turns in the order asked, where just so many blocks were free at the
+-- beginning.
 pub record ComesTo {S : Type 0} (durable : S → Option Durable) (state : S → State) (may : S → Durable → Type 0) (g : Given) (xs ys : List S) (q : Report) : Type 0 where
   pub stand : (lasts : List Durable) (o : Outside) → MayBeFound may ys lasts → IsOutside state o xs ys → HeadlineOver g o lasts q
   pub form : ScriptHasKeys g.script → MapHasKeys g.opening.stand.now → IsReportOf g.script q
@@ -135,4 +163,6 @@ pub record ComesTo {S : Type 0} (durable : S → Option Durable) (state : S → 
   pub running : LeavesRunning state q ys
   pub settled : LeavesSettled durable may g q ys
   pub unstopped : stop_numbers q.lines ≡ [] → EndsUnstopped durable g q ys
+  pub sound : LeavesSound durable may xs ys
+  pub reopens : LeavesReopenable durable may ys
   pub ordered : ((t : ℕ) (x : S) → slice_get xs t ≡ Some x → (state x).free ≡ g.opening.free t) → IsOrdered durable state may g q xs ys

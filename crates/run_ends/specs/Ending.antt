@@ -1,6 +1,6 @@
 -- What a run of clients and targets has come to where it has ended.
-use Rattle.std.specs.Prelude.{ℕ, ◌≡◌, ◌≤◌, ◌<◌, ◌⊎◌, true, false, filter, List, [], All, Contains, length, slice_get, Option, Some, None, is_some, refl}
-use Rattle.std.proofs.Common.{inl, inr, sym, ◌∙◌, ap, subst, arith}
+use Rattle.std.specs.Prelude.{ℕ, ◌≡◌, ◌≤◌, ◌⊎◌, true, false, filter, List, [], All, Contains, length, slice_get, Option, Some, None, is_some, refl}
+use Rattle.std.proofs.Common.{inl, inr, sym, ◌∙◌, ap, subst}
 use Rattle.std.proofs.lemmas.Bool.{true≢false}
 use Rattle.base_types.specs.declared.entry.Entry.{Entry}
 use Rattle.base_types.specs.declared.report.Line.{Line}
@@ -13,10 +13,10 @@ use Rattle.daos_model.specs.FormLaws.{length-map}
 use Rattle.daos_model.specs.Finals.{HeadlineOver}
 use Rattle.daos_model.specs.Headline.{Headline}
 use Rattle.daos_model.specs.Opening.{Given, Outside, undisturbed}
+use Rattle.daos_model.specs.Sound.{Sound}
 use Rattle.daos_model.specs.Stops.{AtMostWith, HasTarget, down_targets, is_stop_at, least, lines_at, stop_numbers}
 use Rattle.dtx_base.specs.Members.{has_target}
 use Rattle.model_laws.specs.DecidedLaws.{has-all}
-use Rattle.model_laws.specs.Lists.{at-within}
 use Rattle.model_laws.specs.Members.{contains-from_has, has-from_contains}
 use Rattle.report_writer.specs.Forms.{IsReportOf}
 use Rattle.run_reports.specs.Forms.{orders-report_in_form}
@@ -27,12 +27,13 @@ use Rattle.run_reports.specs.Reports.{AreTyped, EndsPlainlyIn, GoesInOrder, IsSe
 use Rattle.run_reports.specs.Unknown.{down-among}
 use Rattle.run_reports.specs.Unstopped.{unstopped-end-plainly}
 use Rattle.run_shows.specs.Accounts.{AreAccounted}
-use Rattle.run_shows.specs.Going.{AreAlike, AreFindable}
+use Rattle.run_shows.specs.Going.{AreAlike, AreFindable, AreSteady}
 use Rattle.run_shows.specs.ListLaws.{map-get}
 use Rattle.run_shows.specs.Parts.{at-both}
 use Rattle.run_shows.specs.Shows.{IsTargetOf}
 use Rattle.run_shows.specs.Stages.{StageNow}
-use Rattle.run_steps.specs.Ended.{HasRun, HasRunWith, left_of}
+use Rattle.run_steps.specs.Ended.{AllCanReopen, HasRun, HasRunWith, left_of}
+use Rattle.run_turns.specs.OrderLaws.{orders-are-runs}
 use Rattle.run_watch.specs.Watches.{WatchNow, first_watch}
 use Rattle.script_runnable.specs.Keyed.{MapHasKeys, ScriptHasKeys}
 use Rattle.target_core.specs.Targets.{TargetOf}
@@ -43,18 +44,19 @@ use Rattle.world_base.specs.declared.target.TargetState.{TargetState}
 use Rattle.world_base.specs.declared.world.World.{World}
 use Rattle.world_base.specs.Events.{Rules, target_plan}
 use Rattle.world_causes.specs.Causes.{is_try}
-use Rattle.world_closing.specs.Closing.{report_over}
+use Rattle.world_legal.specs.closing.Closing.{report_over}
 use Rattle.world_ends.specs.Ends.{durable_of, durables_of, rules_of}
 use Rattle.world_facts.specs.Facts.{IsMember}
 use Rattle.world_lives.specs.Legal.{AreCaused}
 use Rattle.world_lone.specs.LoneRuns.{AreIssuedThere}
 use Rattle.world_whole.specs.Begins.{IsBegun}
 use Rattle.run_ends.specs.Armed.{before-fuse, fuses-started, fuses-tell, states_of}
-use Rattle.run_ends.specs.Arming.{AreArmed, HaveFuses}
-use Rattle.run_ends.specs.Begun.{first_world, is-begun, state_now, told-is, told-there}
+use Rattle.run_ends.specs.Arming.{AreArmed, AreUnfused}
+use Rattle.run_ends.specs.Begun.{first_world, is-begun, state_now, told-is}
 use Rattle.run_ends.specs.Caused.{end-caused, stops-caused}
-use Rattle.run_ends.specs.Comes.{ComesTo, EndsUnstopped, IsAsStored, IsCommittedIn, IsOrdered, IsOutside, LacksMember, MayBeFound, StandPlainly, report_with}
-use Rattle.run_ends.specs.Lasts.{AreSteady, are-found, found_at, its-target, keeps-lasts, some-may_be, some_lasts}
+use Rattle.run_ends.specs.Comes.{AreKept, ComesTo, EndsUnstopped, IsAsStored, IsCommittedIn, IsOrdered, IsOutside, IsSoundAgain, LacksMember, LeavesReopenable, MayBeFound, StandPlainly, report_with}
+use Rattle.run_ends.specs.Keeping.{all-tell, first-keeps, sound-again}
+use Rattle.run_ends.specs.Lasts.{are-found, found_at, its-target, keeps-lasts, some-may_be, some_lasts}
 use Rattle.run_ends.specs.Places.{IsMapped, from-map}
 use Rattle.run_ends.specs.Starts.{AllTell, HaveStarted, stores_of}
 
@@ -74,7 +76,8 @@ module _ {S C : Type 0} (durable : S → Option Durable) (state : S → State) (
     pub run : HasRunWith durable state may (rules_of g) g.job.order (first_world durable state cs armed) (left_of rest in_the_end lines)
     pub accounted : AreAccounted durable state (states_of state xs) g.script.stops (left_of rest in_the_end lines)
     pub many : length rest ≡ length armed
-    pub unfused : HaveFuses durable state may rest ys
+    pub reopens : AllCanReopen durable state may rest
+    pub unfused : AreUnfused durable state may rest ys
 
   module _ (steady : AreSteady durable state may) (findable : AreFindable durable may) (alike : AreAlike durable) (g : Given) (cs : List ClientNow) (xs ys : List (TargetOf S C)) (lines : List Line) (k : HaveStarted durable state g cs xs)
       (told : AllTell durable (stores_of xs)) (e : HasEndedSo g cs xs ys lines) where
@@ -92,7 +95,7 @@ module _ {S C : Type 0} (durable : S → Option Durable) (state : S → State) (
 
     -- all stores tell what they keep
     all : (s : S) → is_some (durable s) ≡ true
-    all s = let some : 0 < g.script.targets = k.simple.some_target in let many : length xs ≡ g.script.targets = k.many in let x = at-within xs 0 (omega (arith, some, many)) in alike x.0.store s (told-there durable xs told 0 x.0 x.1)
+    all = all-tell durable state may alike g cs xs k told
 
     begun : IsBegun r g.opening first
     begun = is-begun durable state g cs e.armed (fuses-started durable state may xs e.armed e.fuses.fuses g cs k) (fuses-tell durable state may xs e.armed e.fuses.fuses told)
@@ -130,7 +133,7 @@ module _ {S C : Type 0} (durable : S → Option Durable) (state : S → State) (
       kept-running t z s at here runs =
           let x = its-target durable state may steady e.rest ys e.in_the_end lines e.unfused lasts m r g.job.order first run t s here in
           let y = from-map (λ p. p.store) ys t z at in
-          ap durable y.is ∙ (e.unfused.each t x.0 y.of_it x.1 y.at).1.kept ∙ (subst (λ l. IsTargetOf durable state (target_plan r t) l (found_at lasts t) x.0 s) runs x.2).so.told
+          ap durable y.is ∙ (e.unfused.each t x.0 y.of_it x.1 y.at).kept ∙ (subst (λ l. IsTargetOf durable state (target_plan r t) l (found_at lasts t) x.0 s) runs x.2).so.told
 
       there : (t : ℕ) (z : S) → slice_get (stores_of ys) t ≡ Some z → (s : TargetState) × (slice_get last.targets t ≡ Some s)
       there t z at = at-both (stores_of ys) last.targets t z (run.many ∙ sym e.unfused.many ∙ sym (length-map (λ p. p.store) ys)) at
@@ -229,7 +232,7 @@ module _ {S C : Type 0} (durable : S → Option Durable) (state : S → State) (
           let s = there t z at in
           let x = its-target durable state may steady e.rest ys e.in_the_end lines e.unfused lasts m r g.job.order first run t s.0 s.1 in
           let y = from-map (λ p. p.store) ys t z at in
-          ap (λ q. (state q).stopped) y.is ∙ ap (λ h. h.stopped) (e.unfused.each t x.0 y.of_it x.1 y.at).1.state_is.rest ∙ (subst (λ l. IsTargetOf durable state (target_plan r t) l (found_at lasts t) x.0 s.0) (runs-there t z s.0 at s.1 up) x.2).so.running
+          ap (λ q. (state q).stopped) y.is ∙ ap (λ h. h.stopped) (e.unfused.each t x.0 y.of_it x.1 y.at).state_is.rest ∙ (subst (λ l. IsTargetOf durable state (target_plan r t) l (found_at lasts t) x.0 s.0) (runs-there t z s.0 at s.1 up) x.2).so.running
 
       -- what a target keeps that wasn't given up
       entries : (t : ℕ) (y : S) (d : Durable) (x : Entry) → slice_get (stores_of ys) t ≡ Some y → (Contains (down_targets lines) t → ⊥) → durable y ≡ Some d → Contains d.entries x → (x.committed ≡ true) ⊎ LacksMember g report x.attempt
@@ -253,7 +256,7 @@ module _ {S C : Type 0} (durable : S → Option Durable) (state : S → State) (
       free-first free t s here =
           let z = from-map (state_now durable state) e.armed t s here in
           let x = before-fuse durable state may xs e.armed e.fuses.fuses t z.of_it z.at in
-          ap (λ y. y.free) z.is ∙ ap (λ h. h.free) (e.fuses.fuses.each t x.0 z.of_it x.1 z.at).1.state_is.rest ∙ free t x.0.store (map-get (λ p. p.store) xs t x.0 x.1)
+          ap (λ y. y.free) z.is ∙ ap (λ h. h.free) (e.fuses.fuses.each t x.0 z.of_it x.1 z.at).state_is.rest ∙ free t x.0.store (map-get (λ p. p.store) xs t x.0 x.1)
 
       -- a target of that world is as its store says, since a fuse changes nothing of this
       as-stored : (t : ℕ) (x : S) (s : TargetState) → slice_get (stores_of xs) t ≡ Some x → slice_get first.targets t ≡ Some s → IsAsStored durable state x s
@@ -263,9 +266,16 @@ module _ {S C : Type 0} (durable : S → Option Durable) (state : S → State) (
           let f = e.fuses.fuses.each t y.0 z.of_it y.1 z.at in
           let same : y.0.store ≡ x = let two : Some y.0.store ≡ Some x = sym (map-get (λ p. p.store) xs t y.0 y.1) ∙ at in cc in
           record {
-            kept = ap durable (sym same) ∙ sym f.1.kept ∙ told-is (durable z.of_it.store) (all z.of_it.store) ∙ ap (λ q. Some q.durable) (sym z.is);
-            opening = ap (λ q. q.opening) z.is ∙ ap (λ h. h.opening) f.1.state_is.rest ∙ ap (λ q. (state q).opening) same;
+            kept = ap durable (sym same) ∙ sym f.kept ∙ told-is (durable z.of_it.store) (all z.of_it.store) ∙ ap (λ q. Some q.durable) (sym z.is);
+            opening = ap (λ q. q.opening) z.is ∙ ap (λ h. h.opening) f.state_is.rest ∙ ap (λ q. (state q).opening) same;
           }
+
+      -- ---- a run after this one
+
+      leaves-sound : (F : List Durable) → AreKept durable (stores_of xs) F → Sound F → IsSoundAgain lasts
+      leaves-sound F f sound =
+          sound-again r g first last F lasts k.simple begun (orders-are-runs r g.job.order first last run.run)
+          (first-keeps durable state may cs xs e.armed e.fuses.fuses.many (λ t x y at there. (e.fuses.fuses.each t x y at there).kept) all F f) keeps sound
 
       is-ordered : ((t : ℕ) (x : S) → slice_get (stores_of xs) t ≡ Some x → (state x).free ≡ g.opening.free t) → IsOrdered durable state may g report (stores_of xs) (stores_of ys)
       is-ordered free = record {
@@ -273,6 +283,14 @@ module _ {S C : Type 0} (durable : S → Option Durable) (state : S → State) (
         begins = as-stored;
         kept = subst (MayBeFound may (stores_of ys)) (sym keeps) m;
       }
+
+    -- the fuses that are taken away leave it so that stores may be opened again
+    reopenable : LeavesReopenable durable may (stores_of ys)
+    reopenable t y at d told f found =
+        let z = from-map (λ p. p.store) ys t y at in
+        let x = before-fuse durable state may e.rest ys e.unfused t z.of_it z.at in
+        let fuse = e.unfused.each t x.0 z.of_it x.1 z.at in
+        e.reopens t x.0 x.1 d (sym fuse.kept ∙ ap durable (sym z.is) ∙ told) f (fuse.left f (subst (λ q. may q f) z.is found))
 
     -- ---- all of it
 
@@ -290,5 +308,7 @@ module _ {S C : Type 0} (durable : S → Option Durable) (state : S → State) (
       running = store-runs some so;
       settled = record { entries = entries some so; held = held };
       unstopped = ends-unstopped some so;
+      sound = λ F f sound lasts m. leaves-sound lasts m F f sound;
+      reopens = reopenable;
       ordered = is-ordered some so;
     }

@@ -1,5 +1,5 @@
 -- Where it is known what became of each attempt, it doesn't matter which attempts are taken as resolved.
-use Rattle.std.specs.Prelude.{◌≡◌, ◌++◌, Bool, true, false, All, List, [], ◌∷◌, Option, None, refl, if◌then◌else◌}
+use Rattle.std.specs.Prelude.{◌≡◌, ◌++◌, Bool, false, All, List, [], ◌∷◌, None, refl, if◌then◌else◌}
 use Rattle.std.proofs.Common.{◌∙◌, ap, subst}
 use Rattle.std.proofs.lemmas.List.Elements.{All-head, All-tail}
 use Rattle.base_types.specs.declared.id.AttemptId.{AttemptId}

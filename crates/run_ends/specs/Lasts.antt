@@ -1,10 +1,10 @@
 -- What the stores of targets keep where a run has ended.
-use Rattle.std.specs.Prelude.{ℕ, ◌≡◌, false, true, List, length, map, slice_get, Option, Some, is_some}
+use Rattle.std.specs.Prelude.{ℕ, ◌≡◌, true, List, length, map, slice_get, Option, Some, is_some}
 use Rattle.std.proofs.Common.{sym, ◌∙◌, ap, subst}
 use Rattle.base_types.specs.declared.report.Line.{Line}
 use Rattle.daos_model.specs.declared.durable.Durable.{Durable}
 use Rattle.daos_model.specs.FormLaws.{length-map}
-use Rattle.run_shows.specs.Going.{AreFindable}
+use Rattle.run_shows.specs.Going.{AreFindable, AreSteady}
 use Rattle.run_shows.specs.ListLaws.{map-get}
 use Rattle.run_shows.specs.Parts.{at-both}
 use Rattle.run_shows.specs.Shows.{IsTargetOf}
@@ -24,10 +24,6 @@ use Rattle.run_ends.specs.Begun.{or_empty}
 use Rattle.run_ends.specs.Comes.{MayBeFound}
 use Rattle.run_ends.specs.Places.{from-map, same-lists}
 use Rattle.run_ends.specs.Starts.{stores_of}
-
--- a store that isn't stopped opens with what it keeps
-abbrev pub AreSteady : {S : Type 0} → (S → Option Durable) → (S → State) → (S → Durable → Type 0) → Type 0
-AreSteady {S} durable state may = (s : S) (d x : Durable) → (state s).stopped ≡ false → durable s ≡ Some d → may s x → x ≡ d
 
 -- of these one is at a place
 abbrev pub found_at : List Durable → ℕ → Durable
@@ -54,22 +50,23 @@ module _ {S : Type 0} (durable : S → Option Durable) (may : S → Durable → 
 -- ---- where a run has ended
 
 module _ {S C : Type 0} (durable : S → Option Durable) (state : S → State) (may : S → Durable → Type 0) where
-  module _ (steady : AreSteady durable state may) (ws ys : List (TargetOf S C)) (watch : WatchNow) (lines : List Line) (unfused : HaveFuses durable state may ws ys) where
+  -- what may be found once no fuse is set any more might have been found before
+  module _ (ws ys : List (TargetOf S C)) {write : ℕ → ℕ} (unfused : HaveFuses durable state may write ws ys) (lasts : List Durable) (m : MayBeFound may (stores_of ys) lasts) where
+    pub one-may_be : (t : ℕ) (x : TargetOf S C) → slice_get ws t ≡ Some x → (d : Durable) × (slice_get lasts t ≡ Some d) × may x.store d
+    one-may_be t x at =
+        let y = at-both ws ys t x unfused.many at in
+        let there = map-get (λ z. z.store) ys t y.0 y.1 in
+        let d = at-both (stores_of ys) lasts t y.0.store m.many there in
+        (d.0, d.1, (unfused.each t x y.0 at y.1).left d.0 (m.each t y.0.store d.0 there d.1))
+
+  module _ (steady : AreSteady durable state may) (ws ys : List (TargetOf S C)) (watch : WatchNow) (lines : List Line) {write : ℕ → ℕ} (unfused : HaveFuses durable state may write ws ys) where
     abbrev left : StageNow S C
     left = left_of ws watch lines
 
-    -- what may be found once no fuse is set any more might have been found before
     module _ (lasts : List Durable) (m : MayBeFound may (stores_of ys) lasts) where
-      pub one-may_be : (t : ℕ) (x : TargetOf S C) → slice_get ws t ≡ Some x → (d : Durable) × (slice_get lasts t ≡ Some d) × may x.store d
-      one-may_be t x at =
-          let y = at-both ws ys t x unfused.many at in
-          let there = map-get (λ z. z.store) ys t y.0 y.1 in
-          let d = at-both (stores_of ys) lasts t y.0.store m.many there in
-          (d.0, d.1, (unfused.each t x y.0 at y.1).1.left d.0 (m.each t y.0.store d.0 there d.1))
-
       pub are-found : AreFound may left (found_at lasts)
       are-found t x life place rests =
-          let d = one-may_be t x place.there in
+          let d = one-may_be ws ys unfused lasts m t x place.there in
           subst (may x.store) (ap or_empty (sym d.1)) d.2
 
       -- so the last world keeps that
@@ -85,7 +82,7 @@ module _ {S C : Type 0} (durable : S → Option Durable) (state : S → State) (
         kept-there : (t : ℕ) (s : TargetState) (d : Durable) → slice_get run.last.targets t ≡ Some s → slice_get lasts t ≡ Some d → s.durable ≡ d
         kept-there t s d here at =
             let x = its-target t s here in
-            let e = one-may_be t x.0 x.1 in
+            let e = one-may_be ws ys unfused lasts m t x.0 x.1 in
             let same : e.0 ≡ d = let two : Some e.0 ≡ Some d = sym e.1 ∙ at in cc in
             by s.life x.0 x.2 (subst (may x.0.store) same e.2)
           where

@@ -1,17 +1,18 @@
 // The order of turns.
-ghost use Rattle.std.specs.Prelude.{◌≡◌, ◌≤◌, ◌<◌, ℕ, Bool, List, max, length, IfOk, OnOk};
+ghost use Rattle.std.specs.Prelude.{◌≡◌, ◌≤◌, ◌<◌, ℕ, Bool, List, max, length, IfErr, IfOk, OnErr, OnOk};
 ghost use Rattle.base_types.specs.declared.script.StopDecl.{StopDecl};
 ghost use Rattle.daos_model.specs.declared.durable.Durable.{Durable};
 ghost use Rattle.daos_model.specs.Opening.{Opening};
 ghost use Rattle.run_base.specs.Orders.{after_pick, pick};
 ghost use Rattle.run_base.specs.Picks.{count_to};
-ghost use Rattle.run_steps.specs.Ended.{HasRunWith, left_of};
+ghost use Rattle.run_steps.specs.Ended.{AllCanReopen, HasRunWith, left_of};
 ghost use Rattle.run_loop.specs.Loops.{all_from_draw, in_order, turn_of};
 ghost use Rattle.run_shows.specs.Accounts.{AreAccounted, AreServed};
 ghost use Rattle.run_shows.specs.CanGo.{CanGo};
 ghost use Rattle.run_shows.specs.Due.{IsActor, IsUp};
 ghost use Rattle.run_shows.specs.Shows.{Shows};
 ghost use Rattle.run_stage.specs.Now.{stage_now};
+ghost use Rattle.run_steps.specs.Breaking.{Breaks};
 ghost use Rattle.run_steps.specs.Going.{GoesOn};
 ghost use Rattle.run_turns.specs.Orders.{InRounds, RoundOf};
 ghost use Rattle.run_turns.specs.Turns.{heard_in};
@@ -63,6 +64,7 @@ fn turn<S: Fuse, C: Clock>(
     requires few_clients { length stage.old.clients.items ≤ 65535 }
     requires message { message < max 1 (count_to actor stage.old.between.messages) }
     ensures goes { OnOk result (GoesOn S.durable S.state S.may C.is_read (turn_of settling actor message) (stage_now stage.old) (stage_now stage.new)) }
+    ensures broke { OnErr result (Breaks S.durable S.state S.may (stage_now stage.old) stage.new.targets.items) }
     ensures served { AreServed S.durable S.state C.is_read stage.old.targets.items stage.new.targets.items }
 {
     let number = usize::from(actor.number);
@@ -85,6 +87,7 @@ fn round<S: Fuse, C: Clock, G: Gate>(
     requires few_clients { length stage.old.clients.items ≤ 65535 }
     requires few_targets { length stage.old.targets.items ≤ 255 }
     ensures goes { OnOk result (GoesOn S.durable S.state S.may C.is_read (RoundOf settling) (stage_now stage.old) (stage_now stage.new)) }
+    ensures broke { OnErr result (Breaks S.durable S.state S.may (stage_now stage.old) stage.new.targets.items) }
     ensures served { AreServed S.durable S.state C.is_read stage.old.targets.items stage.new.targets.items }
 {
     for n in 0..stage.clients.len() {
@@ -115,6 +118,7 @@ fn go_round<R: Wait, S: Fuse, C: Clock, G: Gate>(
     requires few_clients { length stage.old.clients.items ≤ 65535 }
     requires few_targets { length stage.old.targets.items ≤ 255 }
     ensures goes { OnOk result (GoesOn S.durable S.state S.may C.is_read (InRounds settling) (stage_now stage.old) (stage_now stage.new)) }
+    ensures broke { OnErr result (Breaks S.durable S.state S.may (stage_now stage.old) stage.new.targets.items) }
     ensures served { AreServed S.durable S.state C.is_read stage.old.targets.items stage.new.targets.items }
 {
     for _ in rt.forever() {
@@ -154,6 +158,7 @@ fn go_drawn<R: Wait, S: Fuse, C: Clock, G: Gate>(
     requires few_clients { length stage.old.clients.items ≤ 65535 }
     requires few_targets { length stage.old.targets.items ≤ 255 }
     ensures goes { OnOk result (GoesOn S.durable S.state S.may C.is_read (all_from_draw settling x.old x.new) (stage_now stage.old) (stage_now stage.new)) }
+    ensures broke { OnErr result (Breaks S.durable S.state S.may (stage_now stage.old) stage.new.targets.items) }
     ensures served { AreServed S.durable S.state C.is_read stage.old.targets.items stage.new.targets.items }
 {
     for _ in rt.forever() {
@@ -183,6 +188,7 @@ fn go<R: Wait, S: Fuse, C: Clock, G: Gate>(
     requires few_clients { length stage.old.clients.items ≤ 65535 }
     requires few_targets { length stage.old.targets.items ≤ 255 }
     ensures goes { OnOk result (GoesOn S.durable S.state S.may C.is_read (in_order order) (stage_now stage.old) (stage_now stage.new)) }
+    ensures broke { OnErr result (Breaks S.durable S.state S.may (stage_now stage.old) stage.new.targets.items) }
     ensures served { AreServed S.durable S.state C.is_read stage.old.targets.items stage.new.targets.items }
 {
     let mut number = 0;
@@ -211,9 +217,11 @@ pub fn run_in_order<R: Wait, S: Fuse, C: Clock, G: Gate>(
     requires few_clients { length stage.clients.items ≤ 65535 }
     ensures run { (r : Rules) (w : World) (o : Opening) → IsSimple r → IsBegun r o w → ((found : ℕ → Durable) → Shows S.durable S.state r found (stage_now stage) w)
         → IfOk result.2 (λ lines. HasRunWith S.durable S.state S.may r order w (left_of result.0.items result.1 lines)) }
+    ensures broke { IfErr result.2 (λ error. Breaks S.durable S.state S.may (stage_now stage) result.0.items) }
     ensures served { AreServed S.durable S.state C.is_read stage.targets.items result.0.items }
     ensures accounts { (h : ℕ → State) (stops : List StopDecl) → AreAccounted S.durable S.state h stops (stage_now stage)
         → IfOk result.2 (λ lines. AreAccounted S.durable S.state h stops (left_of result.0.items result.1 lines)) }
+    ensures reopens { IfOk result.2 (λ lines. AllCanReopen S.durable S.state S.may result.0.items) }
 {
     let went = go(rt, alloc, order, &mut stage, gate);
     let Stage {

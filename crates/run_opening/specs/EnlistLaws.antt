@@ -21,7 +21,8 @@ use Rattle.daos_model.specs.FormLaws.{enlisted-in_form, length-map}
 use Rattle.daos_model.specs.Opening.{kept}
 use Rattle.daos_model.specs.Sound.{IsCovered, IsPlaced, IsSoundAt, SayTheSame, Sound}
 use Rattle.daos_model.specs.Ordered.{put}
-use Rattle.run_opening.specs.Alike.{KeepsData, at-alike, counts-alike, created-alike, map-alike, stand-alike}
+use Rattle.run_opening.specs.Alike.{KeepsData, stand-alike}
+use Rattle.run_opening.specs.AlikeSound.{alike-sound}
 use Rattle.run_opening.specs.Laws.{EnlistingKeepsForm, EnlistingKeepsOpenings, EnlistingKeepsSound, OpenedKnowContainers}
 use Rattle.run_opening.specs.Opened.{enlisted_family, opened}
 use Rattle.run_opening.specs.SoundLaws.{at-mapped}
@@ -74,62 +75,18 @@ enlisted-data : (cs : List ContId) → KeepsData (enlisted cs)
 unfolding enlisted
 enlisted-data cs = record { versions = λ d. refl; entries = λ d. refl; snaps = λ d. refl }
 
--- replicas agree as they did
-agree-on : (cs : List ContId) (F : List Durable) (p : Version → Bool) → AgreeOn F p → AgreeOn (enlisted_family cs F) p
-agree-on cs F p agree c t u d e dkey i j at bt =
-    let x = at-mapped (enlisted cs) F t d at in
-    let y = at-mapped (enlisted cs) F u e bt in
-    let many : length (enlisted_family cs F) ≡ length F = length-map (enlisted cs) F in
-    subst (λ z. value_at z c ≡ value_at (map_where p e) c) (sym (map-alike (enlisted cs) (enlisted-data cs) p x.0) ∙ ap (map_where p) x.2)
-    (subst (λ z. value_at (map_where p x.0) c ≡ value_at z c) (sym (map-alike (enlisted cs) (enlisted-data cs) p y.0) ∙ ap (map_where p) y.2)
-    (agree c t u x.0 y.0 dkey (subst (λ n. Contains (path_members c.path n) t) many i) (subst (λ n. Contains (path_members c.path n) u) many j) x.1 y.1))
-
-module _ (cs : List ContId) (F : List Durable) (k : Sound F) where
-  agrees : Agree (enlisted_family cs F)
-  agrees = record {
-    now = subst (AgreeOn (enlisted_family cs F)) (sym (counts-alike (enlisted cs) (enlisted-data cs).entries F)) (agree-on cs F (counts F) k.agree.now);
-    snaps = subst (All (λ x. AgreeOn (enlisted_family cs F) (counts_at (enlisted_family cs F) x))) (sym (created-alike (enlisted cs) (enlisted-data cs) F))
-        (all-from_has (λ x. AgreeOn (enlisted_family cs F) (counts_at (enlisted_family cs F) x)) (created_snaps F)
-        (λ x i. subst (AgreeOn (enlisted_family cs F)) (sym (at-alike (enlisted cs) (enlisted-data cs) F x)) (agree-on cs F (counts_at F x) (has-all (λ y. AgreeOn F (counts_at F y)) (created_snaps F) x k.agree.snaps i))));
-  }
-
-  covered-enlisted : (d : Durable) → IsCovered d → IsCovered (enlisted cs d)
-  unfolding enlisted
-  covered-enlisted d c = record {
-    versions = c.versions;
-    entries = c.entries;
-    floors = rows-hold (λ r. r.floor.0 ≤ restart_floor d.lease) (λ a. omega arith) cs d.conts c.floors;
-    aggregated = rows-hold (λ r. r.aggregated.0 ≤ restart_floor d.lease) (λ a. omega arith) cs d.conts c.aggregated;
-    snaps = c.snaps;
-  }
-
-  at-each : (t : ℕ) (d : Durable) → IsSoundAt F t d → IsSoundAt (enlisted_family cs F) t (enlisted cs d)
-  unfolding enlisted entry_of is_frozen
-  at-each t d c = record {
-    covered = covered-enlisted d c.covered;
-    holds = c.holds;
-    unsettled = c.unsettled;
-    placed = subst (λ n. All (IsPlaced n t) d.versions) (sym (length-map (enlisted cs) F)) c.placed;
-    single = c.single;
-    frozen = subst (All (λ x. is_frozen (enlisted cs d) x.cont x.epoch ≡ true)) (sym (created-alike (enlisted cs) (enlisted-data cs) F)) c.frozen;
-  }
-
-  entries-same : (t u : ℕ) (d f : Durable) → slice_get (enlisted_family cs F) t ≡ Some d → slice_get (enlisted_family cs F) u ≡ Some f → All (λ e. All (λ g. e.attempt ≡ g.attempt → SayTheSame e g) f.entries) d.entries
-  entries-same t u d f at bt =
-      let x = at-mapped (enlisted cs) F t d at in
-      let y = at-mapped (enlisted cs) F u f bt in
-      subst (λ es. All (λ e. All (λ g. e.attempt ≡ g.attempt → SayTheSame e g) f.entries) es) (sym ((enlisted-data cs).entries x.0) ∙ ap (λ z. z.entries) x.2)
-      (subst (λ es. All (λ e. All (λ g. e.attempt ≡ g.attempt → SayTheSame e g) es) x.0.entries) (sym ((enlisted-data cs).entries y.0) ∙ ap (λ z. z.entries) y.2) (k.entries t u x.0 y.0 x.1 y.1))
-
-  sound : Sound (enlisted_family cs F)
-  sound = record {
-    agree = agrees;
-    targets = λ t d at. let e = at-mapped (enlisted cs) F t d at in subst (IsSoundAt (enlisted_family cs F) t) e.2 (at-each t e.0 (k.targets t e.0 e.1));
-    entries = entries-same;
-  }
+covered-enlisted : (cs : List ContId) (d : Durable) → IsCovered d → IsCovered (enlisted cs d)
+unfolding enlisted
+covered-enlisted cs d c = record {
+  versions = c.versions;
+  entries = c.entries;
+  floors = rows-hold (λ r. r.floor.0 ≤ restart_floor d.lease) (λ a. omega arith) cs d.conts c.floors;
+  aggregated = rows-hold (λ r. r.aggregated.0 ≤ restart_floor d.lease) (λ a. omega arith) cs d.conts c.aggregated;
+  snaps = c.snaps;
+}
 
 pub enlisting-sound : EnlistingKeepsSound
-enlisting-sound cs F k = sound cs F k
+enlisting-sound cs F k = alike-sound (enlisted cs) (enlisted-data cs) (covered-enlisted cs) F k
 
 pub enlisting-form : EnlistingKeepsForm
 enlisting-form cs F few forms t d at =

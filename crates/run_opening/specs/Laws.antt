@@ -1,12 +1,13 @@
 -- What is said of openings.
-use Rattle.std.specs.Prelude.{ℕ, ◌≡◌, ◌≤◌, ◌<◌, true, List, [], length, slice_get, Contains, Some}
+use Rattle.std.specs.Prelude.{ℕ, ◌≡◌, ◌≤◌, ◌<◌, true, List, [], length, map, slice_get, Contains, Some}
 use Rattle.base_types.specs.declared.id.ContId.{ContId}
 use Rattle.base_types.specs.declared.script.Script.{Script}
 use Rattle.daos_model.specs.declared.durable.Durable.{Durable}
 use Rattle.daos_model.specs.declared.durable.Version.{Version}
 use Rattle.daos_model.specs.AsOf.{empty_stand}
 use Rattle.daos_model.specs.Durables.{empty_durable, is_enlisted}
-use Rattle.daos_model.specs.Family.{greatest_lease, stand}
+use Rattle.daos_model.specs.Changes.{reopened}
+use Rattle.daos_model.specs.Family.{created_snaps, greatest_lease, stand}
 use Rattle.daos_model.specs.Finals.{opening_of}
 use Rattle.daos_model.specs.Opening.{kept}
 use Rattle.daos_model.specs.Sound.{Sound}
@@ -65,6 +66,16 @@ abbrev pub OpenedKnowContainers : Type 0
 OpenedKnowContainers =
     (s : Script) (cs : List ContId) (F : List Durable) (t : ℕ) (d : Durable) (c : ContId) → slice_get (opened_family s (enlisted_family cs F)) t ≡ Some d → Contains cs c
     → is_enlisted d c ≡ true
+
+-- ---- between two runs
+
+-- what is sound stays so where each store is opened again, and target 0 holds the same snapshots as created
+pub record StaysSound (F G : List Durable) : Type 0 where
+  pub sound : Sound G
+  pub created : created_snaps G ≡ created_snaps F
+
+abbrev pub ReopeningKeepsSound : Type 0
+ReopeningKeepsSound = (F : List Durable) → Sound F → StaysSound F (map reopened F)
 
 -- ---- targets that were never used
 

@@ -7,5 +7,6 @@ pub mod StandLaws
 pub mod SoundLaws
 pub mod BeginLaws
 pub mod Alike
+pub mod AlikeSound
 pub mod EnlistLaws
 pub mod UnusedLaws

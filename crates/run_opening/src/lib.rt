@@ -8,7 +8,7 @@ mod resolving;
 mod snaps;
 pub mod stop;
 
-ghost use Rattle.run_opening.specs.Laws.{EnlistingKeepsForm, EnlistingKeepsOpenings, EnlistingKeepsSound, OpenedKnowContainers, OpeningsKeepForm, OpeningsKeepLeases, OpeningsKeepSound, OpeningsKeepWhatStands, OpeningsSettleAll, RunsBeginOpened, UnusedAreSound, UnusedOpenAsTheyAre, UnusedStandForNothing};
+ghost use Rattle.run_opening.specs.Laws.{EnlistingKeepsForm, EnlistingKeepsOpenings, EnlistingKeepsSound, OpenedKnowContainers, OpeningsKeepForm, OpeningsKeepLeases, OpeningsKeepSound, OpeningsKeepWhatStands, OpeningsSettleAll, ReopeningKeepsSound, RunsBeginOpened, UnusedAreSound, UnusedOpenAsTheyAre, UnusedStandForNothing};
 
 /// Says what the opening of a run makes of what all targets keep. Nothing is left to settle: all versions
 /// are done, and there are no entries. They stand for exactly what they stood for before, but for the
@@ -31,6 +31,11 @@ pub fn laws_of_enlisting()
     ensures form { EnlistingKeepsForm }
     ensures openings { EnlistingKeepsOpenings }
     ensures known { OpenedKnowContainers }
+{}
+
+/// Says that what is sound together stays so where the stores are opened again between two runs.
+pub fn laws_of_reopening()
+    ensures sound { ReopeningKeepsSound }
 {}
 
 /// Says that targets that were never used are sound; that the opening leaves them as they are once

@@ -5,10 +5,10 @@ use Rattle.daos_model.specs.Family.{resolved}
 use Rattle.daos_model.specs.Opening.{Given, Outside}
 use Rattle.daos_model.specs.Headline.{Headline}
 use Rattle.world_base.specs.declared.world.World.{World}
-use Rattle.world_closing.specs.Closing.{report_over}
+use Rattle.world_legal.specs.closing.Closing.{report_over}
 use Rattle.world_ends.specs.Ends.{durables_of, rules_of}
 use Rattle.world_forms.specs.ReportForms.{IsReportWithout, legal-reports-are-in-form}
-use Rattle.world_reasons.specs.Runs.{runs-accounted}
+use Rattle.world_legal.specs.reasons.Runs.{runs-accounted}
 use Rattle.run_reports.specs.Issued.{small}
 use Rattle.run_reports.specs.Legal.{events, orders-are-legal}
 use Rattle.run_reports.specs.Reports.{AreTyped, GoesInOrder, IsKeyed, OrdersReportInForm}

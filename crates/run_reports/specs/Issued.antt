@@ -22,15 +22,15 @@ use Rattle.world_base.specs.declared.world.World.{World}
 use Rattle.world_base.specs.Events.{Rules}
 use Rattle.world_base.specs.Stops.{WorldRun}
 use Rattle.world_causes.specs.Causes.{Stored}
-use Rattle.world_closing.specs.Closing.{report_over}
-use Rattle.world_closing.specs.Kept.{all-there}
+use Rattle.world_legal.specs.closing.Closing.{report_over}
+use Rattle.world_legal.specs.closing.Kept.{all-there}
 use Rattle.world_ends.specs.Ends.{rules_of}
 use Rattle.world_epochs.specs.Epochs.{PlainEpochs, IsIssued}
 use Rattle.world_epochs.specs.PlainLaws.{plain-epochs}
 use Rattle.world_forms.specs.ReportForms.{HasSmallNumbers, try-among}
 use Rattle.world_lone.specs.LoneRuns.{AreIssuedThere}
-use Rattle.world_reasons.specs.Accounted.{Accounted}
-use Rattle.world_reasons.specs.Runs.{runs-accounted}
+use Rattle.world_legal.specs.reasons.Accounted.{Accounted}
+use Rattle.world_legal.specs.reasons.Runs.{runs-accounted}
 use Rattle.world_whole.specs.Begins.{IsBegun, IsSimple}
 use Rattle.run_reports.specs.Legal.{events}
 use Rattle.run_reports.specs.Reports.{AreTyped, HasTypedNumbers, OrdersIssueThere}

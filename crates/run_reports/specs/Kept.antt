@@ -44,21 +44,21 @@ use Rattle.world_base.specs.Events.{Rules}
 use Rattle.world_base.specs.Letters.{target}
 use Rattle.world_base.specs.Stops.{WorldRun}
 use Rattle.world_causes.specs.Causes.{Stored}
-use Rattle.world_closing.specs.Closing.{IsOver}
-use Rattle.world_closing.specs.Holding.{leader-there, other-there}
-use Rattle.world_closing.specs.Waited.{told-down}
+use Rattle.world_legal.specs.closing.Closing.{IsOver}
+use Rattle.world_legal.specs.closing.Holding.{leader-there, other-there}
+use Rattle.world_legal.specs.closing.Waited.{told-down}
 use Rattle.world_facts.specs.Facts.{IsMember}
 use Rattle.world_fates.specs.Facts.{IsSaidSo, down_in}
 use Rattle.world_lives.specs.Lives.{standing_of}
 use Rattle.world_questions.specs.Facts.{IsAsked, IsNamed, IsOnNaming, IsOnQuery, IsTold, IsToldOrStopped, LeaderStopped}
 use Rattle.world_questions.specs.Facts as fact
-use Rattle.world_reasons.specs.Accounted.{Accounted, stored_over}
+use Rattle.world_legal.specs.reasons.Accounted.{Accounted, stored_over}
 use Rattle.world_whole.specs.Begins.{IsSimple, held_at}
 use Rattle.world_whole.specs.Whole.{held-before}
-use Rattle.world_closing.specs.Kept.{AreAll, all-there}
-use Rattle.world_closing.specs.Runs.{ended-over, still-over}
+use Rattle.world_legal.specs.closing.Kept.{AreAll, all-there}
+use Rattle.world_legal.specs.closing.Runs.{ended-over, still-over}
 use Rattle.world_ends.specs.Ends.{rules_of}
-use Rattle.world_reasons.specs.Runs.{runs-accounted}
+use Rattle.world_legal.specs.reasons.Runs.{runs-accounted}
 use Rattle.run_reports.specs.Legal as legal
 use Rattle.run_reports.specs.Middle.{HasMiddle, middle-settled, middle-still, orders-have-middle}
 use Rattle.run_reports.specs.Reports.{GoesInOrder, IsSettledOrLeft, LacksMember, LeavesInTheEnd, OrdersLeaveInTheEnd}

@@ -9,9 +9,9 @@ use Rattle.run_turns.specs.OrderLaws.{orders-are-runs, orders-have-ended}
 use Rattle.world_base.specs.declared.world.World.{World}
 use Rattle.world_base.specs.Ended.{HasEnded}
 use Rattle.world_base.specs.Stops.{WorldRun}
-use Rattle.world_closing.specs.Runs.{ended-legal}
+use Rattle.world_legal.specs.closing.Runs.{ended-legal}
 use Rattle.world_ends.specs.Ends.{rules_of}
-use Rattle.world_shown.specs.Events.{runs-show}
+use Rattle.world_legal.specs.shown.Events.{runs-show}
 use Rattle.world_whole.specs.Begins.{first_client}
 use Rattle.run_reports.specs.Reports.{GoesInOrder, OrdersAreLegal}
 

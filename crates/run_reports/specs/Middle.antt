@@ -31,8 +31,8 @@ use Rattle.world_base.specs.Idle.{has_idle}
 use Rattle.world_base.specs.Letters.{client, target}
 use Rattle.world_base.specs.Roles.{leader_at, member_at}
 use Rattle.world_base.specs.Stops.{Begins, Draws as NumbersAreDrawn, Fails, Further, GivenUp, Goes, Happening, IsCut, Opens, Plainly, WorldEvent, WorldRun}
-use Rattle.world_closing.specs.Closing.{IsStill}
-use Rattle.world_reasons.specs.Runs.{runs-accounted}
+use Rattle.world_legal.specs.closing.Closing.{IsStill}
+use Rattle.world_legal.specs.reasons.Runs.{runs-accounted}
 use Rattle.world_standing.specs.Events as stand
 use Rattle.world_standing.specs.Events.{no-collections}
 use Rattle.world_whole.specs.Begins.{IsBegun, IsSimple}

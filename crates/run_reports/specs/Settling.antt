@@ -42,8 +42,8 @@ use Rattle.world_outcomes.specs.Outcomes.{Outcomes}
 use Rattle.world_outcomes.specs.Premises.{AsksGoRight, CommitsAreOfClients}
 use Rattle.world_outcomes.specs.Rightly.{idling-concludes, rightly-concludes}
 use Rattle.world_outcomes.specs.Stopping.{cut-concludes, cut-told, drawing-concludes, failing-concludes, giving-up-concludes, opening-concludes}
-use Rattle.world_reasons.specs.Accounted.{Accounted, AccountedStill}
-use Rattle.world_reasons.specs.Events.{events-keep-accounts}
+use Rattle.world_legal.specs.reasons.Accounted.{Accounted, AccountedStill}
+use Rattle.world_legal.specs.reasons.Events.{events-keep-accounts}
 use Rattle.world_showing.specs.Happening.{stored_in}
 use Rattle.world_standing.specs.Events as stand
 use Rattle.world_standing.specs.Events.{no-collections}

@@ -23,6 +23,10 @@ use Rattle.world_base.specs.Events.{Rules, target_plan}
 abbrev pub AreFindable : {S : Type 0} → (S → Option Durable) → (S → Durable → Type 0) → Type 0
 AreFindable {S} durable may = (s : S) → is_some (durable s) ≡ true → (x : Durable) × may s x
 
+-- a store that isn't stopped opens with what it keeps
+abbrev pub AreSteady : {S : Type 0} → (S → Option Durable) → (S → State) → (S → Durable → Type 0) → Type 0
+AreSteady {S} durable state may = (s : S) (d x : Durable) → (state s).stopped ≡ false → durable s ≡ Some d → may s x → x ≡ d
+
 -- what is told of one store is told of all
 abbrev pub AreAlike : {S : Type 0} → (S → Option Durable) → Type 0
 AreAlike {S} durable = (s t : S) → is_some (durable s) ≡ true → is_some (durable t) ≡ true

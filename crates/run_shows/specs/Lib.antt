@@ -18,6 +18,7 @@ pub mod Clients
 pub mod Lettered
 pub mod Fitting
 pub mod Going
+pub mod Broken
 pub mod Accounting
 pub mod Sweeping
 pub mod Shown

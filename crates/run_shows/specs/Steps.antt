@@ -5,10 +5,10 @@ use Rattle.client_core.specs.Clients.{ClientNow}
 use Rattle.daos_model.specs.declared.durable.Durable.{Durable}
 use Rattle.run_base.specs.Letters.{BetweenNow, IsPicked}
 use Rattle.run_base.specs.Picks.{count_to, heard_awake}
-use Rattle.run_shows.specs.Openings.{AfterOpening}
+use Rattle.run_shows.specs.Openings.{AfterOpening, HasFuse}
 use Rattle.run_shows.specs.Stages.{IsPlace, StageNow}
 use Rattle.run_shows.specs.Turned.{AfterCut, AfterFailure, IsTurned, followed, swept_stage, with_between, with_client_at, with_target_at}
-use Rattle.run_watch.specs.Watches.{opening_tried}
+use Rattle.run_watch.specs.Watches.{next_fuse, opening_tried}
 use Rattle.target_core.specs.Targets.{OpensAs, TargetOf}
 use Rattle.target_parts.specs.Parts.{Runs}
 use Rattle.target_parts.specs.Readings.{IsReadOn}
@@ -55,8 +55,8 @@ module _ {S C : Type 0} (durable : S → Option Durable) (state : S → State) (
     Opened : (did : Did) → result ≡ Ok did → AfterOpening durable state may t y did a b → OpeningEnds t x y a b result
     NotOpened : (stop : TargetStop) → result ≡ Err stop → AfterFailure t (state x.store).faults (state y.store).faults stop a b → OpeningEnds t x y a b result
 
-  -- One that is stopped was to be opened, by the restart of the next number.
-  pub record TargetReopened (t : ℕ) (a b : StageNow S C) : Type 0 where
+  -- One that is stopped was to be opened, by the restart of the next number, and its store did so with this result.
+  pub record WasReopened (t : ℕ) (a : StageNow S C) : Type 0 where
     pub before : TargetOf S C
     pub now : TargetOf S C
     pub result : Result Did TargetStop
@@ -72,11 +72,15 @@ module _ {S C : Type 0} (durable : S → Option Durable) (state : S → State) (
     pub posts : IfOk result (λ did. Follows before.plan.targets now.memory.leader did.posts)
     pub line : IfOk result (TellsRestart a.watch.restarts before.plan.me)
     pub opened : now.opened ≡ is_ok result
-    pub ends : OpeningEnds t before now (record a { targets = slice_set a.targets t now; watch = opening_tried a.watch }) b result
+
+  -- And what came of it came about.
+  pub record TargetReopened (t : ℕ) (a b : StageNow S C) : Type 0 where
+    pub was : WasReopened t a
+    pub ends : OpeningEnds t was.before was.now (record a { targets = slice_set a.targets t was.now; watch = opening_tried a.watch }) b was.result
 
   module _ (is_read : C → C → Type 0) where
-    -- A target that runs had its turn.
-    pub record TargetWorked (settling : Bool) (t number : ℕ) (a b : StageNow S C) : Type 0 where
+    -- A target that runs worked, with this result.
+    pub record HasWorked (settling : Bool) (t number : ℕ) (a : StageNow S C) : Type 0 where
       pub before : TargetOf S C
       pub now : TargetOf S C
       pub left : BetweenNow
@@ -88,9 +92,21 @@ module _ {S C : Type 0} (durable : S → Option Durable) (state : S → State) (
       pub clock : IsReadOn is_read before.clock now.clock
       pub posts : IfOk result (λ did. PostsInForm before.plan.targets before.memory.leader now.memory.leader did.posts)
       pub turned : IsTurned durable state may settling t number before now a.between left result
-      pub ends : WorkEnds t before now left a b result
+
+    -- And what came of it came about.
+    pub record TargetWorked (settling : Bool) (t number : ℕ) (a b : StageNow S C) : Type 0 where
+      pub work : HasWorked settling t number a
+      pub ends : WorkEnds t work.before work.now work.left a b work.result
 
     -- A target had its turn: one that runs worked, and one that is stopped was opened.
     pub data TargetTurned (settling : Bool) (t number : ℕ) (a b : StageNow S C) : Type 0 where
       Worked : TargetWorked settling t number a b → TargetTurned settling t number a b
       Reopened : TargetReopened t a b → TargetTurned settling t number a b
+
+    -- Memory was wanting in a target's turn, which left these targets: before it began; in its work, or for what came of that; in its opening, or
+    -- for what came of one that failed; or for what came of an opening, once the target's next fuse was set.
+    pub data TargetBroke (settling : Bool) (t number : ℕ) (a : StageNow S C) (xs : List (TargetOf S C)) : Type 0 where
+      NotBegun : xs ≡ a.targets → TargetBroke settling t number a xs
+      InWork : (k : HasWorked settling t number a) → xs ≡ slice_set a.targets t k.now → TargetBroke settling t number a xs
+      InOpening : (k : WasReopened t a) (why : TargetStop) → k.result ≡ Err why → xs ≡ slice_set a.targets t k.now → TargetBroke settling t number a xs
+      OnceOpened : (k : WasReopened t a) (did : Did) (armed : TargetOf S C) → k.result ≡ Ok did → HasFuse durable state may (next_fuse t a.watch.stops) k.now armed → xs ≡ slice_set a.targets t armed → TargetBroke settling t number a xs

@@ -89,6 +89,21 @@ module _ {S C : Type 0} (durable : S → Option Durable) (state : S → State) (
         let same : d ≡ s.durable = let e : Some d ≡ Some s.durable = sym is' ∙ is.so.told in cc in
         ap (λ z. record { durable = z; free = (state x.store).free }) same ∙ ap (λ z. record { durable = s.durable; free = z }) is.so.free
 
+    -- what was cut so of its work is cut so in the world
+    pub hearing-in-world : (c : Cutting) (l : Letter) (reading : ℕ) → HearingIsCut is_prepared 0 x.plan (state x.store).opening x.memory reading l.from l.message (record { durable = s.durable; free = (state x.store).free }) c
+        → HearingIsCut is_prepared 0 (target_plan r t) s.opening s.memory reading l.from l.message (kept s) c
+    hearing-in-world c l reading it =
+        subst (λ m. HearingIsCut is_prepared 0 (target_plan r t) s.opening m reading l.from l.message (kept s) c) is.so.knows
+        (subst (λ o. HearingIsCut is_prepared 0 (target_plan r t) o x.memory reading l.from l.message (kept s) c) is.so.opening
+        (subst (λ p. HearingIsCut is_prepared 0 p (state x.store).opening x.memory reading l.from l.message (kept s) c) is.made
+        (subst (λ q. HearingIsCut is_prepared 0 x.plan (state x.store).opening x.memory reading l.from l.message q c) (had s.durable is.so.told) it)))
+
+    pub idling-in-world : (c : Cutting) → IdleWorkIsCut x.plan.me x.memory (record { durable = s.durable; free = (state x.store).free }) c → IdleWorkIsCut (target_plan r t).me s.memory (kept s) c
+    idling-in-world c it =
+        subst (λ m. IdleWorkIsCut (target_plan r t).me m (kept s) c) is.so.knows
+        (subst (λ p. IdleWorkIsCut p.me x.memory (kept s) c) is.made
+        (subst (λ q. IdleWorkIsCut x.plan.me x.memory q c) (had s.durable is.so.told) it))
+
     -- its turn was cut so in the world
     acts : (settling : Bool) (number : ℕ) (work : AtWork) → IsInHand w t work → CutOf (target_plan r t) s work cut → IsAtWork w (target t) number work → FaultBy r t settling number 0 (Some t) w (swept (after_cut w t s cut))
     acts settling number work in_hand turn b = (
@@ -134,28 +149,14 @@ module _ {S C : Type 0} (durable : S → Option Durable) (state : S → State) (
           let it = turn s.s.durable s.is.so.told 0 (would found w k s.s s.here s.is) (may-be, refl) in
           record {
             next = swept (after_cut w t s.s (cut found w k s.s s.here s.is));
-            turn = acts found w k s.s s.here s.is settling number (Hearing l reading 0) ((rest, subst (λ ls. Takes ls l rest) k.messages takes), picked.to_it, λ asks. let off = no_prunes l rest picked in let no : ⊥ = cc (asks, off) in absurd no) (in-world l reading it)
+            turn = acts found w k s.s s.here s.is settling number (Hearing l reading 0) ((rest, subst (λ ls. Takes ls l rest) k.messages takes), picked.to_it, λ asks. let off = no_prunes l rest picked in let no : ⊥ = cc (asks, off) in absurd no) (hearing-in-world found w k s.s s.here s.is (cut found w k s.s s.here s.is) l reading it)
                 (rest, subst (λ ls. IsPicked ls (target t) number l rest) k.messages picked);
             shows = shown found w k s.s s.here s.is left (ap (λ b. filter (is_not_to t) b.messages) left_is ∙ lost-too t a.between.messages rest l takes picked.to_it) (ap (λ b. b.asked) left_is) (ap (λ b. b.issued) left_is) (ap (λ b. b.lines) left_is);
           }
-        where
-          in-world : (l : Letter) (reading : ℕ) → HearingIsCut is_prepared 0 x.plan (state x.store).opening x.memory reading l.from l.message (record { durable = s.s.durable; free = (state x.store).free }) (cut found w k s.s s.here s.is)
-              → HearingIsCut is_prepared 0 (target_plan r t) s.s.opening s.s.memory reading l.from l.message (kept s.s) (cut found w k s.s s.here s.is)
-          in-world l reading it =
-              subst (λ m. HearingIsCut is_prepared 0 (target_plan r t) s.s.opening m reading l.from l.message (kept s.s) (cut found w k s.s s.here s.is)) s.is.so.knows
-              (subst (λ o. HearingIsCut is_prepared 0 (target_plan r t) o x.memory reading l.from l.message (kept s.s) (cut found w k s.s s.here s.is)) s.is.so.opening
-              (subst (λ p. HearingIsCut is_prepared 0 p (state x.store).opening x.memory reading l.from l.message (kept s.s) (cut found w k s.s s.here s.is)) s.is.made
-              (subst (λ q. HearingIsCut is_prepared 0 x.plan (state x.store).opening x.memory reading l.from l.message q (cut found w k s.s s.here s.is)) (had found w k s.s s.here s.is s.s.durable s.is.so.told) it)))
       led w k s (ByIdling none left_is turn) =
           let it = turn s.s.durable s.is.so.told (would found w k s.s s.here s.is) (may-be, refl) in
           record {
             next = swept (after_cut w t s.s (cut found w k s.s s.here s.is));
-            turn = acts found w k s.s s.here s.is settling number IdleWork tt (in-world it) (ap (count_to (target t)) (sym k.messages) ∙ none);
+            turn = acts found w k s.s s.here s.is settling number IdleWork tt (idling-in-world found w k s.s s.here s.is (cut found w k s.s s.here s.is) it) (ap (count_to (target t)) (sym k.messages) ∙ none);
             shows = shown found w k s.s s.here s.is left (ap (λ b. filter (is_not_to t) b.messages) left_is) (ap (λ b. b.asked) left_is) (ap (λ b. b.issued) left_is) (ap (λ b. b.lines) left_is);
           }
-        where
-          in-world : IdleWorkIsCut x.plan.me x.memory (record { durable = s.s.durable; free = (state x.store).free }) (cut found w k s.s s.here s.is) → IdleWorkIsCut (target_plan r t).me s.s.memory (kept s.s) (cut found w k s.s s.here s.is)
-          in-world it =
-              subst (λ m. IdleWorkIsCut (target_plan r t).me m (kept s.s) (cut found w k s.s s.here s.is)) s.is.so.knows
-              (subst (λ p. IdleWorkIsCut p.me x.memory (kept s.s) (cut found w k s.s s.here s.is)) s.is.made
-              (subst (λ q. IdleWorkIsCut x.plan.me x.memory q (cut found w k s.s s.here s.is)) (had found w k s.s s.here s.is s.s.durable s.is.so.told) it))

@@ -1,12 +1,13 @@
 -- What is left of the actors where a target opened again.
-use Rattle.std.specs.Prelude.{ℕ, ◌≡◌, ◌<◌, ◌^◌, false, List, length, slice_get, slice_set, Option, Some, IsSome, Result, Ok, Err, IfOk, IfErr, OnOk, is_ok}
+use Rattle.std.specs.Prelude.{ℕ, ◌≡◌, Bool, ◌<◌, ◌^◌, false, List, length, slice_get, slice_set, Option, Some, IsSome, Result, Ok, Err, IfOk, IfErr, OnErr, OnOk, is_ok}
 use Rattle.std.specs.Option.{ForSome}
 use Rattle.std.proofs.Common.{◌∙◌, ap, subst, sym}
 use Rattle.daos_model.specs.declared.durable.Durable.{Durable}
 use Rattle.model_laws.specs.Lists.{at-within}
 use Rattle.run_shows.specs.Openings.{AfterOpening, HasFuse, IsArmed}
 use Rattle.run_shows.specs.Stages.{IsPlace, StageNow}
-use Rattle.run_shows.specs.Steps.{NotOpened, Opened, OpeningEnds, TargetReopened}
+use Rattle.run_shows.specs.Steps.{InOpening, NotOpened, OnceOpened, Opened, OpeningEnds, TargetBroke, TargetReopened, WasReopened}
+use Rattle.run_shows.specs.Reopening.{set-twice}
 use Rattle.run_shows.specs.Turned.{AfterFailure, followed, swept_stage, with_between}
 use Rattle.run_watch.specs.Watches.{WatchNow, fuse_set, next_fuse, opened_again, opening_tried}
 use Rattle.run_stage.proofs.Stopping.{watched}
@@ -20,6 +21,11 @@ use Rattle.world_base.specs.declared.did.Did.{Did}
 use Rattle.world_base.specs.declared.target.Life.TheVariants.{Stopped}
 use Rattle.world_base.specs.Letters.{target}
 use Rattle.world_posts.specs.Forms.{Follows}
+
+-- what holds where a call fails holds where it may fail
+pub on-err : {T E : Type 0} (P : Type 0) (result : Result T E) → P → OnErr result P
+on-err P (Ok x) p = tt
+on-err P (Err e) p = p
 
 -- one thing stands at a place
 pub same-there : {A : Type 0} (xs : List A) (n : ℕ) (x y : A) → slice_get xs n ≡ Some x → slice_get xs n ≡ Some y → x ≡ y
@@ -52,8 +58,8 @@ module _ {S C : Type 0} (durable : S → Option Durable) (state : S → State) (
     (place : IsPlace a t x Stopped) (tried : w ≡ opening_tried a.watch) (few : w.openings < 2 ^ 32) (numbered : number ≡ w.restarts) (plan : y.plan ≡ x.plan) (clock : y.clock ≡ x.clock) (opens : Reopens said (state x.store) (state y.store) (durable x.store) (durable y.store))
     (turn : ForSome (durable x.store) (λ d. IfOk said (OpensAs x.plan number (may x.store) (durable y.store) (state y.store) y.memory))) (left : Left (may x.store) (may y.store)) (bare : IfErr said IsBare) (native : IsSome (durable x.store) → says stop_foreign said ≡ false)
     (posts : IfOk said (λ did. Follows x.plan.targets y.memory.leader did.posts)) (line : IfOk said (TellsRestart number x.plan.me)) (opened : y.opened ≡ is_ok said) where
-  reopened : OpeningEnds durable state may t x y (record a { targets = slice_set a.targets t y; watch = opening_tried a.watch }) b said → TargetReopened durable state may t a b
-  reopened ends =
+  abbrev was-reopened : WasReopened durable state may t a
+  was-reopened =
       let next = numbered ∙ ap (λ v. v.restarts) tried in
       record {
         before = x;
@@ -71,8 +77,10 @@ module _ {S C : Type 0} (durable : S → Option Durable) (state : S → State) (
         posts = posts;
         line = subst (λ n. IfOk said (TellsRestart n x.plan.me)) next line;
         opened = opened;
-        ends = ends;
       }
+
+  reopened : OpeningEnds durable state may t x y (record a { targets = slice_set a.targets t y; watch = opening_tried a.watch }) b said → TargetReopened durable state may t a b
+  reopened ends = record { was = was-reopened; ends = ends }
 
   -- a target that was stopped opened again
   pub reopened-whole : {E : Type 0} (result : Result (Unit {0}) E) (did : Did) → said ≡ Ok did → OnOk result (AfterOpening durable state may t y did (record a { targets = slice_set a.targets t y; watch = w }) b) → OnOk result (TargetReopened durable state may t a b)
@@ -86,3 +94,15 @@ module _ {S C : Type 0} (durable : S → Option Durable) (state : S → State) (
       reopened (NotOpened stop is (subst (λ v. AfterFailure t (state x.store).faults (state y.store).faults stop (record a { targets = slice_set a.targets t y; watch = v }) b) tried
       (subst (λ n. AfterFailure t n (state y.store).faults stop (record a { targets = slice_set a.targets t y; watch = w }) b) counted came)))
   reopened-not (Err e) stop before is counted came = tt
+
+  module _ (is_read : C → C → Type 0) (settling : Bool) (k : ℕ) where
+    -- it opened again, and its next fuse was set, but memory was wanting for what followed
+    pub opened-broke : {E : Type 0} (result : Result (Unit {0}) E) (did : Did) → said ≡ Ok did → OnErr result ((armed : TargetOf S C) × HasFuse durable state may (next_fuse t w.stops) y armed × (b.targets ≡ slice_set (slice_set a.targets t y) t armed))
+        → OnErr result (TargetBroke durable state may is_read settling t k a b.targets)
+    opened-broke (Ok u) did is came = tt
+    opened-broke (Err e) did is came = OnceOpened was-reopened did came.0 is (subst (λ v. HasFuse durable state may (next_fuse t v.stops) y came.0) tried came.1) (came.2 ∙ set-twice a.targets t y came.0)
+
+    -- or it didn't open, and memory was wanting then
+    pub opening-broke : {E : Type 0} (result : Result (Unit {0}) E) (why : TargetStop) → said ≡ Err why → b.targets ≡ slice_set a.targets t y → OnErr result (TargetBroke durable state may is_read settling t k a b.targets)
+    opening-broke (Ok u) why is left-so = tt
+    opening-broke (Err e) why is left-so = InOpening was-reopened why is left-so

@@ -1,5 +1,5 @@
 -- What an actor heard in its turn.
-use Rattle.std.specs.Prelude.{ℕ, ◌≡◌, Bool, true, List, Option, Result, Ok, Err, IfOk, OnOk}
+use Rattle.std.specs.Prelude.{ℕ, ◌≡◌, Bool, true, List, slice_set, Option, Result, Ok, Err, IfOk, OnErr, OnOk}
 use Rattle.std.proofs.Common.{◌∙◌, ap, subst}
 use Rattle.base_messages.specs.declared.actor.ActorId.{ActorId}
 use Rattle.base_types.specs.declared.epoch.Epoch.{Epoch}
@@ -9,7 +9,7 @@ use Rattle.client_core.specs.Clients.{ClientNow}
 use Rattle.daos_model.specs.declared.durable.Durable.{Durable}
 use Rattle.run_base.specs.Letters.{BetweenNow, IsPicked}
 use Rattle.run_shows.specs.Stages.{IsPlace, StageNow}
-use Rattle.run_shows.specs.Steps.{ClientWorks, Cut, HeardOne, TargetWorked, Whole, WorkEnds}
+use Rattle.run_shows.specs.Steps.{ClientWorks, Cut, HasWorked, HeardOne, InWork, TargetBroke, TargetWorked, Whole, WorkEnds}
 use Rattle.run_shows.specs.Turned.{AfterCut, IsTurned, followed, swept_stage, with_between, with_target_at}
 use Rattle.target_core.specs.Targets.{TargetOf}
 use Rattle.target_parts.specs.Parts.{Runs}
@@ -43,8 +43,11 @@ heard-one (Err e) n number c d b left l awake picked only turn = tt
 module _ {S C : Type 0} (durable : S → Option Durable) (state : S → State) (may : S → Durable → Type 0) (is_read : C → C → Type 0) (settling : Bool) (t number : ℕ) (x y : TargetOf S C) (left : BetweenNow) (said : Result Did TargetStop) (a b : StageNow S C)
     (place : IsPlace a t x Running) (plan : y.plan ≡ x.plan) (opened : y.opened ≡ true) (runs : Runs stop_store said (state x.store) (state y.store) (durable x.store) (durable y.store)) (clock : IsReadOn is_read x.clock y.clock)
     (posts : IfOk said (λ did. PostsInForm x.plan.targets x.memory.leader y.memory.leader did.posts)) (turned : IsTurned durable state may settling t number x y a.between left said) where
+  abbrev has-worked : HasWorked durable state may is_read settling t number a
+  has-worked = record { before = x; now = y; left = left; result = said; place = place; plan = plan; opened = opened; runs = runs; clock = clock; posts = posts; turned = turned }
+
   worked : WorkEnds durable state may t x y left a b said → TargetWorked durable state may is_read settling t number a b
-  worked ends = record { before = x; now = y; left = left; result = said; place = place; plan = plan; opened = opened; runs = runs; clock = clock; posts = posts; turned = turned; ends = ends }
+  worked ends = record { work = has-worked; ends = ends }
 
   -- the turn of a target that runs was whole
   pub worked-whole : {E : Type 0} (result : Result (Unit {0}) E) (did : Did) (name : ActorId) → said ≡ Ok did → name ≡ target t → OnOk result (b ≡ swept_stage (with_between (followed name did left) (with_target_at t y a)))
@@ -57,3 +60,8 @@ module _ {S C : Type 0} (durable : S → Option Durable) (state : S → State) (
       → OnOk result (TargetWorked durable state may is_read settling t number a b)
   worked-cut (Ok u) stop before is counted came = worked (Cut stop is (subst (λ n. AfterCut t n (state y.store).faults stop (with_between left (with_target_at t y a)) b) counted came))
   worked-cut (Err e) stop before is counted came = tt
+
+  -- or memory was wanting for what came of it
+  pub work-broke : {E : Type 0} (result : Result (Unit {0}) E) → b.targets ≡ slice_set a.targets t y → OnErr result (TargetBroke durable state may is_read settling t number a b.targets)
+  work-broke (Ok u) left-so = tt
+  work-broke (Err e) left-so = InWork has-worked left-so

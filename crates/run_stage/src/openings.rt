@@ -1,11 +1,12 @@
 // A target opens again.
-ghost use Rattle.std.specs.Prelude.{◌≡◌, ◌≤◌, ◌<◌, length, OnOk, Some, slice_get};
+ghost use Rattle.std.specs.Prelude.{◌≡◌, ◌≤◌, ◌<◌, ℕ, Bool, length, OnErr, OnOk, Some, slice_get, slice_set};
 ghost use Rattle.run_shows.specs.Accounts.{AreServed};
 ghost use Rattle.run_shows.specs.CanGo.{CanTurn};
-ghost use Rattle.run_shows.specs.Openings.{AfterOpening, IsArmed};
-ghost use Rattle.run_shows.specs.Steps.{TargetReopened};
+ghost use Rattle.run_shows.specs.Openings.{AfterOpening, HasFuse, IsArmed};
+ghost use Rattle.run_shows.specs.Steps.{TargetBroke, TargetReopened};
 ghost use Rattle.run_shows.specs.Turned.{AfterFailure};
 ghost use Rattle.run_stage.specs.Now.{stage_now};
+ghost use Rattle.run_watch.specs.Watches.{next_fuse};
 ghost use Rattle.target_core.specs.Targets.{TargetOf};
 ghost use Rattle.world_base.specs.declared.target.Life.{Life};
 
@@ -37,6 +38,7 @@ impl<S: Fuse, C: Clock> Stage<S, C> {
         requires there { t < length self.old.targets.items }
         requires tried { self.old.watch.restarts < self.old.watch.openings }
         ensures opened { (x : TargetOf S C) → slice_get self.old.targets.items t ≡ Some x → OnOk result (AfterOpening S.durable S.state S.may t x did (stage_now self.old) (stage_now self.new)) }
+        ensures broke { (x : TargetOf S C) → slice_get self.old.targets.items t ≡ Some x → OnErr result ((armed : TargetOf S C) × HasFuse S.durable S.state S.may (next_fuse t self.old.watch.stops) x armed × (self.new.targets.items ≡ slice_set self.old.targets.items t armed)) }
         ensures served { AreServed S.durable S.state C.is_read self.old.targets.items self.new.targets.items }
     {
         self.arm(t);
@@ -67,6 +69,7 @@ impl<S: Fuse, C: Clock> Stage<S, C> {
         requires stopped { slice_get self.old.watch.lives t ≡ Some Life.Stopped }
         requires able { (x : TargetOf S C) → slice_get self.old.targets.items t ≡ Some x → CanTurn S.durable S.state S.may (stage_now self.old) t 0 x }
         ensures reopened { OnOk result (TargetReopened S.durable S.state S.may t (stage_now self.old) (stage_now self.new)) }
+        ensures broke { (settling : Bool) → (k : ℕ) → OnErr result (TargetBroke S.durable S.state S.may C.is_read settling t k (stage_now self.old) self.new.targets.items) }
         ensures served { AreServed S.durable S.state C.is_read self.old.targets.items self.new.targets.items }
     {
         self.watch.try_opening()?;

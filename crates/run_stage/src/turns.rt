@@ -1,9 +1,9 @@
 // The turns of clients and of targets.
-ghost use Rattle.std.specs.Prelude.{◌≡◌, ◌<◌, ◌≤◌, Bool, max, length, slice_get, IfOk, OnOk, Some};
+ghost use Rattle.std.specs.Prelude.{◌≡◌, ◌<◌, ◌≤◌, Bool, max, length, slice_get, IfOk, OnErr, OnOk, Some};
 ghost use Rattle.run_base.specs.Picks.{count_to, heard_awake};
 ghost use Rattle.run_shows.specs.Accounts.{AreServed};
 ghost use Rattle.run_shows.specs.CanGo.{CanTurn};
-ghost use Rattle.run_shows.specs.Steps.{ClientTurned, ClientWorks, TargetTurned};
+ghost use Rattle.run_shows.specs.Steps.{ClientTurned, ClientWorks, TargetBroke, TargetTurned};
 ghost use Rattle.run_stage.specs.Now.{stage_now};
 ghost use Rattle.target_core.specs.Targets.{TargetOf};
 ghost use Rattle.world_base.specs.declared.target.Life.{Life};
@@ -98,7 +98,8 @@ impl<S: Fuse, C: Clock> Stage<S, C> {
     ///
     /// # Errors
     ///
-    /// For want of memory.
+    /// For want of memory: then the target keeps what it kept, what its turn left of it, or what a stop in its
+    /// turn leaves.
     pub fn target_turn(&mut self, t: usize, number: usize, settling: bool) -> Result<(), Memory>
         requires within { t < length self.old.targets.items }
         requires standing { length self.old.watch.lives ≡ length self.old.targets.items }
@@ -107,6 +108,7 @@ impl<S: Fuse, C: Clock> Stage<S, C> {
         requires up { slice_get self.old.watch.lives t ≡ Some Life.Down → ⊥ }
         requires able { (x : TargetOf S C) → slice_get self.old.targets.items t ≡ Some x → CanTurn S.durable S.state S.may (stage_now self.old) t number x }
         ensures turned { OnOk result (TargetTurned S.durable S.state S.may C.is_read settling t number (stage_now self.old) (stage_now self.new)) }
+        ensures broke { OnErr result (TargetBroke S.durable S.state S.may C.is_read settling t number (stage_now self.old) self.new.targets.items) }
         ensures served { AreServed S.durable S.state C.is_read self.old.targets.items self.new.targets.items }
     {
         match self.watch.life(t) {

@@ -1,10 +1,10 @@
 // The turns of targets that run.
-ghost use Rattle.std.specs.Prelude.{◌≡◌, ◌<◌, ◌≤◌, Bool, List, max, true, false, length, slice_get, IfOk, OnOk, Some};
+ghost use Rattle.std.specs.Prelude.{◌≡◌, ◌<◌, ◌≤◌, Bool, List, max, true, false, length, slice_get, IfOk, OnErr, OnOk, Some};
 ghost use Rattle.run_base.specs.Letters.{IsPicked};
 ghost use Rattle.run_base.specs.Picks.{count_to};
 ghost use Rattle.run_shows.specs.Accounts.{AreServed};
 ghost use Rattle.run_shows.specs.CanGo.{CanTurn, IsHearable};
-ghost use Rattle.run_shows.specs.Steps.{TargetWorked};
+ghost use Rattle.run_shows.specs.Steps.{TargetBroke, TargetWorked};
 ghost use Rattle.run_shows.specs.Turned.{IsTurned};
 ghost use Rattle.run_stage.specs.Now.{stage_now};
 ghost use Rattle.target_core.specs.Targets.{TargetOf};
@@ -66,6 +66,7 @@ impl<S: Fuse, C: Clock> Stage<S, C> {
         requires runs { slice_get self.old.watch.lives t ≡ Some Life.Running }
         requires able { (x : TargetOf S C) → slice_get self.old.targets.items t ≡ Some x → CanTurn S.durable S.state S.may (stage_now self.old) t number x }
         ensures worked { OnOk result (TargetWorked S.durable S.state S.may C.is_read settling t number (stage_now self.old) (stage_now self.new)) }
+        ensures broke { OnErr result (TargetBroke S.durable S.state S.may C.is_read settling t number (stage_now self.old) self.new.targets.items) }
         ensures served { AreServed S.durable S.state C.is_read self.old.targets.items self.new.targets.items }
     {
         let before = self.targets[t].faults();

@@ -1,5 +1,6 @@
 -- Where a run of the actors ends.
-use Rattle.std.specs.Prelude.{ℕ, ◌≡◌, true, List, [], length, slice_get, Option, Some, is_some}
+use Rattle.std.specs.Prelude.{ℕ, ◌≡◌, ◌+◌, ◌<◌, ◌^◌, true, List, [], length, slice_get, Option, Some, is_some}
+use Rattle.std.specs.Option.{ForSome}
 use Rattle.std.proofs.Common.{sym, ◌∙◌, ap, arith}
 use Rattle.base_types.specs.declared.report.Line.{Line}
 use Rattle.base_types.specs.declared.script.StopDecl.{StopDecl}
@@ -10,7 +11,8 @@ use Rattle.run_base.specs.Picks.{due}
 use Rattle.run_base.specs.Sweeps.{lives_of}
 use Rattle.model_laws.specs.Lists.{at-within}
 use Rattle.run_shows.specs.Accounts.{AreAccounted}
-use Rattle.run_shows.specs.Going.{AreAlike}
+use Rattle.run_shows.specs.CanGo.{CanGo}
+use Rattle.run_shows.specs.Going.{AreAlike, AreSteady}
 use Rattle.run_shows.specs.ListLaws.{map-get}
 use Rattle.run_shows.specs.Parts.{at-both}
 use Rattle.run_shows.specs.Shows.{IsTargetOf, Leads, Shows}
@@ -22,7 +24,7 @@ use Rattle.run_watch.specs.Watches.{WatchNow}
 use Rattle.target_core.specs.Targets.{TargetOf}
 use Rattle.vos_store.specs.Calls.{State}
 use Rattle.world_base.specs.declared.target.Life.{Life}
-use Rattle.world_base.specs.declared.target.Life.TheVariants.{Running}
+use Rattle.world_base.specs.declared.target.Life.TheVariants.{Down, Running, Stopped}
 use Rattle.world_base.specs.declared.target.TargetState.{TargetState}
 use Rattle.world_base.specs.declared.world.World.{World}
 use Rattle.world_base.specs.Ended.{HasEnded}
@@ -87,3 +89,29 @@ module _ {S C : Type 0} (durable : S → Option Durable) (state : S → State) w
 -- how often targets stopped is accounted for by what is left
 pub left-accounted : {S C : Type 0} (durable : S → Option Durable) (state : S → State) (h : ℕ → State) (stops : List StopDecl) (a : StageNow S C) → AreAccounted durable state h stops a → AreAccounted durable state h stops (left_of a.targets a.watch a.between.lines)
 left-accounted durable state h stops a k t x there told = let one = k t x there told in record { stopped = one.stopped; failed = one.failed; down = one.down; told = one.told }
+
+-- ---- another opening
+
+-- Whatever the next opening of a store finds, that opening has its number, where the store tells what it keeps.
+abbrev pub CanReopen : {S : Type 0} → (S → Option Durable) → (S → Durable → Type 0) → S → Type 0
+CanReopen durable may store = ForSome (durable store) (λ _. (e : Durable) → may store e → e.incarnation + 1 < 2 ^ 64)
+
+module _ {S C : Type 0} (durable : S → Option Durable) (state : S → State) (may : S → Durable → Type 0) where
+  -- so it is of the stores of all targets
+  abbrev pub AllCanReopen : List (TargetOf S C) → Type 0
+  AllCanReopen xs = (t : ℕ) (x : TargetOf S C) → slice_get xs t ≡ Some x → CanReopen durable may x.store
+
+  -- the stores of actors that can go on may be opened again
+  pub can-reopen : AreSteady durable state may → (a : StageNow S C) → CanGo durable state may a → AllCanReopen a.targets
+  can-reopen steady a can t x at d told e found = let life = at-both a.targets a.watch.lives t x can.standing at in by life.0 (record { there = at; stands = life.1 })
+    where
+      few : a.watch.openings < 2 ^ 32
+      few = can.openings
+
+      by : (life : Life) → IsPlace a t x life → e.incarnation + 1 < 2 ^ 64
+      by Running place =
+          let same : e.incarnation ≡ d.incarnation = ap (λ z. z.incarnation) (steady x.store d e (can.work t x place).running told found) in
+          let low = (can.told t x d at told).counted t x Running place d told in
+          omega (arith, same, low, few)
+      by Stopped place = let low = (can.told t x d at told).counted t x Stopped place e found in omega (arith, low, few)
+      by Down place = let low = (can.told t x d at told).counted t x Down place e found in omega (arith, low, few)

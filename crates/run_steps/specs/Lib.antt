@@ -5,4 +5,5 @@ pub mod Turnings
 pub mod Openings
 pub mod Hearing
 pub mod Steps
+pub mod Breaking
 pub mod Ended

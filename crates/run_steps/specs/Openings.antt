@@ -68,7 +68,7 @@ fewer-lines t u stops =
 
 -- ---- what is told
 
-some-told : (o : Option Durable) → is_some o ≡ true → (d : Durable) × (o ≡ Some d)
+pub some-told : (o : Option Durable) → is_some o ≡ true → (d : Durable) × (o ≡ Some d)
 some-told None is = let no : ⊥ = cc in absurd no
 some-told (Some d) is = (d, refl)
 
@@ -190,21 +190,21 @@ module _ {S C : Type 0} (durable : S → Option Durable) (state : S → State) (
   pub reopening-goes : TargetReopened durable state may t a b → GoesOn durable state may is_read (λ r. TurnOf settling r (target t) number) a b
   reopening-goes k = by k.ends
     where
-      by : OpeningEnds durable state may t k.before k.now (record a { targets = slice_set a.targets t k.now; watch = opening_tried a.watch }) b k.result → GoesOn durable state may is_read (λ r. TurnOf settling r (target t) number) a b
+      by : OpeningEnds durable state may t k.was.before k.was.now (record a { targets = slice_set a.targets t k.was.now; watch = opening_tried a.watch }) b k.was.result → GoesOn durable state may is_read (λ r. TurnOf settling r (target t) number) a b
       by (Opened did is after) =
           subst (λ s. GoesOn durable state may is_read (λ r. TurnOf settling r (target t) number) a s)
-          (ap (λ xs. swept_stage (record a { targets = xs; watch = opened_again t (fuse_set t (opening_tried a.watch)); between = followed (target t) did a.between })) (sym (set-twice a.targets t k.now after.armed)) ∙ sym after.after)
-          (opened-goes durable state may is_read findable alike a can t k.before k.now k.place k.few k.plan k.clock did after.armed
-          (subst (λ q. Reopens q (state k.before.store) (state k.now.store) (durable k.before.store) (durable k.now.store)) is k.opens)
-          (λ d told. subst (λ q. IfOk q (OpensAs k.before.plan a.watch.restarts (may k.before.store) (durable k.now.store) (state k.now.store) k.now.memory)) is (k.turn d told))
-          (subst (λ q. IfOk q (λ e. posted.Follows k.before.plan.targets k.now.memory.leader e.posts)) is k.posts) (k.opened ∙ ap is_ok is) after.fuse settling number)
+          (ap (λ xs. swept_stage (record a { targets = xs; watch = opened_again t (fuse_set t (opening_tried a.watch)); between = followed (target t) did a.between })) (sym (set-twice a.targets t k.was.now after.armed)) ∙ sym after.after)
+          (opened-goes durable state may is_read findable alike a can t k.was.before k.was.now k.was.place k.was.few k.was.plan k.was.clock did after.armed
+          (subst (λ q. Reopens q (state k.was.before.store) (state k.was.now.store) (durable k.was.before.store) (durable k.was.now.store)) is k.was.opens)
+          (λ d told. subst (λ q. IfOk q (OpensAs k.was.before.plan a.watch.restarts (may k.was.before.store) (durable k.was.now.store) (state k.was.now.store) k.was.now.memory)) is (k.was.turn d told))
+          (subst (λ q. IfOk q (λ e. posted.Follows k.was.before.plan.targets k.was.now.memory.leader e.posts)) is k.was.posts) (k.was.opened ∙ ap is_ok is) after.fuse settling number)
       by (NotOpened why is after) = ends after
         where
-          opens : Reopens {T = Did} (Err why) (state k.before.store) (state k.now.store) (durable k.before.store) (durable k.now.store)
-          opens = subst (λ q. Reopens q (state k.before.store) (state k.now.store) (durable k.before.store) (durable k.now.store)) is k.opens
+          opens : Reopens {T = Did} (Err why) (state k.was.before.store) (state k.was.now.store) (durable k.was.before.store) (durable k.was.now.store)
+          opens = subst (λ q. Reopens q (state k.was.before.store) (state k.was.now.store) (durable k.was.before.store) (durable k.was.now.store)) is k.was.opens
 
-          ends : AfterFailure t (state k.before.store).faults (state k.now.store).faults why (record a { targets = slice_set a.targets t k.now; watch = opening_tried a.watch }) b → GoesOn durable state may is_read (λ r. TurnOf settling r (target t) number) a b
-          ends (ByStop issued lines same stopped) = failed-goes durable state may is_read findable alike a can t k.before k.now k.place k.few k.plan k.clock why opens settling number b k.left stopped
+          ends : AfterFailure t (state k.was.before.store).faults (state k.was.now.store).faults why (record a { targets = slice_set a.targets t k.was.now; watch = opening_tried a.watch }) b → GoesOn durable state may is_read (λ r. TurnOf settling r (target t) number) a b
+          ends (ByStop issued lines same stopped) = failed-goes durable state may is_read findable alike a can t k.was.before k.was.now k.was.place k.was.few k.was.plan k.was.clock why opens settling number b k.was.left stopped
           ends (ByForeign at byte same given_up) =
               subst (λ s. GoesOn durable state may is_read (λ r. TurnOf settling r (target t) number) a s) (sym given_up)
-              (foreign-goes durable state may is_read findable alike a can t k.before k.now k.place k.few k.plan k.clock why opens settling number (λ some. ap (says stop_foreign) (sym is) ∙ k.native some) (ap stop_foreign same))
+              (foreign-goes durable state may is_read findable alike a can t k.was.before k.was.now k.was.place k.was.few k.was.plan k.was.clock why opens settling number (λ some. ap (says stop_foreign) (sym is) ∙ k.was.native some) (ap stop_foreign same))

@@ -40,20 +40,20 @@ module _ {S C : Type 0} (durable : S → Option Durable) (state : S → State) (
             client-went-done durable state may is_read findable alike a can n k.before k.now k.did k.left k.here k.plan (ap (λ q. q.asked) left) (ap (λ q. q.issued) left) (ap (λ q. q.lines) left) settling number none (ap (λ q. q.messages) left) turn
 
     module _ (settling : Bool) (t number : ℕ) where
-      worked-goes : TargetWorked durable state may is_read settling t number a b → GoesOn durable state may is_read (λ r. TurnOf settling r (target t) number) a b
+      pub worked-goes : TargetWorked durable state may is_read settling t number a b → GoesOn durable state may is_read (λ r. TurnOf settling r (target t) number) a b
       worked-goes k = by k.ends
         where
-          by : WorkEnds durable state may t k.before k.now k.left a b k.result → GoesOn durable state may is_read (λ r. TurnOf settling r (target t) number) a b
+          by : WorkEnds durable state may t k.work.before k.work.now k.work.left a b k.work.result → GoesOn durable state may is_read (λ r. TurnOf settling r (target t) number) a b
           by (Whole did is after) =
               subst (λ s. GoesOn durable state may is_read (λ r. TurnOf settling r (target t) number) a s) (sym after)
-              (whole-done durable state may is_read findable alike a can t k.before k.now k.place k.plan (served-by-runs stop_store k.result (state k.before.store) (state k.now.store) (durable k.before.store) (durable k.now.store) k.runs) k.clock did k.left k.opened
-              (subst (λ q. Runs stop_store q (state k.before.store) (state k.now.store) (durable k.before.store) (durable k.now.store)) is k.runs)
-              (subst (λ q. IfOk q (λ d. PostsInForm k.before.plan.targets k.before.memory.leader k.now.memory.leader d.posts)) is k.posts) settling number (none-prunes durable state may a can t number)
-              (subst (IsTurned durable state may settling t number k.before k.now a.between k.left) is k.turned))
+              (whole-done durable state may is_read findable alike a can t k.work.before k.work.now k.work.place k.work.plan (served-by-runs stop_store k.work.result (state k.work.before.store) (state k.work.now.store) (durable k.work.before.store) (durable k.work.now.store) k.work.runs) k.work.clock did k.work.left k.work.opened
+              (subst (λ q. Runs stop_store q (state k.work.before.store) (state k.work.now.store) (durable k.work.before.store) (durable k.work.now.store)) is k.work.runs)
+              (subst (λ q. IfOk q (λ d. PostsInForm k.work.before.plan.targets k.work.before.memory.leader k.work.now.memory.leader d.posts)) is k.work.posts) settling number (none-prunes durable state may a can t number)
+              (subst (IsTurned durable state may settling t number k.work.before k.work.now a.between k.work.left) is k.work.turned))
           by (Cut why is after) =
               let cut = is ∙ ap Err after.cut in
-              cut-done durable state may is_read findable alike a can t k.before k.now k.place k.plan (served-by-runs stop_store k.result (state k.before.store) (state k.now.store) (durable k.before.store) (durable k.now.store) k.runs) k.clock k.left after.issued after.lines k.runs.fuse
-              (k.runs.cause (ap (says stop_store) cut)) b settling number (none-prunes durable state may a can t number) (subst (IsTurned durable state may settling t number k.before k.now a.between k.left) cut k.turned) after.after
+              cut-done durable state may is_read findable alike a can t k.work.before k.work.now k.work.place k.work.plan (served-by-runs stop_store k.work.result (state k.work.before.store) (state k.work.now.store) (durable k.work.before.store) (durable k.work.now.store) k.work.runs) k.work.clock k.work.left after.issued after.lines k.work.runs.fuse
+              (k.work.runs.cause (ap (says stop_store) cut)) b settling number (none-prunes durable state may a can t number) (subst (IsTurned durable state may settling t number k.work.before k.work.now a.between k.work.left) cut k.work.turned) after.after
 
       -- a target's turn
       pub target-turn-goes : TargetTurned durable state may is_read settling t number a b → GoesOn durable state may is_read (λ r. TurnOf settling r (target t) number) a b

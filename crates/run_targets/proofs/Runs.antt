@@ -1,8 +1,8 @@
 -- A run of clients and targets, from its first stage to its report.
-use Rattle.std.specs.Prelude.{ℕ, ◌≡◌, ◌≤◌, true, false, List, [], slice_get, Bool, Option, Some, IfOk, Ok, Result, refl}
+use Rattle.std.specs.Prelude.{ℕ, ◌≡◌, ◌≤◌, true, false, List, [], slice_get, Option, Some, IfErr, IfOk, Err, Ok, Result, refl}
 use Rattle.std.specs.Vec.{with_items}
 use Rattle.std.specs.declared.vec.Vec.{Vec}
-use Rattle.std.proofs.Common.{sym, ◌∙◌, ap, subst, arith}
+use Rattle.std.proofs.Common.{sym, ◌∙◌, ap, subst}
 use Rattle.std.proofs.lemmas.List.{with_items_is}
 use Rattle.base_types.specs.declared.job.Job.{Job}
 use Rattle.base_types.specs.declared.report.Line.{Line}
@@ -13,21 +13,22 @@ use Rattle.client_core.specs.Clients.{ClientNow}
 use Rattle.daos_model.specs.Opening.{Given, Opening}
 use Rattle.daos_model.specs.declared.durable.Durable.{Durable}
 use Rattle.run_base.specs.Letters.{BetweenNow}
-use Rattle.run_ends.specs.Armed.{armed-accounted, fuses-serve, fuses-started, fuses-tell, states_of}
-use Rattle.run_ends.specs.Arming.{AreArmed, AreUnfused, HaveFuses}
-use Rattle.run_ends.specs.Begun.{can-go, first_stage, first_world, is-begun, nothing, shows-first}
-use Rattle.run_ends.specs.Comes.{ComesTo, report_with}
+use Rattle.run_ends.specs.Armed.{armed-accounted, armed-first, before-fuse, fuses-serve, fuses-started, fuses-tell, states_of, told-fuse}
+use Rattle.run_ends.specs.Arming.{AreArmed, AreUnfused}
+use Rattle.run_ends.specs.Begun.{IsFirstWatch, can-go, first_stage, first_world, is-begun, nothing, shows-first}
+use Rattle.run_ends.specs.Comes.{BreaksOffSo, ComesTo, report_with}
+use Rattle.run_ends.specs.Keeping.{all-tell, breaks-off}
 use Rattle.run_ends.specs.Ending.{comes-to}
-use Rattle.run_ends.specs.Lasts.{AreSteady}
 use Rattle.run_ends.specs.Starts.{AllTell, HaveStarted, given_by, stores_of}
-use Rattle.run_reports.specs.Reports.{AreTyped}
-use Rattle.run_shows.specs.Accounts.{AreAccounted, AreServed, one_if}
+use Rattle.run_ends.specs.Reports.{AreTyped}
+use Rattle.run_shows.specs.Accounts.{AreAccounted, AreServed}
 use Rattle.run_shows.specs.CanGo.{CanGo}
-use Rattle.run_shows.specs.Going.{AreAlike, AreFindable}
+use Rattle.run_shows.specs.Going.{AreAlike, AreFindable, AreSteady}
 use Rattle.run_shows.specs.Serving.{served-then}
 use Rattle.run_shows.specs.Shows.{Shows}
 use Rattle.run_shows.specs.Stages.{StageNow}
-use Rattle.run_steps.specs.Ended.{HasRunWith, left_of}
+use Rattle.run_steps.specs.Breaking.{Breaks, broke-between}
+use Rattle.run_steps.specs.Ended.{AllCanReopen, HasRunWith, left_of}
 use Rattle.run_watch.specs.Watches.{WatchNow, first_watch}
 use Rattle.target_core.specs.Targets.{TargetOf}
 use Rattle.vos_store.specs.Calls.{State}
@@ -51,22 +52,32 @@ first-is cs ts armed v b same messages asked issued lines =
 
 -- ---- no fuse is set any more
 
-unset : (b : Bool) → one_if b ≡ 0 → b ≡ false
-unset false none = refl
-unset true none = absurd (omega (arith, none))
-
 module _ {S C Z : Type 0} (durable : S → Option Durable) (state : S → State) (may : S → Durable → Type 0) (v : Vec (TargetOf S C) Z) (xs ys : List (TargetOf S C)) (its : xs ≡ v.items) (k : AreUnfused durable state may xs ys) where
   unfused : AreUnfused durable state may v.items ys
   unfused = subst (λ zs. AreUnfused durable state may zs ys) its k
 
   pub put-is : (with_items v ys).items ≡ ys
-  put-is = with_items_is v ys (unfused.fuses.many ∙ sym v.ok.0)
+  put-is = with_items_is v ys (unfused.many ∙ sym v.ok.0)
 
   pub put-served : (is_read : C → C → Type 0) → AreServed durable state is_read v.items (with_items v ys).items
-  put-served is_read = subst (AreServed durable state is_read v.items) (sym put-is) (fuses-serve durable state may v.items ys unfused.fuses is_read)
+  put-served is_read = subst (AreServed durable state is_read v.items) (sym put-is) (fuses-serve durable state may v.items ys unfused is_read)
 
   pub put-unfused : (t : ℕ) (y : TargetOf S C) → slice_get (with_items v ys).items t ≡ Some y → (state y.store).tells_fuse ≡ true → (state y.store).fused ≡ false
-  put-unfused t y there tells = unset (state y.store).fused (unfused.gone t y (ap (λ zs. slice_get zs t) (sym put-is) ∙ there) tells)
+  put-unfused t y there tells =
+      let at : slice_get ys t ≡ Some y = ap (λ zs. slice_get zs t) (sym put-is) ∙ there in
+      let x = before-fuse durable state may v.items ys unfused t y at in
+      told-fuse durable state may 0 x.0 y (unfused.each t x.0 y x.1 at) tells
+
+-- ---- a run that hasn't begun
+
+-- memory was wanting before the first turn
+pub breaks-early : {S C Z : Type 0} (durable : S → Option Durable) (state : S → State) (may : S → Durable → Type 0) (is_read : C → C → Type 0) (s : Script) (j : Job) (o : Opening) (cs : List ClientNow) (v : Vec (TargetOf S C) Z) (xs ys : List (TargetOf S C)) → xs ≡ v.items → AreUnfused durable state may xs ys
+    → AreSteady durable state may → AreAlike durable → HaveStarted durable state (given_by s j o) cs v.items → AllTell durable (stores_of v.items) → BreaksOffSo durable may (given_by s j o) (stores_of v.items) (stores_of (with_items v ys).items)
+breaks-early durable state may is_read s j o cs v xs ys its k steady alike started told =
+    subst (λ zs. BreaksOffSo durable may (given_by s j o) (stores_of v.items) (stores_of zs)) (sym (put-is durable state may v xs ys its k))
+    (breaks-off durable state may (given_by s j o) cs v.items v.items v.items ys (first_watch s.targets s.stops) started told (all-tell durable state may alike (given_by s j o) cs v.items started told) refl refl
+    (λ t x y at there. let same : x ≡ y = let e : Some x ≡ Some y = sym at ∙ there in cc in ap (λ z. durable z.store) (sym same))
+    (broke-between durable state may is_read steady (first_stage cs v.items (first_watch s.targets s.stops)) v.items refl) (subst (λ zs. AreUnfused durable state may zs ys) its k))
 
 -- ---- before the run
 
@@ -80,6 +91,9 @@ module _ {S C Z : Type 0} (durable : S → Option Durable) (state : S → State)
   fuses =
       subst (λ u. AreArmed durable state may v.items armed u now) (new ∙ ap (first_watch s.targets) lines)
       (subst (λ zs. AreArmed durable state may zs armed w now) its k)
+
+  is-first : IsFirstWatch s.targets now
+  is-first = armed-first durable state may s.stops s.targets v.items armed now fuses
 
   put : (with_items v armed).items ≡ armed
   put = with_items_is v armed (fuses.fuses.many ∙ sym v.ok.0)
@@ -95,7 +109,7 @@ module _ {S C Z : Type 0} (durable : S → Option Durable) (state : S → State)
     begins = fuses-started durable state may v.items armed fuses.fuses g cs started
 
     pub goes : AreAlike durable → CanGo durable state may stage
-    goes alike = subst (CanGo durable state may) (sym stage-is) (can-go durable state g cs armed begins may now fuses.watch alike)
+    goes alike = subst (CanGo durable state may) (sym stage-is) (can-go durable state g cs armed begins may now is-first alike)
 
   -- ---- and after it
 
@@ -120,7 +134,7 @@ module _ {S C Z : Type 0} (durable : S → Option Durable) (state : S → State)
         has-run run =
             subst (λ z. IfOk z (λ ls. HasRunWith durable state may (rules_of (given_by s j o)) j.order (first_world durable state cs armed) (left_of rest.items in_the_end ls))) is
             (run (rules_of (given_by s j o)) (first_world durable state cs armed) o started.simple (is-begun durable state (given_by s j o) cs armed (begins o started) armed-told)
-            (λ found. subst (λ a. Shows durable state (rules_of (given_by s j o)) found a (first_world durable state cs armed)) (sym stage-is) (shows-first durable state (given_by s j o) cs armed (begins o started) armed-told now fuses.watch found)))
+            (λ found. subst (λ a. Shows durable state (rules_of (given_by s j o)) found a (first_world durable state cs armed)) (sym stage-is) (shows-first durable state (given_by s j o) cs armed (begins o started) armed-told now is-first found)))
 
         accounted : ((h : ℕ → State) (some : List StopDecl) → AreAccounted durable state h some stage → IfOk ran (λ ls. AreAccounted durable state h some (left_of rest.items in_the_end ls))) → AreAccounted durable state (states_of state v.items) s.stops (left_of rest.items in_the_end found-lines)
         accounted accounts =
@@ -131,8 +145,8 @@ module _ {S C Z : Type 0} (durable : S → Option Durable) (state : S → State)
         pub comes : AreSteady durable state may → AreFindable durable may → AreAlike durable
             → ((r : Rules) (first : World) (p : Opening) → IsSimple r → IsBegun r p first → ((found : ℕ → Durable) → Shows durable state r found stage first) → IfOk ran (λ ls. HasRunWith durable state may r j.order first (left_of rest.items in_the_end ls)))
             → ((h : ℕ → State) (some : List StopDecl) → AreAccounted durable state h some stage → IfOk ran (λ ls. AreAccounted durable state h some (left_of rest.items in_the_end ls)))
-            → (q : Report) → q ≡ report_with s found-lines → AreTyped found-lines → j.attempts ≤ 256 → ComesTo durable state may (given_by s j o) (stores_of v.items) (stores_of (with_items rest ys).items) q
-        comes steady findable alike run accounts q report typed byte =
+            → IfOk ran (λ ls. AllCanReopen durable state may rest.items) → (q : Report) → q ≡ report_with s found-lines → AreTyped found-lines → j.attempts ≤ 256 → ComesTo durable state may (given_by s j o) (stores_of v.items) (stores_of (with_items rest ys).items) q
+        comes steady findable alike run accounts reopens q report typed byte =
             subst (ComesTo durable state may (given_by s j o) (stores_of v.items) (stores_of (with_items rest ys).items)) (sym report)
             (subst (λ zs. ComesTo durable state may (given_by s j o) (stores_of v.items) (stores_of zs) (report_with s found-lines)) (sym (put-is durable state may rest left ys those gone))
             (comes-to durable state may steady findable alike (given_by s j o) cs v.items ys found-lines started told
@@ -145,6 +159,16 @@ module _ {S C Z : Type 0} (durable : S → Option Durable) (state : S → State)
               run = has-run run;
               accounted = accounted accounts;
               many = serves.many;
-              unfused = subst (λ zs. HaveFuses durable state may zs ys) those gone.fuses;
+              reopens = subst (λ z. IfOk z (λ ls. AllCanReopen durable state may rest.items)) is reopens;
+              unfused = subst (λ zs. AreUnfused durable state may zs ys) those gone;
             })
             typed byte))
+
+      -- memory was wanting in it
+      pub breaks-late : {T E : Type 0} (ran : Result T E) (error : E) → ran ≡ Err error → AreSteady durable state may → AreAlike durable → IfErr ran (λ e. Breaks durable state may stage rest.items)
+          → BreaksOffSo durable may (given_by s j o) (stores_of v.items) (stores_of (with_items rest ys).items)
+      breaks-late ran error is steady alike broke =
+          subst (λ zs. BreaksOffSo durable may (given_by s j o) (stores_of v.items) (stores_of zs)) (sym (put-is durable state may rest left ys those gone))
+          (breaks-off durable state may (given_by s j o) cs v.items armed rest.items ys now (begins o started) armed-told (all-tell durable state may alike (given_by s j o) cs v.items started told) is-first fuses.fuses.many
+          (λ t x y at there. (fuses.fuses.each t x y at there).kept) (subst (λ a. Breaks durable state may a rest.items) stage-is (subst (λ q. IfErr q (λ e. Breaks durable state may stage rest.items)) is broke))
+          (subst (λ zs. AreUnfused durable state may zs ys) those gone))

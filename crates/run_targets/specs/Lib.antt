@@ -1,1 +1,2 @@
--- Nothing of its own: what a run begins with and comes to is said below.
+-- What a run begins with and comes to, passed on.
+pub mod Ends

@@ -1,7 +1,7 @@
 // Clients and targets run a script.
-ghost use Rattle.std.specs.Prelude.{◌≡◌, ◌≤◌, ◌<◌, ℕ, IfOk, length, slice_get, Some, true, false};
+ghost use Rattle.std.specs.Prelude.{◌≡◌, ◌≤◌, ◌<◌, ℕ, IfErr, IfOk, length, slice_get, Some, true, false};
 ghost use Rattle.daos_model.specs.Opening.{Opening};
-ghost use Rattle.run_ends.specs.Comes.{ComesTo, IsReportOfLines};
+ghost use Rattle.run_ends.specs.Comes.{BreaksOffSo, ComesTo, IsReportOfLines};
 ghost use Rattle.run_ends.specs.Starts.{AllTell, HaveStarted, given_by, stores_of};
 ghost use Rattle.run_shows.specs.Accounts.{AreServed};
 ghost use Rattle.target_core.specs.Targets.{TargetOf};
@@ -31,7 +31,8 @@ use vos_store::store::Fuse;
 ///
 /// # Errors
 ///
-/// For want of memory.
+/// For want of memory. What the targets keep then stands for the opening and the attempts that are resolved
+/// there, and it is sound where it was sound at the beginning.
 pub fn run_targets<R: Wait, S: Fuse, C: Clock, G: Gate>(
     rt: &R,
     alloc: Global,
@@ -45,6 +46,8 @@ pub fn run_targets<R: Wait, S: Fuse, C: Clock, G: Gate>(
     requires most { job.now.attempts ≤ 256 }
     ensures comes { (o : Opening) → HaveStarted S.durable S.state (given_by script.now job.now o) clients.items targets.items → AllTell S.durable (stores_of targets.items)
         → IfOk result.1 (ComesTo S.durable S.state S.may (given_by script.now job.now o) (stores_of targets.items) (stores_of result.0.items)) }
+    ensures broke { (o : Opening) → HaveStarted S.durable S.state (given_by script.now job.now o) clients.items targets.items → AllTell S.durable (stores_of targets.items)
+        → IfErr result.1 (λ error. BreaksOffSo S.durable S.may (given_by script.now job.now o) (stores_of targets.items) (stores_of result.0.items)) }
     ensures told { IfOk result.1 (IsReportOfLines script.now) }
     ensures served { AreServed S.durable S.state C.is_read targets.items result.0.items }
     ensures unfused { (t : ℕ) (y : TargetOf S C) → slice_get result.0.items t ≡ Some y → (S.state y.store).tells_fuse ≡ true → (S.state y.store).fused ≡ false }

@@ -1,5 +1,5 @@
 -- A turn that its store's stop cut short is one that the world knows, whatever the next opening finds.
-use Rattle.std.proofs.Common.{ℕ, ◌≡◌, refl, sym, ◌∙◌, ap, subst, true, false, List, [], ◌∷◌, ◌++◌, Option, Some, None, append_assoc}
+use Rattle.std.proofs.Common.{ℕ, ◌≡◌, refl, sym, ◌∙◌, ap, subst, arith, true, false, List, [], ◌∷◌, ◌++◌, Option, Some, None, append_assoc}
 use Rattle.base_types.specs.declared.epoch.Epoch.{Epoch}
 use Rattle.base_types.specs.declared.id.AttemptId.{AttemptId}
 use Rattle.base_types.specs.declared.report.Line.{Line}
@@ -12,8 +12,9 @@ use Rattle.world_base.specs.CutTurns.{CutHere, CutTurn, cut_line, issued_by_comm
 use Rattle.world_base.specs.PathLaws.{AllPlain}
 use Rattle.world_base.specs.Reads as read
 use Rattle.world_base.specs.Turns.{CutAt, Here, InChange, InQuestion, More, Path, listed}
+use Rattle.target_parts.specs.Parts.{Partway}
 use Rattle.target_parts.specs.Stops.{CutTelling, commit_issued, fetch_issued}
-use Rattle.target_core.specs.Targets.{cutting}
+use Rattle.target_core.specs.Targets.{IsKeptByCut, cutting}
 
 -- ---- plain changes have no lines
 
@@ -67,6 +68,16 @@ module _ {S : Type 0} (Next : S → Kept → Option Change → S → Type 0) (pl
         by (InChange change u next all) =
             subst (λ ls. CutHere Next t c.cut.last c.cut.mid x ls) (plain-cut t change (plain c.cut.last c.cut.mid (Some change) u next)) (cut.InChange change u next (all x found).0 (all x found).1)
         by (InQuestion all) = cut.InQuestion (all x found).0 (all x found).1
+
+-- ---- want of memory
+
+-- partway in a turn it might have been cut
+pub stops-there : {S : Type 0} (Next : S → Kept → Option Change → S → Type 0) (issues : S → List (AttemptId × Epoch)) (t : ℕ) (start : S) (old mid : Kept) → Partway Next start old mid → IsKeptByCut (CutTurn Next issues t start old) mid
+stops-there Next issues t start old mid p = record {
+  cut = record { left = mid; issued = issues p.last; lines = lines_of t p.reached.did ++ [] };
+  left = refl;
+  was = record { last = p.last; mid = mid; did = p.reached.did; path = p.reached.path; lines = []; here = cut.InQuestion refl (omega arith); issued = refl; all_lines = refl };
+}
 
 -- ---- which epochs were issued
 

@@ -28,7 +28,7 @@ use Rattle.world_base.specs.Acks as ack
 use Rattle.world_base.specs.Changes.{Change, Kept}
 use Rattle.world_base.specs.Commits as commit
 use Rattle.world_base.specs.Commits.{CommitNext}
-use Rattle.world_base.specs.CutTurns.{Before, NoneIsDown, OneIsDown, UnstoredNext, issued_by_commit, issued_by_fetch, listed_issue, none_issued}
+use Rattle.world_base.specs.CutTurns.{Before, HearingIsCut, NoneIsDown, OneIsDown, UnstoredNext, issued_by_commit, issued_by_fetch, listed_issue, none_issued}
 use Rattle.world_base.specs.Further.{CommitDown, HearsFurther, KnowsNoneDown, reset_by}
 use Rattle.world_base.specs.Idle.{IdleEnds, IdleNext}
 use Rattle.world_base.specs.Marks.{MarkEnds, MarkNext}
@@ -43,13 +43,14 @@ use Rattle.world_base.specs.Turns.{Here, More, Path, Reached, Whole}
 use Rattle.world_base.specs.Verdicts as verdict
 use Rattle.target_parts.specs.declared.stop.TargetStop.{TargetStop}
 use Rattle.target_parts.specs.declared.stop.TargetStop.TheVariants as stop
-use Rattle.target_parts.specs.Parts.{Now, kept, left_by}
+use Rattle.target_parts.specs.Parts.{Now, Partway, Stays, kept, left_by}
+use Rattle.target_parts.specs.Turning.{now_partway}
 use Rattle.target_parts.specs.Stops.{Turn, commit_issued, fetch_issued, never}
 use Rattle.target_reads.specs.Again.{VerdictTurn}
 use Rattle.target_reads.specs.Fetches.{FetchTurn}
 use Rattle.target_writes.specs.Turns.{CommitTurn, DownTurn, PrepareTurn}
-use Rattle.target_core.specs.Targets.{Further, HasFormAfterStops, Heard, HearsOrStops, IdlesOrStops, Plainly, is_collecting}
-use Rattle.target_core.proofs.Cutting.{commit-issues, cut-turn, fetch-issues}
+use Rattle.target_core.specs.Targets.{Further, HasFormAfterStops, Heard, HearsNoFurther, HearsOrStops, HearsPartway, IdlesOrStops, IsKeptByCut, Plainly, is_collecting}
+use Rattle.target_core.proofs.Cutting.{commit-issues, cut-turn, fetch-issues, stops-there}
 
 -- ---- turns that change nothing, and Commits of which nothing is stored
 
@@ -99,53 +100,76 @@ module _ (t : TargetPlan) (m : TargetMemory) (reading : ℕ) (from : ActorId) (d
   further-any : (q : Message) (did : Did) (P : Kept → Type 0) → ((number : ℕ) (l : Kept) → P l → HearsFurther number t h.opening m reading from q (kept d h) l (left, did)) → Now new k P → Now new k (λ l. (number : ℕ) → Heard number t h.opening m reading from q (kept d h) l (left, did))
   further-any q did P gives now = further-now q did (record { durable = now.durable; kept_is = now.kept_is; holds = λ number. gives number _ now.holds })
 
+  -- memory was wanting on the way, where it might have been cut
+  wanting : (q : Message) → ((l : Kept) (number : ℕ) → HearsPartway t h.opening m reading from q (kept d h) l → IsKeptByCut (HearingIsCut is_prepared number t h.opening m reading from q (kept d h)) l)
+      → Now new k (HearsPartway t h.opening m reading from q (kept d h)) → Now new k (HearsNoFurther t h.opening m reading from q (kept d h))
+  wanting q stops now = record { durable = now.durable; kept_is = now.kept_is; holds = λ number. record { partly = now.holds; stops = stops _ number now.holds } }
+
+  commit-wanting : (a : AttemptId) (ep first : Option Epoch) (tracker : Epoch) (ws : List MinorWrite) → ((e : Epoch) → down_of t m (commit_request a ep first tracker ws) e ≡ None)
+      → Now new k (Partway (commit.CommitNext t h.opening m reading (commit_request a ep first tracker ws)) commit.Asked (kept d h)) → Now new k (HearsNoFurther t h.opening m reading from (Commit a ep first tracker ws) (kept d h))
+  commit-wanting a ep first tracker ws up now =
+      wanting (Commit a ep first tracker ws) (λ l number p. let z = stops-there (commit.CommitNext t h.opening m reading (commit_request a ep first tracker ws)) (issued_by_commit (commit_request a ep first tracker ws)) t.me commit.Asked (kept d h) l p in record { cut = z.cut; left = z.left; was = NoneIsDown up z.was }) now
+
+  unstored-wanting : (a : AttemptId) (ep first : Option Epoch) (tracker : Epoch) (ws : List MinorWrite) (e : Epoch) (down : ℕ) → down_of t m (commit_request a ep first tracker ws) e ≡ Some down
+      → Now new k (Partway (UnstoredNext t h.opening m reading (commit_request a ep first tracker ws)) commit.Asked (kept d h)) → Now new k (HearsNoFurther t h.opening m reading from (Commit a ep first tracker ws) (kept d h))
+  unstored-wanting a ep first tracker ws e down is now = record {
+    durable = now.durable;
+    kept_is = now.kept_is;
+    holds = λ number.
+        let z = stops-there (UnstoredNext t h.opening m reading (commit_request a ep first tracker ws)) (issued_by_commit (commit_request a ep first tracker ws)) t.me commit.Asked (kept d h) _ now.holds in
+        record {
+          partly = record { last = now.holds.last; reached = unstored-reached t h.opening m reading (commit_request a ep first tracker ws) commit.Asked (kept d h) now.holds.last _ now.holds.reached };
+          stops = record { cut = z.cut; left = z.left; was = OneIsDown e down is z.was };
+        };
+  }
+
   pub hears-fetch : (a : AttemptId) (op group : ℕ) (ep first : Option Epoch) (tracker : Epoch) (q : Read) (snapshot : Bool) (r : Result Did TargetStop) → FetchTurn t m reading (fetch_request a op group ep first tracker q snapshot) from read.Asked d h new k finds left r → HearsOrStops t m reading from (Fetch a op group ep first tracker q snapshot) d h new k finds left r
   hears-fetch a op group ep first tracker q snapshot (Ok did) turn = plain-now (Fetch a op group ep first tracker q snapshot) tt did turn
   hears-fetch a op group ep first tracker q snapshot (Err (stop.Store issued lines)) turn = λ number x found. cut-turn (read.FetchNext t m reading (fetch_request a op group ep first tracker q snapshot)) (fetch-plain t m reading (fetch_request a op group ep first tracker q snapshot)) t.me (fetch_issued (fetch_request a op group ep first tracker q snapshot)) (issued_by_fetch (fetch_request a op group ep first tracker q snapshot)) (fetch-issues (fetch_request a op group ep first tracker q snapshot)) read.Asked (kept d h) (left_by k finds) issued lines turn x found
   hears-fetch a op group ep first tracker q snapshot (Err (stop.Foreign at byte)) turn = turn
-  hears-fetch a op group ep first tracker q snapshot (Err stop.Memory) turn = turn
+  hears-fetch a op group ep first tracker q snapshot (Err stop.Memory) turn = wanting (Fetch a op group ep first tracker q snapshot) (λ l number p. stops-there (read.FetchNext t m reading (fetch_request a op group ep first tracker q snapshot)) (issued_by_fetch (fetch_request a op group ep first tracker q snapshot)) t.me read.Asked (kept d h) l p) turn
 
   pub hears-commit : (a : AttemptId) (ep first : Option Epoch) (tracker : Epoch) (ws : List MinorWrite) → ((e : Epoch) → down_of t m (commit_request a ep first tracker ws) e ≡ None) → (r : Result Did TargetStop) → CommitTurn t h.opening m reading (commit_request a ep first tracker ws) from commit.Asked d h new k finds left r → HearsOrStops t m reading from (Commit a ep first tracker ws) d h new k finds left r
   hears-commit a ep first tracker ws up (Ok did) turn = plain-now (Commit a ep first tracker ws) up did turn
   hears-commit a ep first tracker ws up (Err (stop.Store issued lines)) turn = λ number x found. NoneIsDown up (cut-turn (commit.CommitNext t h.opening m reading (commit_request a ep first tracker ws)) (commit-plain t h.opening m reading (commit_request a ep first tracker ws)) t.me (commit_issued (commit_request a ep first tracker ws)) (issued_by_commit (commit_request a ep first tracker ws)) (commit-issues (commit_request a ep first tracker ws)) commit.Asked (kept d h) (left_by k finds) issued lines turn x found)
   hears-commit a ep first tracker ws up (Err (stop.Foreign at byte)) turn = turn
-  hears-commit a ep first tracker ws up (Err stop.Memory) turn = turn
+  hears-commit a ep first tracker ws up (Err stop.Memory) turn = commit-wanting a ep first tracker ws up turn
 
   pub hears-prepare : (e : Entry) (first : Option Epoch) (ws : List MinorWrite) (inc : ℕ) (r : Result Did TargetStop) → PrepareTurn t h.opening m (prepare_request e first ws inc) prepare.Heard d h new k finds left r → HearsOrStops t m reading from (Prepare e first ws inc) d h new k finds left r
   hears-prepare e first ws inc (Ok did) turn = plain-now (Prepare e first ws inc) tt did turn
   hears-prepare e first ws inc (Err (stop.Store issued lines)) turn = λ number x found. cut-turn (prepare.PrepareNext t h.opening m (prepare_request e first ws inc)) (prepare-plain t h.opening m (prepare_request e first ws inc)) t.me never none_issued (λ s. refl) prepare.Heard (kept d h) (left_by k finds) issued lines turn x found
   hears-prepare e first ws inc (Err (stop.Foreign at byte)) turn = turn
-  hears-prepare e first ws inc (Err stop.Memory) turn = turn
+  hears-prepare e first ws inc (Err stop.Memory) turn = wanting (Prepare e first ws inc) (λ l number p. stops-there (prepare.PrepareNext t h.opening m (prepare_request e first ws inc)) none_issued t.me prepare.Heard (kept d h) l p) turn
 
   pub hears-ack : (a : AttemptId) (inc : ℕ) (refusal : Option Outcome) (r : Result Did TargetStop) → Turn (ack.AckNext t m from.number a inc refusal) never ack.Heard (kept d h) (λ did l. Whole (ack.AckNext t m from.number a inc refusal) (ack.AckEnds m) ack.Heard (kept d h) l (left, did)) new k finds r → HearsOrStops t m reading from (Ack a inc refusal) d h new k finds left r
   hears-ack a inc refusal (Ok did) turn = plain-now (Ack a inc refusal) tt did turn
   hears-ack a inc refusal (Err (stop.Store issued lines)) turn = λ number x found. cut-turn (ack.AckNext t m from.number a inc refusal) (ack-plain t m from.number a inc refusal) t.me never none_issued (λ s. refl) ack.Heard (kept d h) (left_by k finds) issued lines turn x found
   hears-ack a inc refusal (Err (stop.Foreign at byte)) turn = turn
-  hears-ack a inc refusal (Err stop.Memory) turn = turn
+  hears-ack a inc refusal (Err stop.Memory) turn = wanting (Ack a inc refusal) (λ l number p. stops-there (ack.AckNext t m from.number a inc refusal) none_issued t.me ack.Heard (kept d h) l p) turn
 
   pub hears-mark : (inc : ℕ) (marks : List (AttemptId × Bool)) (r : Result Did TargetStop) → Turn (MarkNext is_prepared) never marks (kept d h) (λ did l. Whole (MarkNext is_prepared) (MarkEnds (told_of_all (attempts_of marks) m) from inc marks) marks (kept d h) l (left, did)) new k finds r → HearsOrStops t m reading from (Mark inc marks) d h new k finds left r
   hears-mark inc marks (Ok did) turn = plain-now (Mark inc marks) tt did turn
   hears-mark inc marks (Err (stop.Store issued lines)) turn = λ number x found. cut-turn (MarkNext is_prepared) (mark-plain is_prepared) t.me never none_issued (λ s. refl) marks (kept d h) (left_by k finds) issued lines turn x found
   hears-mark inc marks (Err (stop.Foreign at byte)) turn = turn
-  hears-mark inc marks (Err stop.Memory) turn = turn
+  hears-mark inc marks (Err stop.Memory) turn = wanting (Mark inc marks) (λ l number p. stops-there (MarkNext is_prepared) none_issued t.me marks (kept d h) l p) turn
 
   pub hears-marked : (inc : ℕ) (ids : List AttemptId) (r : Result Did TargetStop) → Turn (ack.MarkedNext t m from.number) never (ack.to_confirm inc ids d) (kept d h) (λ did l. Whole (ack.MarkedNext t m from.number) (ack.MarkedEnds t m from.number inc ids) (ack.to_confirm inc ids d) (kept d h) l (left, did)) new k finds r → HearsOrStops t m reading from (Marked inc ids) d h new k finds left r
   hears-marked inc ids (Ok did) turn = plain-now (Marked inc ids) tt did turn
   hears-marked inc ids (Err (stop.Store issued lines)) turn = λ number x found. cut-turn (ack.MarkedNext t m from.number) (marked-plain t m from.number) t.me never none_issued (λ s. refl) (ack.to_confirm inc ids d) (kept d h) (left_by k finds) issued lines turn x found
   hears-marked inc ids (Err (stop.Foreign at byte)) turn = turn
-  hears-marked inc ids (Err stop.Memory) turn = turn
+  hears-marked inc ids (Err stop.Memory) turn = wanting (Marked inc ids) (λ l number p. stops-there (ack.MarkedNext t m from.number) none_issued t.me (ack.to_confirm inc ids d) (kept d h) l p) turn
 
   pub hears-query : (a : AttemptId) (ask : Option AttemptId) (r : Result Did TargetStop) → Turn verdict.QueryNext never verdict.IsAsked (kept d h) (λ did l. Whole verdict.QueryNext (verdict.QueryEnds t m from a ask) verdict.IsAsked (kept d h) l (left, did)) new k finds r → HearsOrStops t m reading from (Query a ask) d h new k finds left r
   hears-query a ask (Ok did) turn = plain-now (Query a ask) tt did turn
   hears-query a ask (Err (stop.Store issued lines)) turn = λ number x found. cut-turn (verdict.QueryNext) (query-plain) t.me never none_issued (λ s. refl) verdict.IsAsked (kept d h) (left_by k finds) issued lines turn x found
   hears-query a ask (Err (stop.Foreign at byte)) turn = turn
-  hears-query a ask (Err stop.Memory) turn = turn
+  hears-query a ask (Err stop.Memory) turn = wanting (Query a ask) (λ l number p. stops-there (verdict.QueryNext) none_issued t.me verdict.IsAsked (kept d h) l p) turn
 
   pub hears-verdict : (a : AttemptId) (ask : Option AttemptId) (inc : ℕ) (v : VerdictOf) (r : Result Did TargetStop) → VerdictTurn t (told_by v a m) reading a ask v verdict.Heard d h new k finds left r → HearsOrStops t m reading from (Verdict a ask inc v) d h new k finds left r
   hears-verdict a ask inc v (Ok did) turn = plain-now (Verdict a ask inc v) tt did turn
   hears-verdict a ask inc v (Err (stop.Store issued lines)) turn = λ number x found. cut-turn (verdict.VerdictNext is_prepared t (told_by v a m) reading a ask v) (verdict-plain is_prepared t (told_by v a m) reading a ask v) t.me never none_issued (λ s. refl) verdict.Heard (kept d h) (left_by k finds) issued lines turn x found
   hears-verdict a ask inc v (Err (stop.Foreign at byte)) turn = turn
-  hears-verdict a ask inc v (Err stop.Memory) turn = turn
+  hears-verdict a ask inc v (Err stop.Memory) turn = wanting (Verdict a ask inc v) (λ l number p. stops-there (verdict.VerdictNext is_prepared t (told_by v a m) reading a ask v) none_issued t.me verdict.Heard (kept d h) l p) turn
 
   -- ---- what comes of stops
 
@@ -153,13 +177,13 @@ module _ (t : TargetPlan) (m : TargetMemory) (reading : ℕ) (from : ActorId) (d
   hears-ask a (Ok did) turn = further-any (Ask a) did _ (λ number l w. w) turn
   hears-ask a (Err (stop.Store issued lines)) turn = λ number x found. cut-turn NoChange looking-plain t.me never none_issued (λ s. refl) Looking (kept d h) (left_by k finds) issued lines turn x found
   hears-ask a (Err (stop.Foreign at byte)) turn = turn
-  hears-ask a (Err stop.Memory) turn = turn
+  hears-ask a (Err stop.Memory) turn = wanting (Ask a) (λ l number p. stops-there (NoChange) none_issued t.me Looking (kept d h) l p) turn
 
   pub hears-status : (a : AttemptId) (inc : ℕ) (r : Result Did TargetStop) → Turn NoChange never Looking (kept d h) (λ did l. Whole NoChange (EndsAs (status_left m from a inc)) Looking (kept d h) l (left, did)) new k finds r → HearsOrStops t m reading from (Status a inc) d h new k finds left r
   hears-status a inc (Ok did) turn = further-any (Status a inc) did _ (λ number l w. w) turn
   hears-status a inc (Err (stop.Store issued lines)) turn = λ number x found. cut-turn NoChange looking-plain t.me never none_issued (λ s. refl) Looking (kept d h) (left_by k finds) issued lines turn x found
   hears-status a inc (Err (stop.Foreign at byte)) turn = turn
-  hears-status a inc (Err stop.Memory) turn = turn
+  hears-status a inc (Err stop.Memory) turn = wanting (Status a inc) (λ l number p. stops-there (NoChange) none_issued t.me Looking (kept d h) l p) turn
 
   pub hears-status_is : (a : AttemptId) (inc : ℕ) (how : EntryState) (r : Result Did TargetStop)
       → Turn (ack.AckNext t m from.number a inc (status_refusal a how)) never ack.Heard (kept d h) (λ did l. Whole (ack.AckNext t m from.number a inc (status_refusal a how)) (ack.AckEnds m) ack.Heard (kept d h) l (left, did)) new k finds r
@@ -168,7 +192,7 @@ module _ (t : TargetPlan) (m : TargetMemory) (reading : ℕ) (from : ActorId) (d
   hears-status_is a inc how (Err (stop.Store issued lines)) turn =
       λ number x found. cut-turn (ack.AckNext t m from.number a inc (status_refusal a how)) (ack-plain t m from.number a inc (status_refusal a how)) t.me never none_issued (λ s. refl) ack.Heard (kept d h) (left_by k finds) issued lines turn x found
   hears-status_is a inc how (Err (stop.Foreign at byte)) turn = turn
-  hears-status_is a inc how (Err stop.Memory) turn = turn
+  hears-status_is a inc how (Err stop.Memory) turn = wanting (StatusIs a inc how) (λ l number p. stops-there (ack.AckNext t m from.number a inc (status_refusal a how)) none_issued t.me ack.Heard (kept d h) l p) turn
 
   reset-rolled : (by : ℕ) (down : Bool) (asked : Message) → is_collecting asked ≡ false → (r : Result Did TargetStop) → Turn NoChange never Looking (kept d h) (λ did l. Whole NoChange (EndsAs (reset_left t m by down asked)) Looking (kept d h) l (left, did)) new k finds r
       → HearsOrStops t m reading from (own.roll-Message (own.Message-F.Reset by down asked)) d h new k finds left r
@@ -176,7 +200,7 @@ module _ (t : TargetPlan) (m : TargetMemory) (reading : ℕ) (from : ActorId) (d
   reset-rolled by down asked other (Ok did) turn = further-any (own.roll-Message (own.Message-F.Reset by down asked)) did _ (λ number l w. subst (λ f. Whole NoChange (EndsAs f) Looking (kept d h) l (left, did)) (sym (reset-as t m by down asked other)) w) turn
   reset-rolled by down asked other (Err (stop.Store issued lines)) turn = λ number x found. cut-turn NoChange looking-plain t.me never none_issued (λ s. refl) Looking (kept d h) (left_by k finds) issued lines turn x found
   reset-rolled by down asked other (Err (stop.Foreign at byte)) turn = turn
-  reset-rolled by down asked other (Err stop.Memory) turn = turn
+  reset-rolled by down asked other (Err stop.Memory) turn = wanting (own.roll-Message (own.Message-F.Reset by down asked)) (λ l number p. stops-there (NoChange) none_issued t.me Looking (kept d h) l p) turn
 
   pub hears-reset : (by : ℕ) (down : Bool) (asked : Message) → is_collecting asked ≡ false → (r : Result Did TargetStop) → Turn NoChange never Looking (kept d h) (λ did l. Whole NoChange (EndsAs (reset_left t m by down asked)) Looking (kept d h) l (left, did)) new k finds r
       → HearsOrStops t m reading from (Reset by down asked) d h new k finds left r
@@ -191,11 +215,15 @@ module _ (t : TargetPlan) (m : TargetMemory) (reading : ℕ) (from : ActorId) (d
       (cut-turn (UnstoredNext t h.opening m reading (commit_request a ep first tracker ws)) (unstored-plain t h.opening m reading (commit_request a ep first tracker ws)) t.me (commit_issued (commit_request a ep first tracker ws))
       (issued_by_commit (commit_request a ep first tracker ws)) (commit-issues (commit_request a ep first tracker ws)) commit.Asked (kept d h) (left_by k finds) issued lines turn x found)
   hears-commit_down a ep first tracker ws e down is (Err (stop.Foreign at byte)) turn = turn
-  hears-commit_down a ep first tracker ws e down is (Err stop.Memory) turn = record {
-    durable = turn.durable;
-    kept_is = turn.kept_is;
-    holds = record { last = turn.holds.last; reached = unstored-reached t h.opening m reading (commit_request a ep first tracker ws) commit.Asked (kept d h) turn.holds.last _ turn.holds.reached };
-  }
+  hears-commit_down a ep first tracker ws e down is (Err stop.Memory) turn = unstored-wanting a ep first tracker ws e down is turn
+
+  -- memory was wanting for a Commit that hadn't begun
+  pub commit-not_begun : (a : AttemptId) (ep first : Option Epoch) (tracker : Epoch) (ws : List MinorWrite) → Stays d h new k → Now new k (HearsNoFurther t h.opening m reading from (Commit a ep first tracker ws) (kept d h))
+  commit-not_begun a ep first tracker ws stays = by (down_of t m (commit_request a ep first tracker ws) (record { 0 = 0 })) refl
+    where
+      by : (o : Option ℕ) → down_of t m (commit_request a ep first tracker ws) (record { 0 = 0 }) ≡ o → Now new k (HearsNoFurther t h.opening m reading from (Commit a ep first tracker ws) (kept d h))
+      by None up = commit-wanting a ep first tracker ws (λ e. up) (now_partway (commit.CommitNext t h.opening m reading (commit_request a ep first tracker ws)) commit.Asked d h k new stays)
+      by (Some down) is = unstored-wanting a ep first tracker ws (record { 0 = 0 }) down is (now_partway (UnstoredNext t h.opening m reading (commit_request a ep first tracker ws)) commit.Asked d h k new stays)
 
 -- and its idle work
 pub idles : (settling : Bool) (t : TargetPlan) (m : TargetMemory) (d : Durable) (h : State) (new : Option Durable) (k : State) (finds : Durable → Type 0) (left : TargetMemory) (r : Result Did TargetStop)
@@ -203,4 +231,8 @@ pub idles : (settling : Bool) (t : TargetPlan) (m : TargetMemory) (d : Durable) 
 idles settling t m d h new k finds left (Ok did) turn = turn
 idles settling t m d h new k finds left (Err (stop.Store issued lines)) turn = λ x found. cut-turn IdleNext idle-plain t.me never none_issued (λ s. refl) m.leader.decided (kept d h) (left_by k finds) issued lines turn x found
 idles settling t m d h new k finds left (Err (stop.Foreign at byte)) turn = turn
-idles settling t m d h new k finds left (Err stop.Memory) turn = turn
+idles settling t m d h new k finds left (Err stop.Memory) turn = record {
+  durable = turn.durable;
+  kept_is = turn.kept_is;
+  holds = record { partly = turn.holds; stops = stops-there IdleNext none_issued t.me m.leader.decided (kept d h) _ turn.holds };
+}

@@ -125,13 +125,27 @@ HearsPartway t opening m reading from (StatusIs x inc how) old mid = Partway (ac
 HearsPartway t opening m reading from (Reset' by down place asked) old mid = Partway NoChange Looking old mid
 HearsPartway t opening m reading from other old mid = ⊥
 
+-- what is kept at a place of a turn where it might have been cut so
+pub record IsKeptByCut (WasCut : Cutting → Type 0) (mid : Kept) : Type 0 where
+  pub cut : Cutting
+  pub left : cut.left ≡ mid
+  pub was : WasCut cut
+
+-- Memory was wanting in a turn: some of its changes were made, each whole, and what is kept is what a stop there leaves.
+pub record WantsMemory (Partly : Kept → Type 0) (WasCut : Cutting → Type 0) (mid : Kept) : Type 0 where
+  pub partly : Partly mid
+  pub stops : IsKeptByCut WasCut mid
+
+abbrev pub HearsNoFurther : TargetPlan → Epoch × FloorWhy → TargetMemory → ℕ → ActorId → Message → Kept → Kept → Type 0
+HearsNoFurther t opening m reading from q old mid = (number : ℕ) → WantsMemory (HearsPartway t opening m reading from q old) (HearingIsCut is_prepared number t opening m reading from q old) mid
+
 -- A turn in which a target hears a message at a reading of its clock: it is whole, and these are what the target then
 -- keeps and knows and what follows; or it was cut short; or memory was wanting, and some changes were made, each whole.
 abbrev pub HearsOrStops : TargetPlan → TargetMemory → ℕ → ActorId → Message → Durable → State → Option Durable → State → (Durable → Type 0) → TargetMemory → Result Did TargetStop → Type 0
 HearsOrStops t m reading from message d h new k finds left (Ok did) = Now new k (λ l. (number : ℕ) → Heard number t h.opening m reading from message (kept d h) l (left, did))
 HearsOrStops t m reading from message d h new k finds left (Err (stop.Store issued lines)) = HearsCut t h.opening m reading from message (kept d h) (left_by k finds) issued lines
 HearsOrStops t m reading from message d h new k finds left (Err (stop.Foreign at byte)) = ⊥
-HearsOrStops t m reading from message d h new k finds left (Err stop.Memory) = Now new k (HearsPartway t h.opening m reading from message (kept d h))
+HearsOrStops t m reading from message d h new k finds left (Err stop.Memory) = Now new k (HearsNoFurther t h.opening m reading from message (kept d h))
 
 -- idle work was cut short, whatever the next opening finds
 abbrev pub IdlesCut : TargetPlan → TargetMemory → Kept → (Kept → Type 0) → Option (AttemptId × Epoch) → List Line → Type 0
@@ -143,4 +157,4 @@ abbrev pub IdlesOrStops : Bool → TargetPlan → TargetMemory → Durable → S
 IdlesOrStops settling t m d h new k finds left (Ok did) = Now new k (λ l. IdlesWhole settling t m (kept d h) l (left, did))
 IdlesOrStops settling t m d h new k finds left (Err (stop.Store issued lines)) = IdlesCut t m (kept d h) (left_by k finds) issued lines
 IdlesOrStops settling t m d h new k finds left (Err (stop.Foreign at byte)) = ⊥
-IdlesOrStops settling t m d h new k finds left (Err stop.Memory) = Now new k (Partway IdleNext m.leader.decided (kept d h))
+IdlesOrStops settling t m d h new k finds left (Err stop.Memory) = Now new k (WantsMemory (Partway IdleNext m.leader.decided (kept d h)) (IdleWorkIsCut t.me m (kept d h)))

@@ -1,11 +1,11 @@
 // The world of a run under one name: whether a list of events is a run, and the laws of all facts together, whatever crate holds them. Those of
-// world_shown, world_hearable and world_closing are of runs in which targets may stop, those of world_whole of runs without stops.
+// world_hearable and world_legal are of runs in which targets may stop, those of world_whole of runs without stops.
 #![tactic(auto)]
 
 pub use world_check::check::check_list;
-pub use world_closing::laws_of_closing;
 pub use world_hearable::{laws_of_hearing, laws_of_leases};
-pub use world_shown::laws_of_explanations;
+pub use world_legal::closing::laws_of_closing;
+pub use world_legal::shown::laws_of_explanations;
 pub use world_whole::{
     laws_of_beginnings, laws_of_clients, laws_of_forms, laws_of_requests, laws_of_runs,
     laws_of_stores,

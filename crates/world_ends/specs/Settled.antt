@@ -77,7 +77,8 @@ leases-below (e ∷ F) b low = both e.lease (greatest_lease F) (low 0 e refl) (l
     both : (a c : ℕ) → a ≤ b → c ≤ b → max a c ≤ b
     both a c p q = omega (arith, p, q)
 
-covered-within : (e lease : ℕ) → e / 256 ≤ lease → e ≤ restart_floor lease
+-- what the ticks of a lease cover is no later than its floor of restarts
+pub covered-within : (e lease : ℕ) → e / 256 ≤ lease → e ≤ restart_floor lease
 covered-within e lease low = omega (arith, low)
 
 pub floors-rise : (n low high : ℕ) → n ≤ restart_floor low → low ≤ high → n ≤ restart_floor high

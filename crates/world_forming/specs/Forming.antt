@@ -28,9 +28,9 @@ use Rattle.world_forms.specs.OutcomeForms.{AreFitLines}
 use Rattle.world_forms.specs.ReportForms.{down-is, none-made, try-among}
 use Rattle.world_gots.specs.Gots.{IsLineServed}
 use Rattle.world_lines.specs.LastLines.{lines-answered}
-use Rattle.world_reasons.specs.Accounted.{stored_over}
-use Rattle.world_shown.specs.Events.{runs-explained}
-use Rattle.world_shown.specs.Explained.{Explained}
+use Rattle.world_legal.specs.reasons.Accounted.{stored_over}
+use Rattle.world_legal.specs.shown.Events.{runs-explained}
+use Rattle.world_legal.specs.shown.Explained.{Explained}
 use Rattle.world_snapshots.specs.Makings.{ComesOf}
 use Rattle.world_standing.specs.Standing.{Standing}
 use Rattle.world_whole.specs.Begins.{IsBegun, IsOpeningPlain, IsSimple, held_at}

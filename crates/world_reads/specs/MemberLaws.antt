@@ -25,7 +25,7 @@ use Rattle.world_base.specs.Commits.{bits_of}
 -- ---- bits
 
 -- each of some targets has its bit
-bits-has : (ts : List ℕ) (t : ℕ) → Has t ts → bit_at (bits_of ts) t ≡ 1
+pub bits-has : (ts : List ℕ) (t : ℕ) → Has t ts → bit_at (bits_of ts) t ≡ 1
 unfolding bits_of
 bits-has [] t i = absurd i
 bits-has (u ∷ ts) t (inl same) =
@@ -53,7 +53,8 @@ some-targets RP3GX targets fits = omega (arith, fits)
 
 -- ---- members
 
-all-members : (ws : List MinorWrite) (targets u : ℕ) (w : MinorWrite) → Has w ws → Has u (path_members (write_path w.write) targets) → Has u (writes_members ws targets)
+-- a member of one of some writes is a member of them
+pub all-members : (ws : List MinorWrite) (targets u : ℕ) (w : MinorWrite) → Has w ws → Has u (path_members (write_path w.write) targets) → Has u (writes_members ws targets)
 unfolding writes_members
 all-members [] targets u w i at = absurd i
 all-members (v ∷ ws) targets u w (inl same) at =

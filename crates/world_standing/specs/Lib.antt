@@ -7,3 +7,4 @@ pub mod Standing
 pub mod Events
 pub mod Runs
 pub mod Containers
+pub mod Covering

@@ -2,7 +2,7 @@ use Rattle.std.specs.Prelude.{◌*◌, ◌-◌, IfOk, refl}
 use Rattle.std.proofs.Common.{subst}
 use Rattle.daos_run.proofs.Lone.{is-of-lone-client}
 use Rattle.daos_run.proofs.Plain.{all-come, all-free, all-kept, all-open, all-run, follows-order, in-form, is-fresh, issued-there, legal, none-down, of-lone, on-ok, only-memory}
-use Rattle.run_reports.specs.Reports.{TellsOfLoneClient}
+use Rattle.run_targets.specs.Ends.{TellsOfLoneClient}
 use Rattle.daos_run.proofs.run.run_script.Goals as goal
 
 pub run_on-requires-clause-stores : goal.run_on-requires-clause-stores

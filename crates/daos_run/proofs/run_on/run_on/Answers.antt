@@ -10,8 +10,7 @@ use Rattle.daos_run.proofs.Faults.{calls-gone, calls-served, opening-fault, read
 use Rattle.daos_run.proofs.Lone.{finds-room, tells-of-lone-client}
 use Rattle.daos_run.proofs.Started.{all-set, run-gone, run-read, run-served}
 use Rattle.daos_run.proofs.Whole.{all-tell, can-start, come-from, may-start, started, told-first}
-use Rattle.run_ends.specs.Comes.{ComesTo}
-use Rattle.run_ends.specs.Starts.{stores_of}
+use Rattle.run_targets.specs.Ends.{ComesTo, stores_of}
 use Rattle.world_whole.specs.Begins.{declared_conts}
 use Rattle.daos_run.proofs.run_on.run_on.Goals as goal
 

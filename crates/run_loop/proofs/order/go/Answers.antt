@@ -1,3 +1,4 @@
+use Rattle.run_steps.specs.Breaking.{goes-then_breaks-err}
 use Rattle.std.specs.Prelude.{false, true}
 use Rattle.run_loop.specs.Loops.{all_from_draw, goes-then-ok, in_order}
 use Rattle.run_shows.specs.Serving.{served-then}
@@ -25,3 +26,16 @@ returns-clause-goes g c =
 
 pub returns-clause-served : goal.returns-clause-served
 returns-clause-served g c = served-then g.S.Store.durable g.S.Store.state g.C.Clock.is_read c.args.stage.now.targets.items c.go_drawn.new.stage.targets.items c.go_drawn-2.new.stage.targets.items c.in_ok-go_drawn.ensures.served c.go_drawn-2.ensures.served
+
+-- memory was wanting while actors settled
+pub returns-then-order-eq0-clause-broke : goal.returns-then-order-eq0-clause-broke
+returns-then-order-eq0-clause-broke g c =
+    goes-then_breaks-err g.S.Store.durable g.S.Store.state g.S.Store.may g.C.Clock.is_read g.met.S.Store.steady (InRounds false) (stage_now c.args.stage.now) (stage_now c.go_round.new.stage) c.go_round-then-order-eq0.new.stage.targets.items c.go_round-then-order-eq0.result (all-rounds-are-run false)
+    c.in_ok-go_round.ensures.goes c.go_round-then-order-eq0.ensures.broke
+
+pub returns-clause-broke : goal.returns-clause-broke
+returns-clause-broke g c =
+    let x0 = c.args.order in
+    let x = c.go_drawn.new.x in
+    goes-then_breaks-err g.S.Store.durable g.S.Store.state g.S.Store.may g.C.Clock.is_read g.met.S.Store.steady (all_from_draw false x0 x) (stage_now c.args.stage.now) (stage_now c.go_drawn.new.stage) c.go_drawn-2.new.stage.targets.items c.go_drawn-2.result (all-draws-are-run false x0 x)
+    c.in_ok-go_drawn.ensures.goes c.go_drawn-2.ensures.broke

@@ -1,3 +1,6 @@
+use Rattle.std.proofs.Common.{refl}
+use Rattle.run_steps.specs.Breaking.{broke-after-err, broke-between}
+use Rattle.run_steps.specs.Going.{draws-are-run}
 use Rattle.std.specs.Prelude.{length}
 use Rattle.model_laws.specs.Lists.{at-index}
 use Rattle.run_loop.specs.Loops.{draw-more, draws-over, from_draw, holds-of-one, none-in, one-of, some-pick}
@@ -52,3 +55,14 @@ loop-preserved g c =
     let one = some-pick c.loop.x c.len.result c.in_ok-due.due.len (length items) c.pick.result c.pick.new.x c.if-is_empty.ensures c.len.ensures c.in_ok-due.due.ok.0 c.pick.ensures.number c.pick.ensures.last in
     draw-more g.S.Store.durable g.S.Store.state g.S.Store.may g.C.Clock.is_read c.args.settling (stage_now c.args.stage.now) (stage_now c.loop.stage) items c.in_ok-due.ensures c.args.x.now c.loop.x c.pick.new.x c.pick-message.new.x c.pick.result a c.heard_by.result c.pick-message.result
     (stage_now c.turn.new.stage) at one.0 one.1 c.heard_by.ensures.heard c.pick-message.ensures.number c.pick-message.ensures.last c.loop.invariant c.in_ok-turn.ensures.goes
+
+-- memory was wanting between turns, or in one
+pub returns-in_err-due-clause-broke : goal.returns-in_err-due-clause-broke
+returns-in_err-due-clause-broke g c =
+    let now = stage_now c.loop.stage in
+    broke-after-err g.S.Store.durable g.S.Store.state g.S.Store.may g.C.Clock.is_read g.met.S.Store.steady (from_draw c.args.settling c.args.x.now c.loop.x) (stage_now c.args.stage.now) now now.targets c.from_residual.result (draws-are-run c.args.settling c.args.x.now c.loop.x) c.loop.invariant (broke-between g.S.Store.durable g.S.Store.state g.S.Store.may g.C.Clock.is_read g.met.S.Store.steady now now.targets refl)
+
+pub returns-in_err-turn-clause-broke : goal.returns-in_err-turn-clause-broke
+returns-in_err-turn-clause-broke g c =
+    broke-after-err g.S.Store.durable g.S.Store.state g.S.Store.may g.C.Clock.is_read g.met.S.Store.steady (from_draw c.args.settling c.args.x.now c.loop.x) (stage_now c.args.stage.now) (stage_now c.loop.stage) c.turn.new.stage.targets.items c.from_residual-in_err-turn.result (draws-are-run c.args.settling c.args.x.now c.loop.x) c.loop.invariant
+    c.in_err-turn.ensures.broke

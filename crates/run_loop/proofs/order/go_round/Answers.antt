@@ -1,3 +1,6 @@
+use Rattle.std.proofs.Common.{refl}
+use Rattle.run_steps.specs.Breaking.{broke-after-err, broke-between}
+use Rattle.run_steps.specs.Going.{rounds-are-run}
 use Rattle.run_loop.specs.Loops.{none-in, round-more, rounds-over, some-in}
 use Rattle.run_shows.specs.Serving.{served-then}
 use Rattle.run_stage.specs.Now.{stage_now}
@@ -26,3 +29,13 @@ pub loop-preserved : goal.loop-preserved
 loop-preserved g c =
     round-more g.S.Store.durable g.S.Store.state g.S.Store.may g.C.Clock.is_read c.args.settling (stage_now c.args.stage.now) (stage_now c.loop.stage) c.in_ok-due.field-0.items c.in_ok-due.ensures (stage_now c.round.new.stage)
     (some-in c.in_ok-due.field-0.items c.in_ok-due.field-0.len c.if-is_empty.ensures c.in_ok-due.field-0.ok.0) c.loop.invariant c.in_ok-round.ensures.goes
+
+-- memory was wanting between rounds, or in one
+pub returns-in_err-due-clause-broke : goal.returns-in_err-due-clause-broke
+returns-in_err-due-clause-broke g c =
+    let now = stage_now c.loop.stage in
+    broke-after-err g.S.Store.durable g.S.Store.state g.S.Store.may g.C.Clock.is_read g.met.S.Store.steady (Rounds c.args.settling) (stage_now c.args.stage.now) now now.targets c.from_residual.result (rounds-are-run c.args.settling) c.loop.invariant (broke-between g.S.Store.durable g.S.Store.state g.S.Store.may g.C.Clock.is_read g.met.S.Store.steady now now.targets refl)
+
+pub returns-in_err-round-clause-broke : goal.returns-in_err-round-clause-broke
+returns-in_err-round-clause-broke g c =
+    broke-after-err g.S.Store.durable g.S.Store.state g.S.Store.may g.C.Clock.is_read g.met.S.Store.steady (Rounds c.args.settling) (stage_now c.args.stage.now) (stage_now c.loop.stage) c.round.new.stage.targets.items c.from_residual-in_err-round.result (rounds-are-run c.args.settling) c.loop.invariant c.in_err-round.ensures.broke

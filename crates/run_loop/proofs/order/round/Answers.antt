@@ -1,3 +1,5 @@
+use Rattle.run_steps.specs.Breaking.{broke-after-err, broke-between, target-turn-breaks}
+use Rattle.run_steps.specs.Going.{turns-are-run}
 use Rattle.std.specs.Prelude.{[], length}
 use Rattle.std.proofs.Common.{◌∙◌, add-one, ap, subst, suc, sym}
 use Rattle.run_base.specs.Picks.{numbered}
@@ -71,3 +73,19 @@ returns-in_err-target_turn-clause-served g c =
 
 pub returns-clause-served : goal.returns-clause-served
 returns-clause-served g c = c.loop-t.invariant.served
+
+-- memory was wanting in a client's turn, or in a target's
+pub returns-in_err-client_turn-clause-broke : goal.returns-in_err-client_turn-clause-broke
+returns-in_err-client_turn-clause-broke g c =
+    let now = stage_now c.loop-n.stage in
+    let xs = c.client_turn.new.self.targets.items in
+    broke-after-err g.S.Store.durable g.S.Store.state g.S.Store.may g.C.Clock.is_read g.met.S.Store.steady (turned c.args.settling (numbered client c.loop-n.n)) (stage_now c.args.stage.now) now xs c.from_residual.result (turns-are-run c.args.settling (numbered client c.loop-n.n)) c.loop-n.invariant
+    (broke-between g.S.Store.durable g.S.Store.state g.S.Store.may g.C.Clock.is_read g.met.S.Store.steady now xs (ap (λ v. v.items) c.in_err-client_turn.ensures.targets))
+
+pub returns-in_err-target_turn-clause-broke : goal.returns-in_err-target_turn-clause-broke
+returns-in_err-target_turn-clause-broke g c =
+    let now = stage_now c.loop-t.stage in
+    let some = first_targets (length c.args.stage.now.clients.items) c.loop-t.t in
+    let xs = c.target_turn.new.self.targets.items in
+    broke-after-err g.S.Store.durable g.S.Store.state g.S.Store.may g.C.Clock.is_read g.met.S.Store.steady (turned c.args.settling some) (stage_now c.args.stage.now) now xs c.from_residual-in_err-target_turn.result (turns-are-run c.args.settling some) c.loop-t.invariant
+    (target-turn-breaks g.S.Store.durable g.S.Store.state g.S.Store.may g.C.Clock.is_read g.met.S.Store.steady g.met.S.Store.findable g.met.S.Store.alike now c.loop-t.invariant.going c.args.settling c.loop-t.t 0 xs c.in_err-target_turn.ensures.broke)

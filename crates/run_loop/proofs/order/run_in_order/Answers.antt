@@ -2,7 +2,7 @@ use Rattle.std.proofs.Common.{arith, subst, sym}
 use Rattle.run_loop.proofs.Turns.{few-targets}
 use Rattle.run_shows.specs.Accounts.{AreAccounted}
 use Rattle.run_stage.specs.Now.{stage_now}
-use Rattle.run_steps.specs.Ended.{HasRunWith, has-run, left-accounted, left_of}
+use Rattle.run_steps.specs.Ended.{HasRunWith, can-reopen, has-run, left-accounted, left_of}
 use Rattle.run_loop.proofs.order.run_in_order.Goals as goal
 
 pub go-went-requires-clause-few_targets : goal.go-went-requires-clause-few_targets
@@ -19,6 +19,9 @@ returns-in-Ok-clause-accounts g c h stops k =
     let last = c.go-went.new.stage in
     subst (λ lines. AreAccounted g.S.Store.durable g.S.Store.state h stops (left_of last.targets.items last.watch lines)) (sym c.into_lines-lines.ensures)
     (left-accounted g.S.Store.durable g.S.Store.state h stops (stage_now last) (c.in-Ok.ensures.goes.accounts h stops k))
+
+pub returns-in-Ok-clause-reopens : goal.returns-in-Ok-clause-reopens
+returns-in-Ok-clause-reopens g c = can-reopen g.S.Store.durable g.S.Store.state g.S.Store.may g.met.S.Store.steady (stage_now c.go-went.new.stage) c.in-Ok.ensures.goes.going
 
 pub returns-in-Ok-clause-served : goal.returns-in-Ok-clause-served
 returns-in-Ok-clause-served g c = c.in-Ok.ensures.served

@@ -1,3 +1,4 @@
+use Rattle.run_steps.specs.Breaking.{broke-between-err, target-turn-breaks-err}
 use Rattle.std.specs.Prelude.{◌≡◌, Some, slice_get}
 use Rattle.std.proofs.Common.{ap, subst, sym}
 use Rattle.run_loop.proofs.Turns.{client-goes-on, client-number, target-goes-on, target-number}
@@ -34,3 +35,11 @@ pub returns-else-actor-clause-goes : goal.returns-else-actor-clause-goes
 returns-else-actor-clause-goes g c =
     target-goes-on g.S.Store.durable g.S.Store.state g.S.Store.may g.C.Clock.is_read g.met.S.Store.findable g.met.S.Store.alike (stage_now c.args.stage.now) (stage_now c.target_turn.new.self) c.requires.going c.args.settling c.args.actor c.from-number.result c.args.message
     c.target_turn.result c.if-actor.false c.from-number.ensures c.target_turn.ensures.turned
+
+pub returns-then-actor-clause-broke : goal.returns-then-actor-clause-broke
+returns-then-actor-clause-broke g c = broke-between-err g.S.Store.durable g.S.Store.state g.S.Store.may g.C.Clock.is_read g.met.S.Store.steady (stage_now c.args.stage.now) c.client_turn.new.self.targets.items c.client_turn.result (ap (λ v. v.items) c.client_turn.ensures.targets)
+
+pub returns-else-actor-clause-broke : goal.returns-else-actor-clause-broke
+returns-else-actor-clause-broke g c =
+    target-turn-breaks-err g.S.Store.durable g.S.Store.state g.S.Store.may g.C.Clock.is_read g.met.S.Store.steady g.met.S.Store.findable g.met.S.Store.alike (stage_now c.args.stage.now) c.requires.going c.args.settling c.from-number.result c.args.message c.target_turn.new.self.targets.items
+    c.target_turn.result c.target_turn.ensures.broke

@@ -1,4 +1,4 @@
-use Rattle.run_targets.proofs.Runs.{all-served, comes, goes, put-served, put-unfused}
+use Rattle.run_targets.proofs.Runs.{all-served, breaks-early, breaks-late, comes, goes, put-served, put-unfused}
 use Rattle.run_targets.proofs.run.run_targets.Goals as goal
 
 pub returns-in-Err-clause-served : goal.returns-in-Err-clause-served
@@ -19,7 +19,7 @@ returns-in-Ok-ran-clause-comes g c o started told =
     let ran = c.run_in_order-targets in
     comes g.S.Store.durable g.S.Store.state g.S.Store.may c.args.script.now c.args.job.now c.args.clients.items c.args.targets c.deref_mut-2.result.now c.arm.new.targets c.deref_mut-2.ensures.value c.in-Ok.watch c.arm.new.watch b.result c.as_slice.result.now c.arm.ensures c.as_slice.ensures c.in-Ok.ensures b.ensures.messages b.ensures.asked b.ensures.issued b.ensures.lines
     g.C.Clock.is_read ran.result.0 ran.result.1 c.deref_mut-3.result.now c.disarm-2.new.targets c.deref_mut-3.ensures.value c.disarm-2.ensures ran.ensures.served o started told ran.result.2 c.in-Ok-ran.lines c.in-Ok-ran.is g.met.S.Store.steady g.met.S.Store.findable g.met.S.Store.alike
-    ran.ensures.run ran.ensures.accounts c.report_of.result c.report_of.ensures.report c.report_of.ensures.typed c.requires.most
+    ran.ensures.run ran.ensures.accounts ran.ensures.reopens c.report_of.result c.report_of.ensures.report c.report_of.ensures.typed c.requires.most
 
 pub returns-in-Ok-ran-clause-served : goal.returns-in-Ok-ran-clause-served
 returns-in-Ok-ran-clause-served g c =
@@ -40,3 +40,15 @@ returns-clause-served g c =
 
 pub returns-clause-unfused : goal.returns-clause-unfused
 returns-clause-unfused g c = put-unfused g.S.Store.durable g.S.Store.state g.S.Store.may c.run_in_order-targets.result.0 c.deref_mut-3.result.now c.disarm-2.new.targets c.deref_mut-3.ensures.value c.disarm-2.ensures
+
+-- memory was wanting before the run, or in it
+pub returns-in-Err-clause-broke : goal.returns-in-Err-clause-broke
+returns-in-Err-clause-broke g c o started told =
+    breaks-early g.S.Store.durable g.S.Store.state g.S.Store.may g.C.Clock.is_read c.args.script.now c.args.job.now o c.args.clients.items c.args.targets c.deref_mut.result.now c.disarm.new.targets c.deref_mut.ensures.value c.disarm.ensures g.met.S.Store.steady g.met.S.Store.alike started told
+
+pub returns-clause-broke : goal.returns-clause-broke
+returns-clause-broke g c o started told =
+    let b = c.new-2 in
+    let ran = c.run_in_order-targets in
+    breaks-late g.S.Store.durable g.S.Store.state g.S.Store.may c.args.script.now c.args.job.now c.args.clients.items c.args.targets c.deref_mut-2.result.now c.arm.new.targets c.deref_mut-2.ensures.value c.in-Ok.watch c.arm.new.watch b.result c.as_slice.result.now c.arm.ensures c.as_slice.ensures c.in-Ok.ensures b.ensures.messages b.ensures.asked b.ensures.issued b.ensures.lines
+    g.C.Clock.is_read ran.result.0 ran.result.1 c.deref_mut-3.result.now c.disarm-2.new.targets c.deref_mut-3.ensures.value c.disarm-2.ensures ran.ensures.served o started told ran.result.2 c.in-Err-ran.error c.in-Err-ran.is g.met.S.Store.steady g.met.S.Store.alike ran.ensures.broke

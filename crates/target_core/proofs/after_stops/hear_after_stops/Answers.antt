@@ -2,11 +2,23 @@ use Rattle.std.proofs.Common.{◌≡◌, ◌∙◌, ◌<◌, ap, false, subst, s
 use Rattle.base_messages.specs.declared.message.Message.{Reset}
 use Rattle.target_parts.specs.Knowing.{memory_of}
 use Rattle.target_core.specs.Targets.{HasFormAfterStops, HearsOrStops, is_collecting}
-use Rattle.target_core.proofs.Heard.{hears-reset, hears-status_is, reset-form}
+use Rattle.target_core.proofs.Heard.{hears-ask, hears-reset, hears-status, hears-status_is, reset-form}
 use Rattle.target_core.proofs.after_stops.hear_after_stops.Goals as goal
 
 pub hear_reset-requires-clause-one : goal.hear_reset-requires-clause-one
 hear_reset-requires-clause-one g c = (reset-form c.in-Reset.target c.in-Reset.down c.in-Reset.message (subst HasFormAfterStops c.in-Reset.is c.requires.form)).0
+
+pub returns-in-Ask-clause-turn : goal.returns-in-Ask-clause-turn
+returns-in-Ask-clause-turn g c d at reading =
+    subst (λ m. HearsOrStops c.args.plan (memory_of c.args.knows.now) reading c.args.from m d (g.S.Store.state c.args.store.now) (g.S.Store.durable c.args.store.now) (g.S.Store.state c.args.store.now)
+    (g.S.Store.may c.args.store.now) (memory_of c.hear_ask.new.knows) c.hear_ask.result) (sym c.in-Ask.is)
+    (hears-ask c.args.plan (memory_of c.args.knows.now) reading c.args.from d (g.S.Store.state c.args.store.now) _ _ _ _ c.in-Ask.attempt c.hear_ask.result (c.hear_ask.ensures.turn d at))
+
+pub returns-in-Status-clause-turn : goal.returns-in-Status-clause-turn
+returns-in-Status-clause-turn g c d at reading =
+    subst (λ m. HearsOrStops c.args.plan (memory_of c.args.knows.now) reading c.args.from m d (g.S.Store.state c.args.store.now) (g.S.Store.durable c.args.store.now) (g.S.Store.state c.args.store.now)
+    (g.S.Store.may c.args.store.now) (memory_of c.args.knows.now) c.hear_status.result) (sym c.in-Status.is)
+    (hears-status c.args.plan (memory_of c.args.knows.now) reading c.args.from d (g.S.Store.state c.args.store.now) _ _ _ _ c.in-Status.attempt c.in-Status.inc c.hear_status.result (c.hear_status.ensures.turn d at))
 
 pub returns-in-StatusIs-clause-turn : goal.returns-in-StatusIs-clause-turn
 returns-in-StatusIs-clause-turn g c d at reading =

@@ -5,16 +5,12 @@ use Rattle.base_types.specs.Placement.{writes_members}
 use Rattle.dtx_base.specs.Leading.{first_down}
 use Rattle.target_parts.specs.Ending.{some_reading}
 use Rattle.target_parts.specs.Knowing.{memory_of}
-use Rattle.target_parts.specs.Parts.{kept}
 use Rattle.target_parts.specs.Readings.{not-read}
 use Rattle.target_parts.specs.Stops.{stop_memory}
-use Rattle.target_parts.specs.Turning.{now_partway}
 use Rattle.target_core.specs.Targets.{HearsOrStops}
-use Rattle.target_core.proofs.Heard.{hears-commit, hears-commit_down}
-use Rattle.world_base.specs.Commits as commit
-use Rattle.world_base.specs.Commits.{CommitNext, bits_of}
+use Rattle.target_core.proofs.Heard.{commit-not_begun, hears-commit, hears-commit_down}
+use Rattle.world_base.specs.Commits.{bits_of}
 use Rattle.world_base.specs.Statuses.{down_of}
-use Rattle.world_base.specs.TargetTurns.{commit_request}
 use Rattle.target_core.proofs.commits.hear_any_commit.Goals as goal
 
 pub returns-in_err-members-clause-turn : goal.returns-in_err-members-clause-turn
@@ -27,8 +23,8 @@ returns-in_err-members-clause-turn g c =
       λ d at.
           subst (λ x. HearsOrStops c.args.plan (memory_of c.args.knows.now) r.0 c.args.from (Commit q.attempt q.ep q.first q.tracker q.writes) d (g.S.Store.state c.args.store.now) (g.S.Store.durable c.args.store.now) (g.S.Store.state c.args.store.now)
           (g.S.Store.may c.args.store.now) (memory_of c.args.knows.now) x) (sym is)
-          (now_partway (CommitNext c.args.plan (g.S.Store.state c.args.store.now).opening (memory_of c.args.knows.now) r.0 q) commit.Asked d (g.S.Store.state c.args.store.now) (g.S.Store.state c.args.store.now) (g.S.Store.durable c.args.store.now)
-          (record { kept_is = at; free = refl })),
+          (commit-not_begun c.args.plan (memory_of c.args.knows.now) r.0 c.args.from d (g.S.Store.state c.args.store.now) (g.S.Store.durable c.args.store.now) (g.S.Store.state c.args.store.now) (g.S.Store.may c.args.store.now) (memory_of c.args.knows.now)
+          q.attempt q.ep q.first q.tracker q.writes (record { kept_is = at; free = refl })),
     )
 
 pub returns-in_err-members-clause-clock : goal.returns-in_err-members-clause-clock

@@ -1,9 +1,9 @@
 use Rattle.std.specs.Prelude.{◌<◌, ◌≡◌, length, OnOk}
-use Rattle.std.proofs.Common.{ap, arith, subst, sym}
+use Rattle.std.proofs.Common.{◌∙◌, ap, arith, subst, sym}
 use Rattle.run_shows.specs.ListLaws.{length-set}
 use Rattle.run_shows.specs.Turned.{followed, swept_stage, with_between}
 use Rattle.run_stage.specs.Now.{stage_now}
-use Rattle.run_stage.proofs.Opening.{armed-watch, opened-so}
+use Rattle.run_stage.proofs.Opening.{armed-watch, on-err, opened-so}
 use Rattle.run_stage.proofs.Stopping.{watched}
 use Rattle.world_base.specs.declared.target.Life.TheVariants.{Running}
 use Rattle.run_stage.proofs.stage.Stage.opened.Goals as goal
@@ -32,3 +32,9 @@ returns-clause-opened g c x at =
     let now = stage_now c.follow.new.self in
     opened-so g.S.Store.durable g.S.Store.state g.S.Store.may c.args.t x c.follow.result c.args.did (stage_now c.args.self.now) mid now c.open.new.self (c.arm.ensures.armed x at) c.open.ensures
     (subst (λ a. OnOk c.follow.result (now ≡ swept_stage (with_between (followed a c.args.did mid.between) (watched mid c.open.new.self)))) c.target_id.ensures c.follow.ensures.followed)
+
+-- where memory is wanting for what follows its fuse is set all the same
+pub returns-clause-broke : goal.returns-clause-broke
+returns-clause-broke g c x at =
+    let k = c.arm.ensures.armed x at in
+    on-err _ c.follow.result (k.armed, k.fuse, ap (λ ts. ts.items) c.follow.ensures.targets ∙ ap (λ z. z.targets) k.after)

@@ -4,7 +4,7 @@ use Rattle.run_shows.specs.Accounts.{AreServed}
 use Rattle.run_shows.specs.Serving.{served-by-runs, served-one}
 use Rattle.run_stage.specs.Now.{stage_now}
 use Rattle.run_stage.proofs.Opening.{same-there}
-use Rattle.run_stage.proofs.Working.{worked-cut, worked-whole}
+use Rattle.run_stage.proofs.Working.{work-broke, worked-cut, worked-whole}
 use Rattle.target_parts.specs.Stops.{stop_store}
 use Rattle.world_base.specs.StepLaws.{set-here}
 use Rattle.run_stage.proofs.stage.Stage.work.Goals as goal
@@ -43,6 +43,15 @@ returns-in-Ok-clause-served g c =
     (served-one g.S.Store.durable g.S.Store.state g.C.Clock.is_read xs c.args.t x y (at-index xs c.args.t x c.requires.within c.index_mut.ensures.value)
     (served-by-runs stop_store c.hear_or_idle.result (g.S.Store.state x.store) (g.S.Store.state y.store) (g.S.Store.durable x.store) (g.S.Store.durable y.store) c.hear_or_idle.ensures.runs) c.hear_or_idle.ensures.clock)
 
+pub returns-in-Ok-clause-broke : goal.returns-in-Ok-clause-broke
+returns-in-Ok-clause-broke g c =
+    let now = c.args.self.now in
+    let x = c.index_mut.result.now in
+    let e = c.hear_or_idle.ensures in
+    work-broke g.S.Store.durable g.S.Store.state g.S.Store.may g.C.Clock.is_read c.args.settling c.args.t c.args.number x c.hear_or_idle.new.host c.hear_or_idle.new.between c.hear_or_idle.result (stage_now now) (stage_now c.follow.new.self)
+    (record { there = at-index now.targets.items c.args.t x c.requires.within c.index_mut.ensures.value; stands = c.requires.runs }) e.plan e.opened e.runs e.clock e.posts e.turned
+    c.follow.result (ap (λ ts. ts.items) c.follow.ensures.targets)
+
 -- it was cut
 pub returns-in-Err-clause-worked : goal.returns-in-Err-clause-worked
 returns-in-Err-clause-worked g c =
@@ -56,6 +65,15 @@ returns-in-Err-clause-worked g c =
     worked-cut g.S.Store.durable g.S.Store.state g.S.Store.may g.C.Clock.is_read c.args.settling c.args.t c.args.number x y c.hear_or_idle.new.between c.hear_or_idle.result (stage_now now) (stage_now c.cut.new.self)
     (record { there = there; stands = c.requires.runs }) e.plan e.opened e.runs e.clock e.posts e.turned
     c.cut.result c.in-Err.stop c.faults-before.result c.in-Err.is (c.faults-before.ensures ∙ ap (λ z. (g.S.Store.state z.store).faults) same) (c.cut.ensures.after y (set-here xs c.args.t x y there))
+
+pub returns-in-Err-clause-broke : goal.returns-in-Err-clause-broke
+returns-in-Err-clause-broke g c =
+    let now = c.args.self.now in
+    let x = c.index_mut.result.now in
+    let e = c.hear_or_idle.ensures in
+    work-broke g.S.Store.durable g.S.Store.state g.S.Store.may g.C.Clock.is_read c.args.settling c.args.t c.args.number x c.hear_or_idle.new.host c.hear_or_idle.new.between c.hear_or_idle.result (stage_now now) (stage_now c.cut.new.self)
+    (record { there = at-index now.targets.items c.args.t x c.requires.within c.index_mut.ensures.value; stands = c.requires.runs }) e.plan e.opened e.runs e.clock e.posts e.turned
+    c.cut.result (ap (λ ts. ts.items) c.cut.ensures.targets)
 
 pub returns-in-Err-clause-served : goal.returns-in-Err-clause-served
 returns-in-Err-clause-served g c =

@@ -1,0 +1,2 @@
+-- Which reports are legal, for the crates above.
+pub use Rattle.run_targets.specs.Ends.{IsLegal}

@@ -1,0 +1,2 @@
+-- Blocks in memory.
+pub mod MemPagesState

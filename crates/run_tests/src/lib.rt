@@ -1,0 +1,6 @@
+// Runs over stores that runs before them left.
+#![tactic(auto)]
+
+pub mod lone;
+#[cfg(test)]
+mod tests;

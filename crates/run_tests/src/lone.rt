@@ -1,0 +1,103 @@
+// One target, over whose store one script after another is run.
+ghost use Rattle.std.specs.Prelude.{◌≡◌, IfOk, OnOk};
+ghost use Rattle.run_tests.specs.Lone.{IsLeft, IsOver, IsReady};
+ghost use Rattle.script_runnable.specs.Runnable.{IsRunnable};
+
+use base_outside::clock::Clock;
+use base_outside::gate::FreeGate;
+use base_types::items::Memory;
+use base_types::job::{Job, Task};
+use base_types::script::Script;
+use daos_run::parts::Parts;
+use daos_run::run_on::run_on;
+use daos_script::script::read_script;
+use report_writer::text::report_text;
+use script_runnable::runnable::runs;
+use std::alloc::Global;
+use std::sync::Wait;
+use std::thread::Threads;
+use thiserror::Error;
+use vos_plain::store::PlainStore;
+use vos_store::store::Store;
+
+/// Why there is no report.
+#[derive(Clone, Copy, Debug, Error)]
+pub enum LoneNo {
+    #[error("no script that runs")]
+    Script,
+    #[error("no report")]
+    Run,
+    #[error("not opened again")]
+    Open,
+    #[error("out of memory")]
+    Memory,
+}
+
+impl From<Memory> for LoneNo {
+    fn from(_error: Memory) -> LoneNo {
+        LoneNo::Memory
+    }
+}
+
+/// An empty store, and a clock.
+pub fn new_parts<C: Clock + Drop>(alloc: Global, clock: C) -> Result<Parts<PlainStore, C>, LoneNo>
+    ensures { IfOk result (IsOver IsReady) }
+{
+    let mut parts = Parts::new(alloc, 1)?;
+    let store = PlainStore::new(alloc, 2, &[])?;
+    parts.set(0, store, clock);
+    Ok(parts)
+}
+
+fn script_of(alloc: Global, text: &[u8]) -> Result<Script, LoneNo>
+    ensures { IfOk result (IsRunnable 1) }
+{
+    match read_script(alloc, text, 1) {
+        Ok(script) if runs(&script) => Ok(script),
+        _ => Err(LoneNo::Script),
+    }
+}
+
+/// Runs the script of a text, and gives the text of its report.
+pub fn report_of<R: Threads + Wait + Sync, C: Clock + Send>(
+    rt: &R,
+    alloc: Global,
+    parts: &mut Parts<PlainStore, C>,
+    text: &[u8],
+) -> Result<Vec<u8>, LoneNo>
+    requires ready { IsOver IsReady parts.old }
+    ensures left { OnOk result (IsOver IsLeft parts.new) }
+{
+    let script = script_of(alloc, text)?;
+    let job = Job {
+        task: Task::Run,
+        targets: 1,
+        size_mib: 2,
+        attempts: 8,
+        epsilon: 0,
+        threads: false,
+        order: 0,
+    };
+    match run_on(rt, alloc, &job, &script, parts, &FreeGate) {
+        Ok(report) => Ok(report_text(alloc, &report, &script)?),
+        Err(_) => Err(LoneNo::Run),
+    }
+}
+
+/// Opens the store again, and gives the lease that it had, in ticks.
+pub fn reopen<C: Clock>(parts: &mut Parts<PlainStore, C>) -> Result<u64, LoneNo>
+    requires left { IsOver IsLeft parts.old }
+    ensures ready { OnOk result (IsOver IsReady parts.new) }
+{
+    let Some((mut store, clock)) = parts.take(0) else {
+        unreachable!()
+    };
+    let lease = store.lease();
+    let opened = store.reopen(0);
+    let incarnation = store.incarnation();
+    parts.set(0, store, clock);
+    match opened {
+        Ok(()) if incarnation <= 1000 => Ok(lease),
+        _ => Err(LoneNo::Open),
+    }
+}

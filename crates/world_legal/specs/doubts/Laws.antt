@@ -1,0 +1,44 @@
+-- The laws of doubts, as statements.
+use Rattle.std.specs.Prelude.{◌≡◌, ◌<◌, []}
+use Rattle.world_attempts.specs.History.{GrowsBy, History}
+use Rattle.world_base.specs.declared.world.World.{World}
+use Rattle.world_base.specs.Events.{Rules}
+use Rattle.world_base.specs.Stops.{WorldEvent}
+use Rattle.world_fates.specs.Asked.{AskedRight}
+use Rattle.world_fates.specs.Facts.{Attempts}
+use Rattle.world_fates.specs.Keeping.{HasNoneYet}
+use Rattle.world_hearing.specs.Going.{EntriesWrite}
+use Rattle.world_lines.specs.Lines.{Endings, Lines}
+use Rattle.world_losses.specs.ClientHears.{LossesAreAsked}
+use Rattle.world_losses.specs.Losses.{Losses}
+use Rattle.world_outcomes.specs.Outcomes.{Outcomes}
+use Rattle.world_outcomes.specs.Premises.{AsksGoRight}
+use Rattle.world_statuses.specs.Events.{HappensWithoutSnapshots, told_by}
+use Rattle.world_waits.specs.Premises.{RequestsAreOfClients}
+use Rattle.world_waits.specs.Waits.{Conversation}
+use Rattle.world_legal.specs.doubts.Doubts.{Doubts}
+
+-- they hold where nothing is in flight, told or kept
+abbrev pub DoubtsBegin : Type 0
+DoubtsBegin = (r : Rules) (h : History) (w : World) → HasNoneYet h w → w.lines ≡ [] → Doubts r h w
+
+-- what else holds of the world before an event, and once it happened
+pub record IsBeside (r : Rules) (h later : History) (w u : World) : Type 0 where
+  pub some : 0 < r.attempts
+  pub right : AskedRight r h w
+  pub asks : AsksGoRight r w
+  pub attempts : Attempts r h w
+  pub talk : Conversation r w
+  pub endings : Endings w
+  pub lines : Lines r w
+  pub outcomes : Outcomes r h w
+  pub losses : Losses r w
+  pub lost : LossesAreAsked w
+  pub attempts_then : Attempts r later u
+  pub outcomes_then : Outcomes r later u
+  pub requests_then : RequestsAreOfClients u
+  pub writes_then : EntriesWrite r u
+
+-- each event keeps them in which nothing is heard of snapshots and aggregation, of what is told in it, or would be told if clients waited
+abbrev pub EventsKeepDoubts : Type 0
+EventsKeepDoubts = (r : Rules) (h later : History) (w v : World) → (e : WorldEvent r w v) → IsBeside r h later w e.u → HappensWithoutSnapshots e.happens → GrowsBy h (told_by e.happens) later → Doubts r h w → Doubts r later v

@@ -1,6 +1,0 @@
-use Rattle.world_reasons.proofs.laws_of_downs.Goals as goal
-use Rattle.world_reasons.specs.Downs.{downs-begin, events-keep-downs}
-use Rattle.world_reasons.specs.Knowing.{events-keep-known, known-begin}
-
-pub returns : goal.returns
-returns c = record { begin = downs-begin; events = events-keep-downs; known_begin = known-begin; known = events-keep-known }
