@@ -24,7 +24,7 @@ use Rattle.vos_plain.specs.declared.store.PlainStore.{PlainStore}
 
 -- ---- a new store
 
-none-used : AreUnused (empty_durable 1 ∷ [])
+pub none-used : AreUnused (empty_durable 1 ∷ [])
 none-used zero d at = (1, sym (same-some (empty_durable 1) d at))
 none-used (suc t) d at = absurd (let e : None ≡ Some d = at in cc)
 

@@ -20,6 +20,9 @@ use thiserror::Error;
 use vos_plain::store::PlainStore;
 use vos_store::store::Store;
 
+// The last tick that an epoch has.
+const LAST_TICK: u64 = 72_057_594_037_927_935;
+
 /// Why there is no report.
 #[derive(Clone, Copy, Debug, Error)]
 pub enum LoneNo {
@@ -47,6 +50,23 @@ pub fn new_parts<C: Clock + Drop>(alloc: Global, clock: C) -> Result<Parts<Plain
     let store = PlainStore::new(alloc, 2, &[])?;
     parts.set(0, store, clock);
     Ok(parts)
+}
+
+/// An empty store whose lease is extended to the last tick, and a clock.
+pub fn spent_parts<C: Clock + Drop>(
+    alloc: Global,
+    clock: C,
+) -> Result<Parts<PlainStore, C>, LoneNo>
+    ensures { IfOk result (IsOver IsLeft) }
+{
+    let mut parts = Parts::new(alloc, 1)?;
+    let mut store = PlainStore::new(alloc, 2, &[])?;
+    let extended = store.extend_lease(LAST_TICK);
+    parts.set(0, store, clock);
+    match extended {
+        Ok(()) => Ok(parts),
+        Err(_) => Err(LoneNo::Open),
+    }
 }
 
 fn script_of(alloc: Global, text: &[u8]) -> Result<Script, LoneNo>
