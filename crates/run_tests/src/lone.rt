@@ -53,10 +53,7 @@ pub fn new_parts<C: Clock + Drop>(alloc: Global, clock: C) -> Result<Parts<Plain
 }
 
 /// An empty store whose lease is extended to the last tick, and a clock.
-pub fn spent_parts<C: Clock + Drop>(
-    alloc: Global,
-    clock: C,
-) -> Result<Parts<PlainStore, C>, LoneNo>
+pub fn spent_parts<C: Clock + Drop>(alloc: Global, clock: C) -> Result<Parts<PlainStore, C>, LoneNo>
     ensures { IfOk result (IsOver IsLeft) }
 {
     let mut parts = Parts::new(alloc, 1)?;
