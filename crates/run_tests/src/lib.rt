@@ -1,6 +1,7 @@
 // Runs over stores that runs before them left.
 #![tactic(auto)]
 
-pub mod lone;
+#[cfg(test)]
+mod lone;
 #[cfg(test)]
 mod tests;

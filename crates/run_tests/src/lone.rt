@@ -4,7 +4,6 @@ ghost use Rattle.run_tests.specs.Lone.{IsLeft, IsOver, IsReady};
 ghost use Rattle.script_runnable.specs.Runnable.{IsRunnable};
 
 use base_outside::clock::Clock;
-use base_outside::count_clock::CountClock;
 use base_outside::gate::FreeGate;
 use base_types::items::Memory;
 use base_types::job::{Job, Task};
@@ -118,19 +117,4 @@ pub fn reopen<C: Clock>(parts: &mut Parts<PlainStore, C>) -> Result<u64, LoneNo>
         Ok(()) if incarnation <= 1000 => Ok(lease),
         _ => Err(LoneNo::Open),
     }
-}
-
-/// Runs one script and then another over a new store, which is opened again between them: the texts of
-/// both reports.
-pub fn two_reports<R: Threads + Wait + Sync>(
-    rt: &R,
-    alloc: Global,
-    first: &[u8],
-    second: &[u8],
-) -> Result<(Vec<u8>, Vec<u8>), LoneNo> {
-    let mut parts = new_parts(alloc, CountClock::new())?;
-    let first = report_of(rt, alloc, &mut parts, first)?;
-    reopen(&mut parts)?;
-    let second = report_of(rt, alloc, &mut parts, second)?;
-    Ok((first, second))
 }

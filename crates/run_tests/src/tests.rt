@@ -1,6 +1,9 @@
-use crate::lone::{new_parts, reopen, report_of, spent_parts, two_reports};
+use crate::lone::{LoneNo, new_parts, reopen, report_of, spent_parts};
 use base_outside::count_clock::CountClock;
+use std::alloc::Global;
+use std::sync::Wait;
 use std::test::Fail;
+use std::thread::Threads;
 
 const FIRST: &[u8] = b"cont c 00000000-0000-0000-0000-000000000001\n\
     obj o c S1 0\n\
@@ -60,7 +63,23 @@ fn a_lease_at_its_end_is_spent(rt: HostRuntime) -> Result<(), Fail> {
     Ok(())
 }
 
-// A write, in which the target stops at the first change of its store, which is the lease; at the entry; or at the commit.
+// Runs one script and then another over a new store, which is opened again between them: the texts of both
+// reports.
+fn two_reports<R: Threads + Wait + Sync>(
+    rt: &R,
+    alloc: Global,
+    first: &[u8],
+    second: &[u8],
+) -> Result<(Vec<u8>, Vec<u8>), LoneNo> {
+    let mut parts = new_parts(alloc, CountClock::new())?;
+    let first = report_of(rt, alloc, &mut parts, first)?;
+    reopen(&mut parts)?;
+    let second = report_of(rt, alloc, &mut parts, second)?;
+    Ok((first, second))
+}
+
+// A write, in which the target stops at the first change of its store, which is the lease; at the entry; or
+// at the commit.
 const STOPS_BEFORE_THE_LEASE: &[u8] = b"cont c 00000000-0000-0000-0000-000000000001\n\
     obj o c S1 0\n\
     stop 0 1\n\
