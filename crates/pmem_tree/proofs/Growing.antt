@@ -53,6 +53,10 @@ module _ (m : Blocks) (kind at depth : ℕ) (x : Entry) (l : Shape) (e : Entry) 
       counted : (q : ℕ) → count q (entries (Fork l2 e r)) ≡ count q (x ∷ []) + count q (entries (Fork l e r))
       counted q = omega (arith, count_parts q (entries l2) e (entries r), part q, ap (count q) g.entries_are, count_inserted q x (entries l) grows_left.missing)
 
+      -- the node's own block is as it was
+      pub own_left : m2 e.block ≡ m e.block
+      own_left = g.keeps e.block (omega (arith, count_one e.block x (entries l), count_other e.block x own_apart, c.apart e.block, part e.block, count_own e))
+
       pub parts_left : Parts m2 kind l2 e r
       parts_left =
           let near = c.balanced.0 in
@@ -62,7 +66,7 @@ module _ (m : Blocks) (kind at depth : ℕ) (x : Entry) (l : Shape) (e : Entry) 
             left = g.stands;
             right = stands_on m m2 kind r (λ q in_r. let ne = not_new r q (omega (arith, c.outside, part x.block)) in_r in g.keeps q (omega (arith, count_one q x (entries l), count_other q x ne, c.apart q, part q, in_r))) c.stands.2;
             entry = c.stands.0.entry;
-            taken = record { bytes = _; holds = g.keeps e.block (omega (arith, count_one e.block x (entries l), count_other e.block x own_apart, c.apart e.block, part e.block, count_own e)) ∙ c.stands.0.block };
+            taken = record { bytes = _; holds = own_left ∙ c.stands.0.block };
             apart = λ q. elim (eqb_tells q x.block) [
               | inl a ↦ let z = subst (λ v. count v (entries (Fork l e r)) ≡ 0) (sym a.1) c.outside in let y = subst (λ v. count v (x ∷ []) ≡ 1) (sym a.1) (count_own x) in omega (arith, z, y, counted q)
               | inr a ↦ omega (arith, count_other q x a.1, c.apart q, counted q)

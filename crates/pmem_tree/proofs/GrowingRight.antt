@@ -41,6 +41,10 @@ module _ (m : Blocks) (kind at depth : ℕ) (x : Entry) (l : Shape) (e : Entry) 
       counted : (q : ℕ) → count q (entries (Fork l e r2)) ≡ count q (x ∷ []) + count q (entries (Fork l e r))
       counted q = omega (arith, count_parts q (entries l) e (entries r2), part m kind at depth x l e r c q, ap (count q) g.entries_are, count_inserted q x (entries r) grows_right.missing)
 
+      -- the node's own block is as it was
+      pub own_right : m2 e.block ≡ m e.block
+      own_right = g.keeps e.block (omega (arith, count_one e.block x (entries r), count_other e.block x (own_apart m kind at depth x l e r c), c.apart e.block, part m kind at depth x l e r c e.block, count_own e))
+
       pub parts_right : Parts m2 kind l e r2
       parts_right =
           let near = c.balanced.0 in
@@ -50,7 +54,7 @@ module _ (m : Blocks) (kind at depth : ℕ) (x : Entry) (l : Shape) (e : Entry) 
             left = stands_on m m2 kind l (λ q in_l. let ne = not_new m kind at depth x l e r c l q (omega (arith, c.outside, part m kind at depth x l e r c x.block)) in_l in g.keeps q (omega (arith, count_one q x (entries r), count_other q x ne, c.apart q, part m kind at depth x l e r c q, in_l))) c.stands.1;
             right = g.stands;
             entry = c.stands.0.entry;
-            taken = record { bytes = _; holds = g.keeps e.block (omega (arith, count_one e.block x (entries r), count_other e.block x (own_apart m kind at depth x l e r c), c.apart e.block, part m kind at depth x l e r c e.block, count_own e)) ∙ c.stands.0.block };
+            taken = record { bytes = _; holds = own_right ∙ c.stands.0.block };
             apart = λ q. elim (eqb_tells q x.block) [
               | inl a ↦ let z = subst (λ v. count v (entries (Fork l e r)) ≡ 0) (sym a.1) c.outside in let y = subst (λ v. count v (x ∷ []) ≡ 1) (sym a.1) (count_own x) in omega (arith, z, y, counted q)
               | inr a ↦ omega (arith, count_other q x a.1, c.apart q, counted q)

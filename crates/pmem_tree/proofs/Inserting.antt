@@ -14,8 +14,9 @@ use Rattle.pmem_tree_base.proofs.Sides.{entry_at_here}
 use Rattle.pmem_tree_base.proofs.Staged.{fork_stands, keeps_put, staged, sub_of}
 use Rattle.pmem_tree_base.specs.Join.{Held, SomeHeld, Joined, JoinsHeld}
 use Rattle.pmem_tree.specs.Grow.{CanGrow, SomeGrows, Grown, GrowsCheaply, OfGrowing}
-use Rattle.pmem_tree.proofs.Growing.{grows_left, held_left, grown_left, cheap_left}
-use Rattle.pmem_tree.proofs.GrowingRight.{grows_right, held_right, grown_right, cheap_right}
+use Rattle.pmem_tree.proofs.Rejoining.{still_there}
+use Rattle.pmem_tree.proofs.Growing.{grows_left, own_left, held_left, grown_left, cheap_left}
+use Rattle.pmem_tree.proofs.GrowingRight.{grows_right, own_right, held_right, grown_right, cheap_right}
 
 pub grow_node : (m : Blocks) (kind at depth : ℕ) (x : Entry) → SomeGrows m kind at depth x → at ≢ 0 → SomeNode m kind at
 grow_node m kind at depth x w ne = some_node m kind at w.0 w.1.stands w.1.root_is ne
@@ -102,6 +103,10 @@ module _ (m : Blocks) (kind at depth : ℕ) (x : Entry) (node : Node) (p : Pair)
           let g = g_left l e r c in
           (g.tree, r, subst (λ (z : Entry). Held m2 kind z a b g.tree r) (entry_left l e r c) (held_left m kind at depth x l e r c (less_here l e r c) m2 a g b (b_is l e r c)))
 
+      pub stays_left : SomeGrows m kind at depth x → m2 at ≡ Some (node_bytes kind node)
+      stays_left (Leaf, c) = absurd (ne c.root_is)
+      stays_left (Fork l e r, c) = still_there m m2 kind at node l e r c.root_is (here l e r c) c.stands.0 (own_left m kind at depth x l e r c (less_here l e r c) m2 a (g_left l e r c))
+
       module _ (n : Blocks) (s : Sub) (joins : JoinsHeld m2 n kind (entry_of at p) a b s) where
         j_left : (l : Shape) (e : Entry) (r : Shape) (c : CanGrow m kind at depth x (Fork l e r)) → Joined m2 kind (g_left l e r c).tree e r n s
         j_left l e r c =
@@ -143,6 +148,10 @@ module _ (m : Blocks) (kind at depth : ℕ) (x : Entry) (node : Node) (p : Pair)
       holds_right (Fork l e r, c) =
           let g = g_right l e r c in
           (l, g.tree, subst (λ (z : Entry). Held m2 kind z a b l g.tree) (entry_right l e r c) (held_right m kind at depth x l e r c (more_here l e r c) m2 b g a (a_is l e r c)))
+
+      pub stays_right : SomeGrows m kind at depth x → m2 at ≡ Some (node_bytes kind node)
+      stays_right (Leaf, c) = absurd (ne c.root_is)
+      stays_right (Fork l e r, c) = still_there m m2 kind at node l e r c.root_is (here l e r c) c.stands.0 (own_right m kind at depth x l e r c (more_here l e r c) m2 b (g_right l e r c))
 
       module _ (n : Blocks) (s : Sub) (joins : JoinsHeld m2 n kind (entry_of at p) a b s) where
         j_right : (l : Shape) (e : Entry) (r : Shape) (c : CanGrow m kind at depth x (Fork l e r)) → Joined m2 kind l e (g_right l e r c).tree n s

@@ -1,3 +1,4 @@
+pub mod Rejoining
 pub mod Growing
 pub mod GrowingRight
 pub mod Inserting

@@ -1,11 +1,11 @@
 -- The same, as the clauses of the code say it.
-use Rattle.std.proofs.Common.{◌≡◌, ◌≢◌, ℕ, ◌-◌, refl, sym, ap, ◌∙◌, subst, arith, ◌⊎◌}
+use Rattle.std.proofs.Common.{◌≡◌, ◌≢◌, ℕ, ◌-◌, Some, refl, sym, ap, ◌∙◌, subst, arith, ◌⊎◌}
 use Rattle.std.specs.declared.cmp.Ordering.TheVariants.{Less, Equal, Greater}
 use Rattle.pmem_pages.specs.Blocks.{Blocks}
 use Rattle.pmem_pages.specs.declared.node.Node.{Node}
 use Rattle.pmem_pages.specs.declared.node.Pair.{Pair}
 use Rattle.pmem_pages.specs.declared.node.TreeKey.{TreeKey}
-use Rattle.pmem_pages.specs.Node.{key_cmp}
+use Rattle.pmem_pages.specs.Node.{node_bytes, key_cmp}
 use Rattle.pmem_pages.specs.Shape.{Entry, Shape, Leaf, Fork, root_of, node_at, Stands}
 use Rattle.pmem_tree_base.specs.declared.read.Sub.{Sub}
 use Rattle.pmem_tree_base.specs.Nodes.{SomeNode, IsNodeAt, entry_of, IsSub, StandsAt, SomeStandsAt}
@@ -14,7 +14,8 @@ use Rattle.pmem_tree_base.specs.Join.{Held, SomeHeld, Joined, JoinsHeld}
 use Rattle.pmem_tree.specs.declared.shrink.Cut.{Cut}
 use Rattle.pmem_tree.specs.declared.shrink.First.{First}
 use Rattle.pmem_tree.specs.Shrink.{Whole, CanTake, SomeTake, Taken, OfTaking, CanDrop, SomeDrop, Dropped, OfDropping, CanShrink, SomeShrinks, Shrunk, OfShrinking}
-use Rattle.pmem_tree.proofs.Shrinking.{take_left, taken_here, take_parts, taken_left, dropped_left, dropped_right, drop_right, drop_parts, dropped_joined, shrinks_left, shrink_parts_left, shrunk_left, shrinks_right, shrink_parts_right, shrunk_right, drops, shrunk_here}
+use Rattle.pmem_tree.proofs.Rejoining.{still_there}
+use Rattle.pmem_tree.proofs.Shrinking.{take_left, taken_here, own_take, take_parts, taken_left, dropped_left, dropped_right, drop_right, drop_parts, dropped_joined, shrinks_left, own_left, shrink_parts_left, shrunk_left, shrinks_right, own_right, shrink_parts_right, shrunk_right, drops, shrunk_here}
 
 -- a tree whose root is 0 is empty
 pub no_root : (m : Blocks) (kind : ℕ) (t : Shape) → Stands m kind t → root_of t ≡ 0 → t ≡ Leaf
@@ -68,6 +69,10 @@ module _ (m : Blocks) (kind at depth : ℕ) (node : Node) (p : Pair) (ne : at �
       pub take_holds : SomeTake m kind at depth → SomeHeld m2 kind (entry_of at p) f.rest b
       take_holds (Leaf, c) = absurd (ne c.root_is)
       take_holds (Fork l e r, c) = ((g_is l e r c).tree, r, take_held l e r c)
+
+      pub take_stays : SomeTake m kind at depth → m2 at ≡ Some (node_bytes kind node)
+      take_stays (Leaf, c) = absurd (ne c.root_is)
+      take_stays (Fork l e r, c) = still_there m m2 kind at node l e r c.root_is (take_is l e r c) c.whole.stands.0 (own_take m kind at depth l e r c m2 f (g_is l e r c))
 
       pub takes_left : (n : Blocks) (s : Sub) → JoinsHeld m2 n kind (entry_of at p) f.rest b s → OfTaking m kind at depth (λ t. Taken m kind t n (record { at = f.at; pair = f.pair; rest = s }))
       takes_left n s joins Leaf c = absurd (ne c.root_is)
@@ -183,6 +188,10 @@ module _ (m : Blocks) (kind at depth : ℕ) (key : TreeKey) (node : Node) (p : P
       shrink_holds_left (gone, Leaf, c) = absurd (ne c.root_is)
       shrink_holds_left (gone, Fork l e r, c) = ((g_left gone l e r c).tree, r, h_left gone l e r c)
 
+      pub shrink_stays_left : SomeShrinks m kind at depth key → m2 at ≡ Some (node_bytes kind node)
+      shrink_stays_left (gone, Leaf, c) = absurd (ne c.root_is)
+      shrink_stays_left (gone, Fork l e r, c) = still_there m m2 kind at node l e r c.root_is (is_here gone l e r c) c.whole.stands.0 (own_left m kind at depth key gone l e r c (sym (cmp_here gone l e r c) ∙ less) m2 k (g_left gone l e r c))
+
       pub shrinks_from_left : (n : Blocks) (s : Sub) → JoinsHeld m2 n kind (entry_of at p) k.rest b s → OfShrinking m n kind at depth key (record { rest = s; block = k.block })
       shrinks_from_left n s joins gone Leaf c = absurd (ne c.root_is)
       shrinks_from_left n s joins gone (Fork l e r) c =
@@ -218,6 +227,10 @@ module _ (m : Blocks) (kind at depth : ℕ) (key : TreeKey) (node : Node) (p : P
       pub shrink_holds_right : SomeShrinks m kind at depth key → SomeHeld m2 kind (entry_of at p) a k.rest
       shrink_holds_right (gone, Leaf, c) = absurd (ne c.root_is)
       shrink_holds_right (gone, Fork l e r, c) = (l, (g_right gone l e r c).tree, h_right gone l e r c)
+
+      pub shrink_stays_right : SomeShrinks m kind at depth key → m2 at ≡ Some (node_bytes kind node)
+      shrink_stays_right (gone, Leaf, c) = absurd (ne c.root_is)
+      shrink_stays_right (gone, Fork l e r, c) = still_there m m2 kind at node l e r c.root_is (is_here gone l e r c) c.whole.stands.0 (own_right m kind at depth key gone l e r c (sym (cmp_here gone l e r c) ∙ more) m2 k (g_right gone l e r c))
 
       pub shrinks_from_right : (n : Blocks) (s : Sub) → JoinsHeld m2 n kind (entry_of at p) a k.rest s → OfShrinking m n kind at depth key (record { rest = s; block = k.block })
       shrinks_from_right n s joins gone Leaf c = absurd (ne c.root_is)

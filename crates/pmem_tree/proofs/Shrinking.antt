@@ -118,6 +118,10 @@ module _ (m : Blocks) (kind at depth : ℕ) (l : Shape) (e : Entry) (r : Shape) 
     kept : Keeps m m2 (entries l)
     kept q none = g.keeps q (omega (arith, none, fewer q))
 
+    -- the node's own block is as it was
+    pub own_take : m2 e.block ≡ m e.block
+    own_take = kept e.block (omega (arith, c.whole.apart e.block, split m kind depth l e r c.whole e.block, count_own e))
+
     pub take_parts : Parts m2 kind g.tree e r
     take_parts = parts_left m kind depth l e r c.whole m2 g.tree g.stands g.balanced g.lower g.upper (λ q. omega (arith, fewer q)) kept
 
@@ -222,6 +226,10 @@ module _ (m : Blocks) (kind at depth : ℕ) (key : TreeKey) (gone : Entry) (l : 
       kept_left : Keeps m m2 (entries l)
       kept_left q none = g.keeps q (omega (arith, none, gone_left q))
 
+      -- the node's own block is as it was
+      pub own_left : m2 e.block ≡ m e.block
+      own_left = kept_left e.block (omega (arith, c.whole.apart e.block, split m kind depth l e r c.whole e.block, count_own e))
+
       pub shrink_parts_left : Parts m2 kind g.tree e r
       shrink_parts_left = parts_left m kind depth l e r c.whole m2 g.tree g.stands g.balanced g.lower g.upper (λ q. omega (arith, gone_left q)) kept_left
 
@@ -253,9 +261,13 @@ module _ (m : Blocks) (kind at depth : ℕ) (key : TreeKey) (gone : Entry) (l : 
       gone_right : (q : ℕ) → count q (entries r) ≡ count q (gone ∷ []) + count q (entries g.tree)
       gone_right q = count_removed q key gone (entries r) shrinks_right.gone_is ∙ ap (λ z. count q (gone ∷ []) + count q z) (sym g.entries_are)
 
+      -- the node's own block is as it was
+      pub own_right : m2 e.block ≡ m e.block
+      own_right = g.keeps e.block (omega (arith, gone_right e.block, c.whole.apart e.block, split m kind depth l e r c.whole e.block, count_own e))
+
       pub shrink_parts_right : Parts m2 kind l e g.tree
       shrink_parts_right = parts_right m kind depth l e r c.whole m2 e g.tree g.stands g.balanced g.lower g.upper c.whole.stands.0.entry
-          (own_taken m kind depth l e r c.whole m2 (g.keeps e.block (omega (arith, gone_right e.block, c.whole.apart e.block, split m kind depth l e r c.whole e.block, count_own e))))
+          (own_taken m kind depth l e r c.whole m2 own_right)
           (λ q. omega (arith, gone_right q)) (λ q in_l. g.keeps q (omega (arith, in_l, c.whole.apart q, split m kind depth l e r c.whole q, gone_right q)))
 
       pub shrunk_right : (n : Blocks) (s : Sub) → Joined m2 kind l e g.tree n s → Shrunk m kind (Fork l e r) key gone n (record { rest = s; block = k.block })

@@ -1,4 +1,5 @@
 pub mod Calls
+pub mod Rejoin
 pub mod Grow
 pub mod Shrink
 pub mod Changes

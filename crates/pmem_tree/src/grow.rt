@@ -6,10 +6,10 @@ ghost use Rattle.pmem_tree_base.specs.Calls.{Goes};
 ghost use Rattle.pmem_tree_base.specs.Nodes.{entry_of};
 ghost use Rattle.pmem_tree.specs.Grow.{SomeGrows, OfGrowing, Grown, GrowsCheaply};
 
+use crate::rejoin::rejoin;
 use pmem_pages::codec::compare;
 use pmem_pages::pages::Pages;
 use pmem_pages::steps::Steps;
-use pmem_tree_base::join::join;
 use pmem_tree_base::read::{Spot, Sub, pair_in, read_at, sub_at};
 use pmem_tree_base::refusal::TreeNo;
 use pmem_tree_base::write::stage_fork;
@@ -63,13 +63,13 @@ pub fn insert_at<P: Pages, L: Ledger>(
         Ordering::Less => {
             let right = sub_at(pages, fresh.kind, node.right, steps)?;
             let left = insert_at(pages, fresh, node.left, depth - 1, steps)?;
-            join(pages, &spot, left, right, steps)
+            rejoin(pages, &spot, &node, left, right, steps)
         }
         Ordering::Equal => Err(TreeNo::TooMuch),
         Ordering::Greater => {
             let left = sub_at(pages, fresh.kind, node.left, steps)?;
             let right = insert_at(pages, fresh, node.right, depth - 1, steps)?;
-            join(pages, &spot, left, right, steps)
+            rejoin(pages, &spot, &node, left, right, steps)
         }
     }
 }

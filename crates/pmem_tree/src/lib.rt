@@ -2,6 +2,7 @@
 #![tactic(auto)]
 
 mod grow;
+mod rejoin;
 mod shrink;
 pub mod tree;
 

@@ -5,6 +5,7 @@ ghost use Rattle.pmem_tree_base.specs.declared.refusal.TreeNo.{TreeNo};
 ghost use Rattle.pmem_tree_base.specs.Calls.{Goes};
 ghost use Rattle.pmem_tree.specs.Shrink.{SomeTake, OfTaking, Taken, SomeDrop, OfDropping, Dropped, SomeShrinks, OfShrinking};
 
+use crate::rejoin::rejoin;
 use pmem_pages::codec::compare;
 use pmem_pages::node::{Node, Pair, TreeKey};
 use pmem_pages::pages::Pages;
@@ -65,7 +66,7 @@ fn take_first<P: Pages, L: Ledger>(
     }
     let first = take_first(pages, kind, node.left, depth - 1, steps)?;
     let spot = Spot { kind, at, pair };
-    let rest = join(pages, &spot, first.rest, right, steps)?;
+    let rest = rejoin(pages, &spot, &node, first.rest, right, steps)?;
     Ok(First {
         at: first.at,
         pair: first.pair,
@@ -148,7 +149,7 @@ pub fn remove_at<P: Pages, L: Ledger>(
         Ordering::Less => {
             let right = sub_at(pages, kind, node.right, steps)?;
             let cut = remove_at(pages, kind, node.left, depth - 1, key, steps)?;
-            let rest = join(pages, &spot, cut.rest, right, steps)?;
+            let rest = rejoin(pages, &spot, &node, cut.rest, right, steps)?;
             Ok(Cut {
                 rest,
                 block: cut.block,
@@ -161,7 +162,7 @@ pub fn remove_at<P: Pages, L: Ledger>(
         Ordering::Greater => {
             let left = sub_at(pages, kind, node.left, steps)?;
             let cut = remove_at(pages, kind, node.right, depth - 1, key, steps)?;
-            let rest = join(pages, &spot, left, cut.rest, steps)?;
+            let rest = rejoin(pages, &spot, &node, left, cut.rest, steps)?;
             Ok(Cut {
                 rest,
                 block: cut.block,

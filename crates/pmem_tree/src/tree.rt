@@ -106,7 +106,7 @@ impl Tree {
         last_before(pages, self.kind, self.root, HIGHEST, key, steps)
     }
 
-    /// Puts another value at a key, which the tree has.
+    /// Puts a value at a key, which the tree has. Where it has that value already, nothing is staged.
     ///
     /// # Errors
     ///
@@ -124,6 +124,7 @@ impl Tree {
         requires value { IsValue self.old.kind value.now }
         requires tree { HasTree P.tells (P.blocks pages.old) self.old.kind self.old.root (λ t. (e : Entry) × (entry_at key.now (entries t) ≡ Some e)) }
         ensures put { OnOk result (OfTree P.tells (P.blocks pages.old) self.old.kind self.old.root (λ t. (e : Entry) → entry_at key.now (entries t) ≡ Some e → Puts (P.blocks pages.old) self.old.kind t key.now value.now (P.blocks pages.new) self.new.root)) }
+        ensures idle { OfTree P.tells (P.blocks pages.old) self.old.kind self.old.root (λ t. (e : Entry) → entry_at key.now (entries t) ≡ Some e → e.value ≡ value.now → (P.blocks pages.new ≡ P.blocks pages.old) × (P.budget pages.new ≡ P.budget pages.old)) }
         ensures kept { self.new ≡ self.old }
         ensures no_block { IsErrOf result TreeNo.NoBlock → ⊥ }
         ensures too_much { IsErrOf result TreeNo.TooMuch → ((P.budget pages.old).ranges < 1) ⊎ ((P.budget pages.old).bytes < 256) }

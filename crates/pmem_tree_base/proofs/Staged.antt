@@ -1,5 +1,7 @@
 -- A node that was staged.
-use Rattle.std.proofs.Common.{◌≡◌, ◌≢◌, ℕ, ◌+◌, ◌≤◌, ◌<◌, max, List, Option, Some, sym, ap, ◌∙◌, subst, arith}
+use mathlib.Core.Path.{fun_ext}
+use Rattle.std.proofs.Common.{◌≡◌, ◌≢◌, ℕ, ◌+◌, ◌≤◌, ◌<◌, max, List, Option, Some, sym, ap, ◌∙◌, subst, arith, inl, inr}
+use Rattle.std.proofs.lemmas.Bool.Decides.{eqb_tells}
 use Rattle.pmem_pages.specs.Blocks.{Blocks, put, IsTaken, Budget, IsSpent}
 use Rattle.pmem_pages.proofs.BlockLaws.{put_here, put_other, taken_put}
 use Rattle.pmem_pages.specs.Node.{node_bytes}
@@ -13,6 +15,13 @@ use Rattle.pmem_tree_base.specs.Nodes.{entry_of, node_between, IsSub}
 -- a block that no node stands in may change
 pub put_stands : (m : Blocks) (kind : ℕ) (b : ℕ) (x : Option (List ℕ)) (t : Shape) → count b (entries t) ≡ 0 → Stands m kind t → Stands (put m b x) kind t
 put_stands m kind b x t none s = stands_on m (put m b x) kind t (λ q in_t. let ne : q ≢ b = λ same. let z : count q (entries t) ≡ 0 = ap (λ p. count p (entries t)) same ∙ none in omega arith in put_other m b x q ne) s
+
+-- what stands in a block is put there again
+pub put_same : (m : Blocks) (b : ℕ) (x : Option (List ℕ)) → m b ≡ x → put m b x ≡ m
+put_same m b x h = fun_ext (λ q. elim (eqb_tells q b) [
+  | inl a ↦ ap (put m b x) a.1 ∙ (put_here m b x ∙ (sym h ∙ ap m (sym a.1)))
+  | inr a ↦ put_other m b x q a.1
+])
 
 -- a node written between two trees
 pub fork_stands : (m : Blocks) (kind : ℕ) (l : Shape) (e : Entry) (r : Shape) → Stands m kind l → Stands m kind r → IsEntry kind e → count e.block (entries l) ≡ 0 → count e.block (entries r) ≡ 0 → Stands (with_node m kind l e r) kind (Fork l e r)

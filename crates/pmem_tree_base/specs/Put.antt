@@ -30,3 +30,7 @@ pub record Put (m : Blocks) (kind : ℕ) (t : Shape) (p : Pair) (n : Blocks) : T
 
 abbrev pub OfPutting : Blocks → ℕ → ℕ → ℕ → Pair → (Shape → Type 0) → Type 0
 OfPutting m kind at depth p P = (gone : Entry) (t : Shape) → CanPut m kind at depth p gone t → P t
+
+-- what holds where the key has that value already
+abbrev pub OfSame : Blocks → ℕ → ℕ → ℕ → Pair → Type 0 → Type 0
+OfSame m kind at depth p A = (gone : Entry) (t : Shape) → CanPut m kind at depth p gone t → gone.value ≡ p.value → A

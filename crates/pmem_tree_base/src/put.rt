@@ -1,9 +1,9 @@
 // A value is put in the place of another, below a block.
-ghost use Rattle.std.specs.Prelude.{◌≡◌, ◌⊎◌, ◌≤◌, ◌<◌, ◌+◌, true, OnOk, IsErrOf, IsTrue};
+ghost use Rattle.std.specs.Prelude.{◌≡◌, ◌⊎◌, ◌≤◌, ◌<◌, ◌+◌, true, OnOk, IsErrOf, IsTrue, Decides};
 ghost use Rattle.pmem_pages.specs.Blocks.{IsSpent};
 ghost use Rattle.pmem_tree_base.specs.declared.refusal.TreeNo.{TreeNo};
 ghost use Rattle.pmem_tree_base.specs.Calls.{Goes};
-ghost use Rattle.pmem_tree_base.specs.Put.{SomePuts, OfPutting, Put};
+ghost use Rattle.pmem_tree_base.specs.Put.{SomePuts, OfPutting, OfSame, Put};
 
 use crate::read::read_at;
 use crate::refusal::TreeNo;
@@ -28,8 +28,15 @@ fn with_value(node: &Node, value: &Value) -> Node
     }
 }
 
+// Whether two values are the same.
+fn is_same(one: &Value, other: &Value) -> bool
+    ensures { Decides result (one.now ≡ other.now) }
+{
+    one.len == other.len && one.bytes == other.bytes
+}
+
 /// Puts a value at a key of the tree below a block, which is no higher than `depth`. Where the key isn't
-/// there, nothing changes.
+/// there, or has that value, nothing is staged.
 ///
 /// # Errors
 ///
@@ -46,6 +53,7 @@ pub fn put_at<P: Pages, L: Ledger>(
     requires tree { IsTrue P.tells → SomePuts (P.blocks pages.old) kind at depth pair.now }
     requires key { pair.now.key.len ≤ 64 }
     ensures put { OnOk result (IsTrue P.tells → OfPutting (P.blocks pages.old) kind at depth pair.now (λ t. Put (P.blocks pages.old) kind t pair.now (P.blocks pages.new))) }
+    ensures idle { IsTrue P.tells → OfSame (P.blocks pages.old) kind at depth pair.now ((P.blocks pages.new ≡ P.blocks pages.old) × (P.budget pages.new ≡ P.budget pages.old)) }
     ensures refused { IsErrOf result TreeNo.TooMuch → ((P.budget pages.old).ranges < 1) ⊎ ((P.budget pages.old).bytes < 256) }
     ensures no_block { IsErrOf result TreeNo.NoBlock → ⊥ }
     ensures steps { steps.new ≤ steps.old + depth }
@@ -62,6 +70,9 @@ pub fn put_at<P: Pages, L: Ledger>(
     match compare(&pair.key, &node.key) {
         Ordering::Less => put_at(pages, kind, node.left, depth - 1, pair, steps),
         Ordering::Equal => {
+            if is_same(&node.value, &pair.value) {
+                return Ok(());
+            }
             let changed = with_value(&node, &pair.value);
             stage_node(pages, kind, at, &changed)?;
             Ok(())

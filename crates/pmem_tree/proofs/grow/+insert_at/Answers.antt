@@ -2,7 +2,7 @@ use Rattle.std.proofs.Common.{◌∙◌, sym, subst, arith}
 use Rattle.std.proofs.lemmas.Result.{IfOk-weaker}
 use Rattle.pmem_pages.specs.Blocks.{Blocks}
 use Rattle.pmem_tree_base.specs.Nodes.{entry_of, StandsAt}
-use Rattle.pmem_tree.proofs.Inserting.{grow_node, grow_deep, grown_alone, cheap_alone, grow_missing, sub_left, sub_right, went_left, went_right, holds_left, holds_right, grows_from_left, grows_from_right, cheap_from_left, cheap_from_right}
+use Rattle.pmem_tree.proofs.Inserting.{grow_node, grow_deep, grown_alone, cheap_alone, grow_missing, sub_left, sub_right, went_left, went_right, holds_left, holds_right, stays_left, stays_right, grows_from_left, grows_from_right, cheap_from_left, cheap_from_right}
 use Rattle.pmem_tree.proofs.grow.+insert_at.Goals as goal
 
 pub read_at-requires : goal.read_at-requires
@@ -26,17 +26,20 @@ sub_at-requires g t c told = sub_right _ c.args.fresh.now.kind c.args.at c.args.
 pub insert_at-requires : goal.insert_at-requires
 insert_at-requires g t c κs within = (omega arith, (within.0, (within.1, (λ told. went_left _ c.args.fresh.now.kind c.args.at c.args.depth (entry_of c.args.fresh.now.at c.args.fresh.now.pair) c.in_ok-node.node c.pair_in-pair.result c.if-at-eq0.false (c.in_ok-node.ensures.node told) c.pair_in-pair.ensures (sym c.compare.ensures ∙ c.in-Less.is) _ (c.sub_at.ensures.kept told ∙ c.read_at.ensures.kept told) (c.requires.tree told), c.requires.key))))
 
-pub join-requires : goal.join-requires
-join-requires g t c told = holds_left _ c.args.fresh.now.kind c.args.at c.args.depth (entry_of c.args.fresh.now.at c.args.fresh.now.pair) c.in_ok-node.node c.pair_in-pair.result c.if-at-eq0.false (c.in_ok-node.ensures.node told) c.pair_in-pair.ensures (sym c.compare.ensures ∙ c.in-Less.is) _ _ c.in_ok-left-in-Less.left c.in_ok-right-in-Less.right (c.sub_at.ensures.kept told ∙ c.read_at.ensures.kept told) (λ s h. c.in_ok-right-in-Less.ensures.sub told s (subst (λ (z : Blocks). StandsAt z c.args.fresh.now.kind c.in_ok-node.node.right s) (sym (c.read_at.ensures.kept told)) h)) (c.in_ok-left-in-Less.ensures.grown told) (c.requires.tree told)
+pub rejoin-requires-clause-held : goal.rejoin-requires-clause-held
+rejoin-requires-clause-held g t c told = holds_left _ c.args.fresh.now.kind c.args.at c.args.depth (entry_of c.args.fresh.now.at c.args.fresh.now.pair) c.in_ok-node.node c.pair_in-pair.result c.if-at-eq0.false (c.in_ok-node.ensures.node told) c.pair_in-pair.ensures (sym c.compare.ensures ∙ c.in-Less.is) _ _ c.in_ok-left-in-Less.left c.in_ok-right-in-Less.right (c.sub_at.ensures.kept told ∙ c.read_at.ensures.kept told) (λ s h. c.in_ok-right-in-Less.ensures.sub told s (subst (λ (z : Blocks). StandsAt z c.args.fresh.now.kind c.in_ok-node.node.right s) (sym (c.read_at.ensures.kept told)) h)) (c.in_ok-left-in-Less.ensures.grown told) (c.requires.tree told)
+
+pub rejoin-requires-clause-stands : goal.rejoin-requires-clause-stands
+rejoin-requires-clause-stands g t c told = stays_left _ c.args.fresh.now.kind c.args.at c.args.depth (entry_of c.args.fresh.now.at c.args.fresh.now.pair) c.in_ok-node.node c.pair_in-pair.result c.if-at-eq0.false (c.in_ok-node.ensures.node told) c.pair_in-pair.ensures (sym c.compare.ensures ∙ c.in-Less.is) _ _ c.in_ok-left-in-Less.left c.in_ok-right-in-Less.right (c.sub_at.ensures.kept told ∙ c.read_at.ensures.kept told) (λ s h. c.in_ok-right-in-Less.ensures.sub told s (subst (λ (z : Blocks). StandsAt z c.args.fresh.now.kind c.in_ok-node.node.right s) (sym (c.read_at.ensures.kept told)) h)) (c.in_ok-left-in-Less.ensures.grown told) (c.requires.tree told)
 
 pub returns-in_ok-left-in-Less-clause-grown : goal.returns-in_ok-left-in-Less-clause-grown
 returns-in_ok-left-in-Less-clause-grown g t c =
-    IfOk-weaker c.join.result _ _ (λ s h told. grows_from_left _ c.args.fresh.now.kind c.args.at c.args.depth (entry_of c.args.fresh.now.at c.args.fresh.now.pair) c.in_ok-node.node c.pair_in-pair.result c.if-at-eq0.false (c.in_ok-node.ensures.node told) c.pair_in-pair.ensures (sym c.compare.ensures ∙ c.in-Less.is) _ _ c.in_ok-left-in-Less.left c.in_ok-right-in-Less.right (c.sub_at.ensures.kept told ∙ c.read_at.ensures.kept told) (λ s h. c.in_ok-right-in-Less.ensures.sub told s (subst (λ (z : Blocks). StandsAt z c.args.fresh.now.kind c.in_ok-node.node.right s) (sym (c.read_at.ensures.kept told)) h)) (c.in_ok-left-in-Less.ensures.grown told) _ s (h told)) c.join.ensures.joins
+    IfOk-weaker c.rejoin.result _ _ (λ s h told. grows_from_left _ c.args.fresh.now.kind c.args.at c.args.depth (entry_of c.args.fresh.now.at c.args.fresh.now.pair) c.in_ok-node.node c.pair_in-pair.result c.if-at-eq0.false (c.in_ok-node.ensures.node told) c.pair_in-pair.ensures (sym c.compare.ensures ∙ c.in-Less.is) _ _ c.in_ok-left-in-Less.left c.in_ok-right-in-Less.right (c.sub_at.ensures.kept told ∙ c.read_at.ensures.kept told) (λ s h. c.in_ok-right-in-Less.ensures.sub told s (subst (λ (z : Blocks). StandsAt z c.args.fresh.now.kind c.in_ok-node.node.right s) (sym (c.read_at.ensures.kept told)) h)) (c.in_ok-left-in-Less.ensures.grown told) _ s (h told)) c.rejoin.ensures.joins
 
 pub returns-in_ok-left-in-Less-clause-cheap : goal.returns-in_ok-left-in-Less-clause-cheap
 returns-in_ok-left-in-Less-clause-cheap g t c =
     let budget = c.sub_at.ensures.budget ∙ c.read_at.ensures.budget in
-    IfOk-weaker c.join.result _ _ (λ s h told. cheap_from_left _ c.args.fresh.now.kind c.args.at c.args.depth (entry_of c.args.fresh.now.at c.args.fresh.now.pair) c.in_ok-node.node c.pair_in-pair.result c.if-at-eq0.false (c.in_ok-node.ensures.node told) c.pair_in-pair.ensures (sym c.compare.ensures ∙ c.in-Less.is) _ _ c.in_ok-left-in-Less.left c.in_ok-right-in-Less.right (c.sub_at.ensures.kept told ∙ c.read_at.ensures.kept told) (λ s h. c.in_ok-right-in-Less.ensures.sub told s (subst (λ (z : Blocks). StandsAt z c.args.fresh.now.kind c.in_ok-node.node.right s) (sym (c.read_at.ensures.kept told)) h)) (c.in_ok-left-in-Less.ensures.grown told) _ s (h told) _ _ _ (rw budget at (c.in_ok-left-in-Less.ensures.cheap told)) c.join.ensures.spent c.join.ensures.plain) c.join.ensures.joins
+    IfOk-weaker c.rejoin.result _ _ (λ s h told. cheap_from_left _ c.args.fresh.now.kind c.args.at c.args.depth (entry_of c.args.fresh.now.at c.args.fresh.now.pair) c.in_ok-node.node c.pair_in-pair.result c.if-at-eq0.false (c.in_ok-node.ensures.node told) c.pair_in-pair.ensures (sym c.compare.ensures ∙ c.in-Less.is) _ _ c.in_ok-left-in-Less.left c.in_ok-right-in-Less.right (c.sub_at.ensures.kept told ∙ c.read_at.ensures.kept told) (λ s h. c.in_ok-right-in-Less.ensures.sub told s (subst (λ (z : Blocks). StandsAt z c.args.fresh.now.kind c.in_ok-node.node.right s) (sym (c.read_at.ensures.kept told)) h)) (c.in_ok-left-in-Less.ensures.grown told) _ s (h told) _ _ _ (rw budget at (c.in_ok-left-in-Less.ensures.cheap told)) c.rejoin.ensures.spent c.rejoin.ensures.plain) c.rejoin.ensures.joins
 
 pub sub_at-requires-in-Greater : goal.sub_at-requires-in-Greater
 sub_at-requires-in-Greater g t c told = sub_left _ c.args.fresh.now.kind c.args.at c.args.depth (entry_of c.args.fresh.now.at c.args.fresh.now.pair) c.in_ok-node.node c.pair_in-pair.result c.if-at-eq0.false (c.in_ok-node.ensures.node told) c.pair_in-pair.ensures _ (c.read_at.ensures.kept told) (c.requires.tree told)
@@ -44,14 +47,17 @@ sub_at-requires-in-Greater g t c told = sub_left _ c.args.fresh.now.kind c.args.
 pub insert_at-requires-in-Greater : goal.insert_at-requires-in-Greater
 insert_at-requires-in-Greater g t c κs within = (omega arith, (within.0, (within.1, (λ told. went_right _ c.args.fresh.now.kind c.args.at c.args.depth (entry_of c.args.fresh.now.at c.args.fresh.now.pair) c.in_ok-node.node c.pair_in-pair.result c.if-at-eq0.false (c.in_ok-node.ensures.node told) c.pair_in-pair.ensures (sym c.compare.ensures ∙ c.in-Greater.is) _ (c.sub_at-in-Greater.ensures.kept told ∙ c.read_at.ensures.kept told) (c.requires.tree told), c.requires.key))))
 
-pub join-requires-in-Greater : goal.join-requires-in-Greater
-join-requires-in-Greater g t c told = holds_right _ c.args.fresh.now.kind c.args.at c.args.depth (entry_of c.args.fresh.now.at c.args.fresh.now.pair) c.in_ok-node.node c.pair_in-pair.result c.if-at-eq0.false (c.in_ok-node.ensures.node told) c.pair_in-pair.ensures (sym c.compare.ensures ∙ c.in-Greater.is) _ _ c.in_ok-left-in-Greater.left c.in_ok-right-in-Greater.right (c.sub_at-in-Greater.ensures.kept told ∙ c.read_at.ensures.kept told) (λ s h. c.in_ok-left-in-Greater.ensures.sub told s (subst (λ (z : Blocks). StandsAt z c.args.fresh.now.kind c.in_ok-node.node.left s) (sym (c.read_at.ensures.kept told)) h)) (c.in_ok-right-in-Greater.ensures.grown told) (c.requires.tree told)
+pub rejoin-requires-in-Greater-clause-held : goal.rejoin-requires-in-Greater-clause-held
+rejoin-requires-in-Greater-clause-held g t c told = holds_right _ c.args.fresh.now.kind c.args.at c.args.depth (entry_of c.args.fresh.now.at c.args.fresh.now.pair) c.in_ok-node.node c.pair_in-pair.result c.if-at-eq0.false (c.in_ok-node.ensures.node told) c.pair_in-pair.ensures (sym c.compare.ensures ∙ c.in-Greater.is) _ _ c.in_ok-left-in-Greater.left c.in_ok-right-in-Greater.right (c.sub_at-in-Greater.ensures.kept told ∙ c.read_at.ensures.kept told) (λ s h. c.in_ok-left-in-Greater.ensures.sub told s (subst (λ (z : Blocks). StandsAt z c.args.fresh.now.kind c.in_ok-node.node.left s) (sym (c.read_at.ensures.kept told)) h)) (c.in_ok-right-in-Greater.ensures.grown told) (c.requires.tree told)
+
+pub rejoin-requires-in-Greater-clause-stands : goal.rejoin-requires-in-Greater-clause-stands
+rejoin-requires-in-Greater-clause-stands g t c told = stays_right _ c.args.fresh.now.kind c.args.at c.args.depth (entry_of c.args.fresh.now.at c.args.fresh.now.pair) c.in_ok-node.node c.pair_in-pair.result c.if-at-eq0.false (c.in_ok-node.ensures.node told) c.pair_in-pair.ensures (sym c.compare.ensures ∙ c.in-Greater.is) _ _ c.in_ok-left-in-Greater.left c.in_ok-right-in-Greater.right (c.sub_at-in-Greater.ensures.kept told ∙ c.read_at.ensures.kept told) (λ s h. c.in_ok-left-in-Greater.ensures.sub told s (subst (λ (z : Blocks). StandsAt z c.args.fresh.now.kind c.in_ok-node.node.left s) (sym (c.read_at.ensures.kept told)) h)) (c.in_ok-right-in-Greater.ensures.grown told) (c.requires.tree told)
 
 pub returns-in_ok-right-in-Greater-clause-grown : goal.returns-in_ok-right-in-Greater-clause-grown
 returns-in_ok-right-in-Greater-clause-grown g t c =
-    IfOk-weaker c.join-in-Greater.result _ _ (λ s h told. grows_from_right _ c.args.fresh.now.kind c.args.at c.args.depth (entry_of c.args.fresh.now.at c.args.fresh.now.pair) c.in_ok-node.node c.pair_in-pair.result c.if-at-eq0.false (c.in_ok-node.ensures.node told) c.pair_in-pair.ensures (sym c.compare.ensures ∙ c.in-Greater.is) _ _ c.in_ok-left-in-Greater.left c.in_ok-right-in-Greater.right (c.sub_at-in-Greater.ensures.kept told ∙ c.read_at.ensures.kept told) (λ s h. c.in_ok-left-in-Greater.ensures.sub told s (subst (λ (z : Blocks). StandsAt z c.args.fresh.now.kind c.in_ok-node.node.left s) (sym (c.read_at.ensures.kept told)) h)) (c.in_ok-right-in-Greater.ensures.grown told) _ s (h told)) c.join-in-Greater.ensures.joins
+    IfOk-weaker c.rejoin-in-Greater.result _ _ (λ s h told. grows_from_right _ c.args.fresh.now.kind c.args.at c.args.depth (entry_of c.args.fresh.now.at c.args.fresh.now.pair) c.in_ok-node.node c.pair_in-pair.result c.if-at-eq0.false (c.in_ok-node.ensures.node told) c.pair_in-pair.ensures (sym c.compare.ensures ∙ c.in-Greater.is) _ _ c.in_ok-left-in-Greater.left c.in_ok-right-in-Greater.right (c.sub_at-in-Greater.ensures.kept told ∙ c.read_at.ensures.kept told) (λ s h. c.in_ok-left-in-Greater.ensures.sub told s (subst (λ (z : Blocks). StandsAt z c.args.fresh.now.kind c.in_ok-node.node.left s) (sym (c.read_at.ensures.kept told)) h)) (c.in_ok-right-in-Greater.ensures.grown told) _ s (h told)) c.rejoin-in-Greater.ensures.joins
 
 pub returns-in_ok-right-in-Greater-clause-cheap : goal.returns-in_ok-right-in-Greater-clause-cheap
 returns-in_ok-right-in-Greater-clause-cheap g t c =
     let budget = c.sub_at-in-Greater.ensures.budget ∙ c.read_at.ensures.budget in
-    IfOk-weaker c.join-in-Greater.result _ _ (λ s h told. cheap_from_right _ c.args.fresh.now.kind c.args.at c.args.depth (entry_of c.args.fresh.now.at c.args.fresh.now.pair) c.in_ok-node.node c.pair_in-pair.result c.if-at-eq0.false (c.in_ok-node.ensures.node told) c.pair_in-pair.ensures (sym c.compare.ensures ∙ c.in-Greater.is) _ _ c.in_ok-left-in-Greater.left c.in_ok-right-in-Greater.right (c.sub_at-in-Greater.ensures.kept told ∙ c.read_at.ensures.kept told) (λ s h. c.in_ok-left-in-Greater.ensures.sub told s (subst (λ (z : Blocks). StandsAt z c.args.fresh.now.kind c.in_ok-node.node.left s) (sym (c.read_at.ensures.kept told)) h)) (c.in_ok-right-in-Greater.ensures.grown told) _ s (h told) _ _ _ (rw budget at (c.in_ok-right-in-Greater.ensures.cheap told)) c.join-in-Greater.ensures.spent c.join-in-Greater.ensures.plain) c.join-in-Greater.ensures.joins
+    IfOk-weaker c.rejoin-in-Greater.result _ _ (λ s h told. cheap_from_right _ c.args.fresh.now.kind c.args.at c.args.depth (entry_of c.args.fresh.now.at c.args.fresh.now.pair) c.in_ok-node.node c.pair_in-pair.result c.if-at-eq0.false (c.in_ok-node.ensures.node told) c.pair_in-pair.ensures (sym c.compare.ensures ∙ c.in-Greater.is) _ _ c.in_ok-left-in-Greater.left c.in_ok-right-in-Greater.right (c.sub_at-in-Greater.ensures.kept told ∙ c.read_at.ensures.kept told) (λ s h. c.in_ok-left-in-Greater.ensures.sub told s (subst (λ (z : Blocks). StandsAt z c.args.fresh.now.kind c.in_ok-node.node.left s) (sym (c.read_at.ensures.kept told)) h)) (c.in_ok-right-in-Greater.ensures.grown told) _ s (h told) _ _ _ (rw budget at (c.in_ok-right-in-Greater.ensures.cheap told)) c.rejoin-in-Greater.ensures.spent c.rejoin-in-Greater.ensures.plain) c.rejoin-in-Greater.ensures.joins

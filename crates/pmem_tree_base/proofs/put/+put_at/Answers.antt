@@ -1,8 +1,9 @@
-use Rattle.std.proofs.Common.{◌∙◌, sym, subst, arith}
+use Rattle.std.proofs.Common.{◌∙◌, refl, sym, subst, arith}
+use Rattle.std.proofs.lemmas.Bool.Decides.{not_from_Decides}
 use Rattle.std.proofs.lemmas.Result.{on_ok_weaker}
 use Rattle.pmem_pages.specs.Blocks.{Blocks, IsTaken}
 use Rattle.pmem_tree_base.proofs.Held.{node_taken}
-use Rattle.pmem_tree_base.proofs.Putting.{put_node, put_goes_left, put_goes_right, puts_from_left, puts_from_right, puts_from_here}
+use Rattle.pmem_tree_base.proofs.Putting.{put_node, put_goes_left, put_goes_right, puts_from_left, puts_from_right, puts_from_here, puts_as_it_is, same_from_left, same_from_right, same_here}
 use Rattle.pmem_tree_base.proofs.put.+put_at.Goals as goal
 
 pub read_at-requires : goal.read_at-requires
@@ -25,3 +26,18 @@ returns-in-Greater-clause-put g t c = on_ok_weaker c.put_at-in-Greater.result (�
 
 pub returns-in_ok-stage_node-in-Equal-clause-put : goal.returns-in_ok-stage_node-in-Equal-clause-put
 returns-in_ok-stage_node-in-Equal-clause-put g t c told = puts_from_here _ c.args.kind c.args.at c.args.depth c.args.pair.now c.in_ok-node.node c.if-at-eq0.false (c.in_ok-node.ensures.node told) (sym c.compare.ensures ∙ c.in-Equal.is) _ _ (c.read_at.ensures.kept told) (rw (← c.with_value-changed.ensures) (c.in_ok-stage_node-in-Equal.ensures.staged told))
+
+pub returns-then-is_same-clause-put : goal.returns-then-is_same-clause-put
+returns-then-is_same-clause-put g t c told = puts_as_it_is _ c.args.kind c.args.at c.args.depth c.args.pair.now c.in_ok-node.node c.if-at-eq0.false (c.in_ok-node.ensures.node told) (sym c.compare.ensures ∙ c.in-Equal.is) (c.is_same.ensures.0 c.if-is_same.true) _ _ (c.read_at.ensures.kept told) refl
+
+pub returns-in_err-stage_node-in-Equal-clause-idle : goal.returns-in_err-stage_node-in-Equal-clause-idle
+returns-in_err-stage_node-in-Equal-clause-idle g t c told = same_here _ c.args.kind c.args.at c.args.depth c.args.pair.now c.in_ok-node.node c.if-at-eq0.false (c.in_ok-node.ensures.node told) (sym c.compare.ensures ∙ c.in-Equal.is) (not_from_Decides c.is_same.result c.is_same.ensures c.if-is_same.false)
+
+pub returns-in_ok-stage_node-in-Equal-clause-idle : goal.returns-in_ok-stage_node-in-Equal-clause-idle
+returns-in_ok-stage_node-in-Equal-clause-idle g t c told = same_here _ c.args.kind c.args.at c.args.depth c.args.pair.now c.in_ok-node.node c.if-at-eq0.false (c.in_ok-node.ensures.node told) (sym c.compare.ensures ∙ c.in-Equal.is) (not_from_Decides c.is_same.result c.is_same.ensures c.if-is_same.false)
+
+pub returns-in-Less-clause-idle : goal.returns-in-Less-clause-idle
+returns-in-Less-clause-idle g t c told = same_from_left _ c.args.kind c.args.at c.args.depth c.args.pair.now c.in_ok-node.node c.if-at-eq0.false (c.in_ok-node.ensures.node told) (sym c.compare.ensures ∙ c.in-Less.is) _ (c.read_at.ensures.kept told) (λ w. (w.0 ∙ c.read_at.ensures.kept told, w.1 ∙ c.read_at.ensures.budget)) (c.put_at.ensures.idle told)
+
+pub returns-in-Greater-clause-idle : goal.returns-in-Greater-clause-idle
+returns-in-Greater-clause-idle g t c told = same_from_right _ c.args.kind c.args.at c.args.depth c.args.pair.now c.in_ok-node.node c.if-at-eq0.false (c.in_ok-node.ensures.node told) (sym c.compare.ensures ∙ c.in-Greater.is) _ (c.read_at.ensures.kept told) (λ w. (w.0 ∙ c.read_at.ensures.kept told, w.1 ∙ c.read_at.ensures.budget)) (c.put_at-in-Greater.ensures.idle told)

@@ -1,4 +1,4 @@
-use Rattle.std.proofs.Common.{sym, subst, arith}
+use Rattle.std.proofs.Common.{◌∙◌, sym, subst, arith}
 use Rattle.std.proofs.lemmas.Result.{on_ok_weaker}
 use Rattle.pmem_pages.specs.Blocks.{Blocks}
 use Rattle.pmem_tree_base.specs.Put.{CanPut, Put}
@@ -28,3 +28,8 @@ returns-clause-steps g c told t w =
 pub returns-clause-put : goal.returns-clause-put
 returns-clause-put g c =
     on_ok_weaker c.put_at.result (λ h told t w e there. puts _ c.args.self.now.kind c.args.self.now.root c.in_ok-whole.whole.height (record { key = c.args.key.now; value = c.args.value.now }) c.requires.value e t w there _ (subst (λ (z : Blocks). Put z c.args.self.now.kind t (record { key = c.args.key.now; value = c.args.value.now }) (g.P.Pages.blocks c.put_at.new.pages)) (c.sub_at.ensures.kept told) (h told e t (subst (λ (z : Blocks). CanPut z c.args.self.now.kind c.args.self.now.root c.in_ok-whole.whole.height (record { key = c.args.key.now; value = c.args.value.now }) e t) (sym (c.sub_at.ensures.kept told)) (can_put _ c.args.self.now.kind c.args.self.now.root c.in_ok-whole.whole.height (record { key = c.args.key.now; value = c.args.value.now }) c.requires.value e t w there (c.in_ok-whole.ensures.sub told t (record { root_is = w.root; stands = w.stands })).height_is))))) c.put_at.ensures.put
+
+pub returns-clause-idle : goal.returns-clause-idle
+returns-clause-idle g c told t w e there value =
+    let h = c.put_at.ensures.idle told e t (subst (λ (z : Blocks). CanPut z c.args.self.now.kind c.args.self.now.root c.in_ok-whole.whole.height (record { key = c.args.key.now; value = c.args.value.now }) e t) (sym (c.sub_at.ensures.kept told)) (can_put _ c.args.self.now.kind c.args.self.now.root c.in_ok-whole.whole.height (record { key = c.args.key.now; value = c.args.value.now }) c.requires.value e t w there (c.in_ok-whole.ensures.sub told t (record { root_is = w.root; stands = w.stands })).height_is)) value in
+    (h.0 ∙ c.sub_at.ensures.kept told, h.1 ∙ c.sub_at.ensures.budget)
