@@ -5,7 +5,7 @@ use Rattle.std.proofs.lemmas.Bool.Decides.{eqb_tells}
 use Rattle.std.specs.declared.cmp.Ordering.TheVariants.{Greater}
 use Rattle.pmem_pages.specs.Blocks.{Blocks, Budget, IsSpent}
 use Rattle.pmem_pages.specs.Node.{key_cmp}
-use Rattle.pmem_pages.specs.Shape.{Entry, Shape, Fork, root_of, height, entries, count}
+use Rattle.pmem_pages.specs.Shape.{Entry, Shape, Fork, root_of, height, entries, count, node_at}
 use Rattle.pmem_pages.proofs.Lists.{count_one, count_own, count_other, count_parts, count_inserted, Rises-back}
 use Rattle.pmem_pages.proofs.Shapes.{stands_on}
 use Rattle.pmem_tree_base.specs.declared.read.Sub.{Sub}
@@ -13,6 +13,9 @@ use Rattle.pmem_tree_base.specs.Nodes.{IsSub}
 use Rattle.pmem_tree_base.proofs.Sides.{entry_at_right}
 use Rattle.pmem_tree_base.proofs.Staged.{spent_then}
 use Rattle.pmem_tree_base.specs.Join.{Parts, Held, Joined, Leans}
+use Rattle.pmem_tree.proofs.Ends.{spent_none, end_right, even_right, longer_right}
+use Rattle.pmem_tree.specs.Rejoin.{Fits}
+use Rattle.pmem_tree.specs.Ends.{GrowsAtEnd}
 use Rattle.pmem_tree.specs.Grow.{CanGrow, Grown, GrowsCheaply}
 use Rattle.pmem_tree.proofs.Growing.{inserted_right, part, own_apart, not_new}
 
@@ -141,4 +144,55 @@ module _ (m : Blocks) (kind at depth : ℕ) (x : Entry) (l : Shape) (e : Entry) 
                     at_most = spent_then _ _ _ _ _ _ b0 b1 b2 ch.at_most cheap (omega arith) (omega arith);
                     grew = λ grew. spent_then _ _ _ _ _ _ b0 b1 b2 (ch.grew (omega (arith, v))) cheap (omega arith) (omega arith);
                   }
+            ]
+
+        pub ends_right : (b0 b1 b2 : Budget) → GrowsAtEnd x.key r s b0 b1 → IsSpent 3 768 b1 b2 → (a.height ≤ s.height + 1 → s.height ≤ a.height + 1 → IsSpent 1 256 b1 b2) → (Fits (node_at l e r) a s → b2 ≡ b1) → GrowsAtEnd x.key (Fork l e r) w b0 b2
+        ends_right b0 b1 b2 ch three one idle =
+            let near = c.balanced.0 in
+            let nl = near.left in
+            let nr = near.right in
+            let lo = g.lower in
+            let hi = g.upper in
+            let hs = g.is_sub.height_is in
+            let hb = left_is.height_is in
+            let rb = left_is.root_is in
+            let hw = j.is_sub.height_is in
+            let len = end_right x.key l e r more in
+            elim (cases_lt (height l + 1) (height r2)) [
+              | inl far ↦
+                  let all = (ch.grew (omega arith)).1 in
+                  record {
+                    most = spent_then _ _ _ _ _ _ b0 b1 b2 all three (omega arith) (omega arith);
+                    turned = λ _ _. spent_then _ _ _ _ _ _ b0 b1 b2 all three (omega arith) (omega arith);
+                    grew = λ grew. absurd (omega (arith, far_right far));
+                  }
+              | inr close ↦
+                  let f = near_right close in
+                  let v = ap height f.1 in
+                  let stays : w.root ≡ e.block = j.is_sub.root_is ∙ ap root_of f.1 in
+                  let cheap = one (let k = f.0 in omega arith) (omega arith) in
+                  elim (eqb_tells s.height (height r)) [
+                    | inl as_high ↦
+                        let level = as_high.1 in
+                        record {
+                          most = elim (eqb_tells s.root (root_of r)) [
+                            | inl as_rooted ↦ spent_then _ _ _ _ _ _ b0 b1 b2 ch.most (spent_none b1 b2 (idle (sym rb, (sym as_rooted.1, (omega arith, (omega arith, omega arith)))))) (omega arith) (omega arith)
+                            | inr other ↦ spent_then _ _ _ _ _ _ b0 b1 b2 (ch.turned other.1 level) cheap (omega arith) (omega arith)
+                          ];
+                          turned = λ other _. absurd (other stays);
+                          grew = λ grew. absurd (omega (arith, v));
+                        }
+                    | inr other ↦
+                        let ne = other.1 in
+                        let more_high : s.height ≡ height r + 1 = omega (arith, ne) in
+                        let below = ch.grew more_high in
+                        record {
+                          most = spent_then _ _ _ _ _ _ b0 b1 b2 below.1 cheap (omega arith) (omega arith);
+                          turned = λ other _. absurd (other stays);
+                          grew = λ grew.
+                              let even = even_right x.key l e r more below.0 (omega (arith, v)) in
+                              let longer = longer_right x.key l e r more even in
+                              (even, spent_then _ _ _ _ _ _ b0 b1 b2 below.1 cheap (omega arith) (omega arith));
+                        }
+                  ]
             ]

@@ -6,6 +6,7 @@ use Rattle.pmem_pages.specs.Blocks.{Blocks, Budget, IsSpent, put}
 use Rattle.pmem_pages.proofs.BlockLaws.{put_here, put_other}
 use Rattle.pmem_pages.proofs.Owning.{not_free}
 use Rattle.pmem_pages.specs.declared.node.Pair.{Pair}
+use Rattle.pmem_pages.specs.declared.node.TreeKey.{TreeKey}
 use Rattle.pmem_pages.specs.Node.{IsKey, IsValue}
 use Rattle.pmem_pages.specs.Shape.{Entry, Shape, height, entries, count, Stands, Balanced, Rises, IsTree, entry_at}
 use Rattle.pmem_pages.proofs.Lists.{count_one, count_own, count_other, count_inserted, rises_inserted}
@@ -14,6 +15,7 @@ use Rattle.pmem_pages.proofs.Heights.{low, never_high}
 use Rattle.pmem_tree_base.specs.declared.read.Sub.{Sub}
 use Rattle.pmem_tree_base.specs.Nodes.{entry_of, StandsAt}
 use Rattle.pmem_tree_base.proofs.Staged.{spent_then}
+use Rattle.pmem_tree.specs.Ends.{StagesAtEnd, GrowsAtEnd}
 use Rattle.pmem_tree.specs.Grow.{CanGrow, Grown, GrowsCheaply}
 use Rattle.pmem_tree.specs.Changes.{Inserts}
 use Rattle.pmem_tree.specs.Calls.{StagesAtMost, TooFew}
@@ -104,6 +106,10 @@ pub stages_few : (t : Shape) (s : Sub) (b0 b1 b2 : Budget) → Balanced t → Is
 stages_few t s b0 b1 b2 b one c d n =
     let h = low t d b n in
     spent_then _ _ _ _ _ _ b0 b1 b2 one c.at_most (omega arith) (omega arith)
+
+-- .. by the end of the key's way
+pub stages_end : (k : TreeKey) (t : Shape) (s : Sub) (b0 b1 b2 : Budget) → IsSpent 1 1 b0 b1 → GrowsAtEnd k t s b1 b2 → StagesAtEnd 6 k t b0 b2
+stages_end k t s b0 b1 b2 one c = spent_then _ _ _ _ _ _ b0 b1 b2 one c.most (omega arith) (omega arith)
 
 -- a refusal for want of ranges or bytes
 pub too_few : (t : Shape) (b0 b1 : Budget) → Balanced t → IsSpent 1 1 b0 b1 → (b1.ranges < 3 * height t + 3) ⊎ (b1.bytes < 256 * (3 * height t + 3)) → TooFew t b0

@@ -1,5 +1,5 @@
 -- The same, as the clauses of the code say it.
-use Rattle.std.proofs.Common.{◌≡◌, ◌≢◌, ℕ, ◌+◌, ◌-◌, ◌≤◌, max, [], ◌∷◌, Some, refl, sym, ap, ◌∙◌, subst, arith}
+use Rattle.std.proofs.Common.{◌≡◌, ◌≢◌, ℕ, ◌+◌, ◌-◌, ◌*◌, ◌≤◌, max, [], ◌∷◌, Some, refl, sym, ap, ◌∙◌, subst, arith}
 use Rattle.std.specs.declared.cmp.Ordering.TheVariants.{Less, Equal, Greater}
 use Rattle.pmem_pages.specs.Blocks.{Blocks, Budget, IsSpent, put}
 use Rattle.pmem_pages.specs.declared.node.Node.{Node}
@@ -11,12 +11,15 @@ use Rattle.pmem_tree_base.specs.declared.read.Sub.{Sub}
 use Rattle.pmem_tree_base.specs.Nodes.{SomeNode, IsNodeAt, entry_of, node_between, IsSub, StandsAt, SomeStandsAt}
 use Rattle.pmem_tree_base.proofs.Held.{some_node, entry_held}
 use Rattle.pmem_tree_base.proofs.Sides.{entry_at_here}
-use Rattle.pmem_tree_base.proofs.Staged.{fork_stands, keeps_put, staged, sub_of}
+use Rattle.pmem_tree_base.proofs.Staged.{fork_stands, keeps_put, staged, sub_of, spent_then}
 use Rattle.pmem_tree_base.specs.Join.{Held, SomeHeld, Joined, JoinsHeld}
+use Rattle.pmem_tree.specs.Rejoin.{Fits}
+use Rattle.pmem_tree.specs.Ends.{GrowsAtEnd}
+use Rattle.pmem_tree.proofs.Ends.{spent_none}
 use Rattle.pmem_tree.specs.Grow.{CanGrow, SomeGrows, Grown, GrowsCheaply, OfGrowing}
 use Rattle.pmem_tree.proofs.Rejoining.{still_there}
-use Rattle.pmem_tree.proofs.Growing.{grows_left, own_left, held_left, grown_left, cheap_left}
-use Rattle.pmem_tree.proofs.GrowingRight.{grows_right, own_right, held_right, grown_right, cheap_right}
+use Rattle.pmem_tree.proofs.Growing.{grows_left, own_left, held_left, grown_left, cheap_left, ends_left}
+use Rattle.pmem_tree.proofs.GrowingRight.{grows_right, own_right, held_right, grown_right, cheap_right, ends_right}
 
 pub grow_node : (m : Blocks) (kind at depth : ℕ) (x : Entry) → SomeGrows m kind at depth x → at ≢ 0 → SomeNode m kind at
 grow_node m kind at depth x w ne = some_node m kind at w.0 w.1.stands w.1.root_is ne
@@ -54,6 +57,12 @@ cheap_alone m kind at depth x s b0 b1 z h Leaf c =
       grew = λ _. record { ranges_most = omega arith; ranges_least = h.ranges_least; bytes_most = omega arith; bytes_least = h.bytes_least };
     }
 cheap_alone m kind at depth x s b0 b1 z h (Fork l f r) c = absurd (let y = c.stands.0.entry.low in let q = c.root_is in omega arith)
+
+pub ends_alone : (m : Blocks) (kind at depth : ℕ) (x : Entry) (s : Sub) (b0 b1 : Budget) → at ≡ 0 → IsSpent 1 256 b0 b1 → OfGrowing m kind at depth x (λ t. GrowsAtEnd x.key t s b0 b1)
+ends_alone m kind at depth x s b0 b1 z h Leaf c =
+    let more : (n : ℕ) → IsSpent (0 + (n + 1)) (256 * (0 + (n + 1))) b0 b1 = λ n. spent_then _ _ _ _ _ _ b0 b1 b1 h (spent_none b1 b1 refl) (omega arith) (omega arith) in
+    record { most = more 4; turned = λ _ _. more 3; grew = λ _. (refl, more 0) }
+ends_alone m kind at depth x s b0 b1 z h (Fork l f r) c = absurd (let y = c.stands.0.entry.low in let q = c.root_is in omega arith)
 
 module _ (m : Blocks) (kind at depth : ℕ) (x : Entry) (node : Node) (p : Pair) (ne : at ≢ 0) (read : IsNodeAt m kind at node) (pair_is : p ≡ record { key = node.key; value = node.value }) where
   here : (l : Shape) (e : Entry) (r : Shape) → CanGrow m kind at depth x (Fork l e r) → node ≡ node_at l e r
@@ -122,6 +131,10 @@ module _ (m : Blocks) (kind at depth : ℕ) (x : Entry) (node : Node) (p : Pair)
         cheap_from_left b0 b1 b2 ch three one Leaf c = absurd (ne c.root_is)
         cheap_from_left b0 b1 b2 ch three one (Fork l e r) c = cheap_left m kind at depth x l e r c (less_here l e r c) m2 a (g_left l e r c) b (b_is l e r c) n s (j_left l e r c) b0 b1 b2 (ch l (rw same (child_left l e r c))) three one
 
+        pub ends_from_left : (b0 b1 b2 : Budget) → OfGrowing m1 kind node.left (depth - 1) x (λ t. GrowsAtEnd x.key t a b0 b1) → IsSpent 3 768 b1 b2 → (a.height ≤ b.height + 1 → b.height ≤ a.height + 1 → IsSpent 1 256 b1 b2) → (Fits node a b → b2 ≡ b1) → OfGrowing m kind at depth x (λ t. GrowsAtEnd x.key t s b0 b2)
+        ends_from_left b0 b1 b2 ch three one idle Leaf c = absurd (ne c.root_is)
+        ends_from_left b0 b1 b2 ch three one idle (Fork l e r) c = ends_left m kind at depth x l e r c (less_here l e r c) m2 a (g_left l e r c) b (b_is l e r c) n s (j_left l e r c) b0 b1 b2 (ch l (rw same (child_left l e r c))) three one (λ f. idle (subst (λ (z : Node). Fits z a b) (sym (here l e r c)) f))
+
   module _ (more : key_cmp x.key node.key ≡ Greater) where
     more_here : (l : Shape) (e : Entry) (r : Shape) → CanGrow m kind at depth x (Fork l e r) → key_cmp x.key e.key ≡ Greater
     more_here l e r c = sym (ap (λ (n : Node). key_cmp x.key n.key) (here l e r c)) ∙ more
@@ -167,3 +180,7 @@ module _ (m : Blocks) (kind at depth : ℕ) (x : Entry) (node : Node) (p : Pair)
         pub cheap_from_right : (b0 b1 b2 : Budget) → OfGrowing m1 kind node.right (depth - 1) x (λ t. GrowsCheaply t b b0 b1) → IsSpent 3 768 b1 b2 → (a.height ≤ b.height + 1 → b.height ≤ a.height + 1 → IsSpent 1 256 b1 b2) → OfGrowing m kind at depth x (λ t. GrowsCheaply t s b0 b2)
         cheap_from_right b0 b1 b2 ch three one Leaf c = absurd (ne c.root_is)
         cheap_from_right b0 b1 b2 ch three one (Fork l e r) c = cheap_right m kind at depth x l e r c (more_here l e r c) m2 b (g_right l e r c) a (a_is l e r c) n s (j_right l e r c) b0 b1 b2 (ch r (rw same (child_right l e r c))) three one
+
+        pub ends_from_right : (b0 b1 b2 : Budget) → OfGrowing m1 kind node.right (depth - 1) x (λ t. GrowsAtEnd x.key t b b0 b1) → IsSpent 3 768 b1 b2 → (a.height ≤ b.height + 1 → b.height ≤ a.height + 1 → IsSpent 1 256 b1 b2) → (Fits node a b → b2 ≡ b1) → OfGrowing m kind at depth x (λ t. GrowsAtEnd x.key t s b0 b2)
+        ends_from_right b0 b1 b2 ch three one idle Leaf c = absurd (ne c.root_is)
+        ends_from_right b0 b1 b2 ch three one idle (Fork l e r) c = ends_right m kind at depth x l e r c (more_here l e r c) m2 b (g_right l e r c) a (a_is l e r c) n s (j_right l e r c) b0 b1 b2 (ch r (rw same (child_right l e r c))) three one (λ f. idle (subst (λ (z : Node). Fits z a b) (sym (here l e r c)) f))

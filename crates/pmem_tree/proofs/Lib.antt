@@ -1,4 +1,5 @@
 pub mod Rejoining
+pub mod Ends
 pub mod Growing
 pub mod GrowingRight
 pub mod Inserting

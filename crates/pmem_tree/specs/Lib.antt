@@ -1,5 +1,6 @@
 pub mod Calls
 pub mod Rejoin
+pub mod Ends
 pub mod Grow
 pub mod Shrink
 pub mod Changes

@@ -4,6 +4,7 @@ ghost use Rattle.pmem_pages.specs.Blocks.{IsSpent};
 ghost use Rattle.pmem_tree_base.specs.declared.refusal.TreeNo.{TreeNo};
 ghost use Rattle.pmem_tree_base.specs.Calls.{Goes};
 ghost use Rattle.pmem_tree_base.specs.Nodes.{entry_of};
+ghost use Rattle.pmem_tree.specs.Ends.{GrowsAtEnd};
 ghost use Rattle.pmem_tree.specs.Grow.{SomeGrows, OfGrowing, Grown, GrowsCheaply};
 
 use crate::rejoin::rejoin;
@@ -36,6 +37,8 @@ pub fn insert_at<P: Pages, L: Ledger>(
         (λ t. Grown (P.blocks pages.old) fresh.now.kind t (entry_of fresh.now.at fresh.now.pair) (P.blocks pages.new) s)) }
     ensures cheap { IfOk result (λ s. IsTrue P.tells → OfGrowing (P.blocks pages.old) fresh.now.kind at depth (entry_of fresh.now.at fresh.now.pair)
         (λ t. GrowsCheaply t s (P.budget pages.old) (P.budget pages.new))) }
+    ensures ends { IfOk result (λ s. IsTrue P.tells → OfGrowing (P.blocks pages.old) fresh.now.kind at depth (entry_of fresh.now.at fresh.now.pair)
+        (λ t. GrowsAtEnd fresh.now.pair.key t s (P.budget pages.old) (P.budget pages.new))) }
     ensures refused { IsTrue P.tells → IsErrOf result TreeNo.TooMuch → ((P.budget pages.old).ranges < 3 * depth + 3) ⊎ ((P.budget pages.old).bytes < 256 * (3 * depth + 3)) }
     ensures no_block { IsErrOf result TreeNo.NoBlock → ⊥ }
     ensures steps { steps.new ≤ steps.old + 8 * depth }

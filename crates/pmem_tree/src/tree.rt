@@ -7,6 +7,7 @@ ghost use Rattle.pmem_tree_base.specs.Find.{value_of, pair_of};
 ghost use Rattle.pmem_tree.specs.Calls.{OfTree, StepsAtMost, HasTree, StagesAtMost, TooFew};
 ghost use Rattle.pmem_pages.specs.Blocks.{IsSpent};
 ghost use Rattle.pmem_tree_base.specs.declared.refusal.TreeNo.{TreeNo};
+ghost use Rattle.pmem_tree.specs.Ends.{StagesAtEnd};
 ghost use Rattle.pmem_tree.specs.Changes.{Puts, Inserts, Removes};
 
 use crate::HIGHEST;
@@ -168,6 +169,7 @@ impl Tree {
         ensures too_much { IsErrOf result TreeNo.TooMuch → OfTree P.tells (P.blocks pages.old) self.old.kind self.old.root (λ t. entry_at key.now (entries t) ≡ None → TooFew t (P.budget pages.old)) }
         ensures steps { OfTree P.tells (P.blocks pages.old) self.old.kind self.old.root (λ t. StepsAtMost 16 16 t steps.old steps.new) }
         ensures staged { OnOk result (OfTree P.tells (P.blocks pages.old) self.old.kind self.old.root (λ t. entry_at key.now (entries t) ≡ None → StagesAtMost 4 8 t (P.budget pages.old) (P.budget pages.new))) }
+        ensures few { OnOk result (OfTree P.tells (P.blocks pages.old) self.old.kind self.old.root (λ t. entry_at key.now (entries t) ≡ None → StagesAtEnd 6 key.now t (P.budget pages.old) (P.budget pages.new))) }
         ensures free { OnOk result ((P.budget pages.new).free + 1 ≡ (P.budget pages.old).free) }
         ensures goes { Goes P.stopped P.count P.burns pages.old pages.new }
         ensures stopped { IsErrOf result TreeNo.Stopped → P.stopped pages.new ≡ true }

@@ -2,7 +2,7 @@ use Rattle.std.proofs.Common.{◌∙◌, sym, subst, arith}
 use Rattle.std.proofs.lemmas.Result.{IfOk-weaker}
 use Rattle.pmem_pages.specs.Blocks.{Blocks}
 use Rattle.pmem_tree_base.specs.Nodes.{entry_of, StandsAt}
-use Rattle.pmem_tree.proofs.Inserting.{grow_node, grow_deep, grown_alone, cheap_alone, grow_missing, sub_left, sub_right, went_left, went_right, holds_left, holds_right, stays_left, stays_right, grows_from_left, grows_from_right, cheap_from_left, cheap_from_right}
+use Rattle.pmem_tree.proofs.Inserting.{grow_node, grow_deep, grown_alone, cheap_alone, ends_alone, grow_missing, sub_left, sub_right, went_left, went_right, holds_left, holds_right, stays_left, stays_right, grows_from_left, grows_from_right, cheap_from_left, cheap_from_right, ends_from_left, ends_from_right}
 use Rattle.pmem_tree.proofs.grow.+insert_at.Goals as goal
 
 pub read_at-requires : goal.read_at-requires
@@ -61,3 +61,16 @@ pub returns-in_ok-right-in-Greater-clause-cheap : goal.returns-in_ok-right-in-Gr
 returns-in_ok-right-in-Greater-clause-cheap g t c =
     let budget = c.sub_at-in-Greater.ensures.budget ∙ c.read_at.ensures.budget in
     IfOk-weaker c.rejoin-in-Greater.result _ _ (λ s h told. cheap_from_right _ c.args.fresh.now.kind c.args.at c.args.depth (entry_of c.args.fresh.now.at c.args.fresh.now.pair) c.in_ok-node.node c.pair_in-pair.result c.if-at-eq0.false (c.in_ok-node.ensures.node told) c.pair_in-pair.ensures (sym c.compare.ensures ∙ c.in-Greater.is) _ _ c.in_ok-left-in-Greater.left c.in_ok-right-in-Greater.right (c.sub_at-in-Greater.ensures.kept told ∙ c.read_at.ensures.kept told) (λ s h. c.in_ok-left-in-Greater.ensures.sub told s (subst (λ (z : Blocks). StandsAt z c.args.fresh.now.kind c.in_ok-node.node.left s) (sym (c.read_at.ensures.kept told)) h)) (c.in_ok-right-in-Greater.ensures.grown told) _ s (h told) _ _ _ (rw budget at (c.in_ok-right-in-Greater.ensures.cheap told)) c.rejoin-in-Greater.ensures.spent c.rejoin-in-Greater.ensures.plain) c.rejoin-in-Greater.ensures.joins
+
+pub returns-then-at-eq0-clause-ends : goal.returns-then-at-eq0-clause-ends
+returns-then-at-eq0-clause-ends g t c told = ends_alone _ c.args.fresh.now.kind c.args.at c.args.depth (entry_of c.args.fresh.now.at c.args.fresh.now.pair) _ _ _ c.if-at-eq0.true c.stage_fork.ensures.spent
+
+pub returns-in_ok-right-in-Greater-clause-ends : goal.returns-in_ok-right-in-Greater-clause-ends
+returns-in_ok-right-in-Greater-clause-ends g t c =
+    let budget = c.sub_at-in-Greater.ensures.budget ∙ c.read_at.ensures.budget in
+    IfOk-weaker c.rejoin-in-Greater.result _ _ (λ s h told. ends_from_right _ c.args.fresh.now.kind c.args.at c.args.depth (entry_of c.args.fresh.now.at c.args.fresh.now.pair) c.in_ok-node.node c.pair_in-pair.result c.if-at-eq0.false (c.in_ok-node.ensures.node told) c.pair_in-pair.ensures (sym c.compare.ensures ∙ c.in-Greater.is) _ _ c.in_ok-left-in-Greater.left c.in_ok-right-in-Greater.right (c.sub_at-in-Greater.ensures.kept told ∙ c.read_at.ensures.kept told) (λ s h. c.in_ok-left-in-Greater.ensures.sub told s (subst (λ (z : Blocks). StandsAt z c.args.fresh.now.kind c.in_ok-node.node.left s) (sym (c.read_at.ensures.kept told)) h)) (c.in_ok-right-in-Greater.ensures.grown told) _ s (h told) _ _ _ (rw budget at (c.in_ok-right-in-Greater.ensures.ends told)) c.rejoin-in-Greater.ensures.spent c.rejoin-in-Greater.ensures.plain (λ f. (c.rejoin-in-Greater.ensures.idle f).1)) c.rejoin-in-Greater.ensures.joins
+
+pub returns-in_ok-left-in-Less-clause-ends : goal.returns-in_ok-left-in-Less-clause-ends
+returns-in_ok-left-in-Less-clause-ends g t c =
+    let budget = c.sub_at.ensures.budget ∙ c.read_at.ensures.budget in
+    IfOk-weaker c.rejoin.result _ _ (λ s h told. ends_from_left _ c.args.fresh.now.kind c.args.at c.args.depth (entry_of c.args.fresh.now.at c.args.fresh.now.pair) c.in_ok-node.node c.pair_in-pair.result c.if-at-eq0.false (c.in_ok-node.ensures.node told) c.pair_in-pair.ensures (sym c.compare.ensures ∙ c.in-Less.is) _ _ c.in_ok-left-in-Less.left c.in_ok-right-in-Less.right (c.sub_at.ensures.kept told ∙ c.read_at.ensures.kept told) (λ s h. c.in_ok-right-in-Less.ensures.sub told s (subst (λ (z : Blocks). StandsAt z c.args.fresh.now.kind c.in_ok-node.node.right s) (sym (c.read_at.ensures.kept told)) h)) (c.in_ok-left-in-Less.ensures.grown told) _ s (h told) _ _ _ (rw budget at (c.in_ok-left-in-Less.ensures.ends told)) c.rejoin.ensures.spent c.rejoin.ensures.plain (λ f. (c.rejoin.ensures.idle f).1)) c.rejoin.ensures.joins

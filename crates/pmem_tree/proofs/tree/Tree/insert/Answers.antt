@@ -3,7 +3,7 @@ use Rattle.pmem_pages.specs.Blocks.{Blocks}
 use Rattle.pmem_tree_base.specs.Nodes.{entry_of}
 use Rattle.pmem_tree.specs.Grow.{CanGrow, Grown}
 use Rattle.pmem_tree.proofs.Found.{steps_16}
-use Rattle.pmem_tree.proofs.Inserted.{whole_stands, can_grow, inserts, stages_few, too_few}
+use Rattle.pmem_tree.proofs.Inserted.{whole_stands, can_grow, inserts, stages_few, stages_end, too_few}
 use Rattle.pmem_tree.proofs.tree.Tree.insert.Goals as goal
 
 pub sub_at-requires : goal.sub_at-requires
@@ -42,3 +42,7 @@ pub returns-clause-inserted : goal.returns-clause-inserted
 returns-clause-inserted g c told t w none =
     let grown = subst (λ (z : Blocks). Grown z c.args.self.now.kind t (entry_of c.in_ok-at.at (record { key = c.args.key.now; value = c.args.value.now })) (g.P.Pages.blocks c.insert_at.new.pages) c.in_ok-grown.grown) (c.sub_at.ensures.kept told) (c.in_ok-grown.ensures.grown told t (subst (λ (z : Blocks). CanGrow z c.args.self.now.kind c.args.self.now.root c.in_ok-whole.whole.height (entry_of c.in_ok-at.at (record { key = c.args.key.now; value = c.args.value.now })) t) (sym (c.sub_at.ensures.kept told)) (can_grow _ _ c.args.self.now.kind c.args.self.now.root c.in_ok-at.at c.in_ok-whole.whole.height (record { key = c.args.key.now; value = c.args.value.now }) _ c.requires.key c.requires.value (c.in_ok-at.ensures.was_free told) (c.in_ok-at.ensures.taken told).1 c.in_ok-at.ensures.first (search rules) t w (c.in_ok-whole.ensures.sub told t (whole_stands _ _ c.args.self.now.kind c.args.self.now.root c.in_ok-at.at 0 (record { key = c.args.key.now; value = c.args.value.now }) _ c.requires.key c.requires.value (c.in_ok-at.ensures.was_free told) (c.in_ok-at.ensures.taken told).1 c.in_ok-at.ensures.first (search rules) t w)).height_is none))) in
     inserts _ _ c.args.self.now.kind c.args.self.now.root c.in_ok-at.at c.in_ok-whole.whole.height (record { key = c.args.key.now; value = c.args.value.now }) _ c.requires.key c.requires.value (c.in_ok-at.ensures.was_free told) (c.in_ok-at.ensures.taken told).1 c.in_ok-at.ensures.first (search rules) t w none _ c.in_ok-grown.grown grown
+
+pub returns-clause-few : goal.returns-clause-few
+returns-clause-few g c told t w none =
+    stages_end _ t c.in_ok-grown.grown _ _ _ c.take_block.ensures.spent (rw c.sub_at.ensures.budget at (c.in_ok-grown.ensures.ends told t (subst (λ (z : Blocks). CanGrow z c.args.self.now.kind c.args.self.now.root c.in_ok-whole.whole.height (entry_of c.in_ok-at.at (record { key = c.args.key.now; value = c.args.value.now })) t) (sym (c.sub_at.ensures.kept told)) (can_grow _ _ c.args.self.now.kind c.args.self.now.root c.in_ok-at.at c.in_ok-whole.whole.height (record { key = c.args.key.now; value = c.args.value.now }) _ c.requires.key c.requires.value (c.in_ok-at.ensures.was_free told) (c.in_ok-at.ensures.taken told).1 c.in_ok-at.ensures.first (search rules) t w (c.in_ok-whole.ensures.sub told t (whole_stands _ _ c.args.self.now.kind c.args.self.now.root c.in_ok-at.at 0 (record { key = c.args.key.now; value = c.args.value.now }) _ c.requires.key c.requires.value (c.in_ok-at.ensures.was_free told) (c.in_ok-at.ensures.taken told).1 c.in_ok-at.ensures.first (search rules) t w)).height_is none))))
