@@ -1,5 +1,5 @@
 -- The entry of a moment becomes done, or goes.
-use Rattle.std.proofs.Common.{◌≡◌, ℕ, Bool, true, false, Some, None, List, refl, sym, ap, ◌∙◌, subst}
+use Rattle.std.proofs.Common.{◌≡◌, ℕ, Bool, true, false, Some, None, refl, sym, ap, ◌∙◌, subst}
 use Rattle.std.specs.List.{find, list_any}
 use Rattle.std.specs.Option.{option_map}
 use Rattle.pmem_pages.specs.Blocks.{Blocks}
@@ -20,7 +20,6 @@ use Rattle.vos_levels.proofs.Changing.{hung_less, hung_other, none_changes, none
 use Rattle.vos_levels.proofs.Settling.{Says, becomes_shown, kept_freed, list_freed, list_gone, list_kept, list_same, none_freed, says, says_none, spot_at}
 use Rattle.vos_levels.proofs.Spots.{Spot}
 use Rattle.vos_levels.proofs.Testing.{fewer_none, spot_none}
-use Rattle.vos_ilog.specs.declared.ilog.LogEntry.{LogEntry}
 use Rattle.vos_ilog.specs.Logs.{IsChangedAt, IsDoneAt, IsGoneAt, Log, SaysAt, done_entry, freed_at, is_at, is_taken, log_level, log_owner, mark_of, one_block, value_of_entry}
 use Rattle.vos_ilog.proofs.Adding.{tells_at}
 

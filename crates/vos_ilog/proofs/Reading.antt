@@ -1,5 +1,6 @@
 -- What is found in a log.
-use Rattle.std.proofs.Common.{◌≡◌, ℕ, ◌+◌, ◌<◌, ◌≤◌, ◌^◌, ◌==◌, true, false, Some, None, length, refl, sym, ap, ◌∙◌, subst, arith}
+use Rattle.std.proofs.Common.{◌≡◌, ℕ, ◌+◌, ◌*◌, ◌<◌, ◌≤◌, ◌^◌, ◌==◌, true, false, Some, None, length, refl, sym, ap, ◌∙◌, subst, arith}
+use Rattle.std.proofs.Math.Nat.{mul-le-mul_right}
 use Rattle.std.specs.List.{find}
 use Rattle.std.specs.Option.{option_and_then, option_map}
 use Rattle.pmem_pages.specs.Blocks.{Blocks}
@@ -93,3 +94,7 @@ walks_over m start at passed g h w over =
     let few = few_things log_level m g h in
     let none = none_counts (is_under at) (things g) (omega (arith, w.room, few, over)) in
     sym (none_wanted_there (λ x. x.punch) (is_under at) (things g) none) ∙ w.same
+
+-- what the look-ups read so far, and one more
+pub walks_steps : (m : Blocks) (start at : Moment) (passed : ℕ) (g : Log) (d s0 s1 s2 : ℕ) → Walks m start at passed g → s1 ≤ s0 + passed * (2 * d) → s2 ≤ s1 + (2 * d + 0) → s2 ≤ s0 + (length (things g) + 1) * (2 * d)
+walks_steps m start at passed g d s0 s1 s2 w so_far more = let a : passed * (2 * d) ≤ length (things g) * (2 * d) = mul-le-mul_right (2 * d) (omega (arith, w.room)) in omega (arith, a, so_far, more)

@@ -1,10 +1,11 @@
 -- A log: creations and punches, in the order of their moments.
-use Rattle.std.specs.Prelude.{◌≡◌, ◌&&◌, ℕ, Bool, true, List, Option, Some, None}
+use Rattle.std.specs.Prelude.{◌≡◌, ◌≤◌, ◌<◌, ◌+◌, ◌*◌, ◌^◌, ◌&&◌, length, ℕ, Bool, true, List, Option, Some, None}
 use Rattle.base_types.specs.declared.epoch.Epoch.{Epoch}
 use Rattle.pmem_pages.specs.declared.node.Pair.{Pair}
 use Rattle.std.specs.List.{find, list_any}
 use Rattle.std.specs.Option.{option_map}
 use Rattle.pmem_pages.specs.Owners.{Owner}
+use Rattle.pmem_pages.specs.Shape.{entries}
 use Rattle.pmem_pages.specs.declared.node.TreeKey.{TreeKey}
 use Rattle.pmem_pages.specs.declared.node.Value.{Value}
 use Rattle.vos_values.specs.declared.keys.Moment.{Moment}
@@ -13,7 +14,7 @@ use Rattle.vos_values.specs.Keys.{IsAttempt, IsMoment, moment_in, moment_key}
 use Rattle.vos_values.specs.Values.{log_in, log_value}
 use Rattle.vos_levels.specs.declared.change.Change.{Change}
 use Rattle.vos_levels.specs.Changes.{changed_by, freed_by, keeps, takes}
-use Rattle.vos_levels.specs.Levels.{Hung, Level, hung, in_none, map_those, without_those}
+use Rattle.vos_levels.specs.Levels.{Hung, Level, hung, in_none, map_those, things, without_those}
 use Rattle.vos_levels.specs.Moments.{is_earlier, same_moment}
 use Rattle.vos_ilog.specs.declared.ilog.LogEntry.{LogEntry}
 
@@ -42,6 +43,10 @@ Log = Hung LogEntry
 
 abbrev pub log_owner : Owner Log
 log_owner = hung log_level
+
+-- for each entry of a log, and once more, a look-up in its tree
+abbrev pub StepsDown : Log → ℕ → ℕ → Type 0
+StepsDown g before now = (d : ℕ) → length (entries g.0) < 2 ^ d → now ≤ before + (length (things g) + 1) * (2 * d)
 
 -- an entry of a moment, and one before it
 abbrev pub is_at : Moment → LogEntry → Bool

@@ -12,7 +12,7 @@ ghost use Rattle.vos_values.specs.Values.{log_in};
 ghost use Rattle.vos_levels.specs.Calls.{Becomes, HasThing, OfThing};
 ghost use Rattle.vos_levels.specs.Changes.{keeps};
 ghost use Rattle.vos_levels.specs.Levels.{HasMore, find_last, hung_root, things};
-ghost use Rattle.vos_ilog.specs.Logs.{IsChangedAt, IsDoneAt, IsGoneAt, IsLogEntry, Log as LogOf, SaysAt, entry_in_pair, freed_at, has_entry_at, is_at, is_punch_below, is_under, mark_of, start_of, key_of_entry, log_owner, moment_of, value_of_entry};
+ghost use Rattle.vos_ilog.specs.Logs.{IsChangedAt, IsDoneAt, IsGoneAt, IsLogEntry, Log as LogOf, SaysAt, StepsDown, entry_in_pair, freed_at, has_entry_at, is_at, is_punch_below, is_under, mark_of, start_of, key_of_entry, log_owner, moment_of, value_of_entry};
 
 use base_types::epoch::Epoch;
 use base_types::id::AttemptId;
@@ -197,6 +197,7 @@ impl Ilog {
         requires kind { self.now.tree.kind ≡ 4 }
         requires log { HasThing P.tells log_owner hung_root (P.blocks pages.old) self.now.tree.root (λ g. ⊤) }
         ensures found { IfOk result (λ v. OfThing P.tells log_owner hung_root (P.blocks pages.old) self.now.tree.root (λ g. v ≡ find_last (is_punch_below (start_of below)) (things g))) }
+        ensures steps { OfThing P.tells log_owner hung_root (P.blocks pages.old) self.now.tree.root (λ g. StepsDown g steps.old steps.new) }
         ensures kept { IsTrue P.tells → P.blocks pages.new ≡ P.blocks pages.old }
         ensures budget { P.budget pages.new ≡ P.budget pages.old }
         ensures goes { Goes P.stopped P.count P.burns pages.old pages.new }

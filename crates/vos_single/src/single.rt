@@ -74,7 +74,8 @@ fn start_of(epoch: Epoch) -> Moment
 
 // What a key and a value say, if they say something.
 fn placed_of(pair: &Pair) -> Option<Placed>
-    ensures { result ≡ placed_in_pair pair.now }
+    ensures placed { result ≡ placed_in_pair pair.now }
+    ensures short { IfSome result (λ p. p.mark.length ≤ 1024) }
 {
     let moment = read_moment(&pair.key)?;
     let mark = read_version(&pair.value)?;
@@ -83,7 +84,8 @@ fn placed_of(pair: &Pair) -> Option<Placed>
 
 // What a pair says, if there is one and it says something.
 fn placed_in(pair: Option<Pair>) -> Option<Placed>
-    ensures { result ≡ option_and_then placed_in_pair pair }
+    ensures placed { result ≡ option_and_then placed_in_pair pair }
+    ensures short { IfSome result (λ p. p.mark.length ≤ 1024) }
 {
     match pair {
         Some(pair) => placed_of(&pair),
@@ -103,6 +105,7 @@ impl Single {
         requires at { at.minor < 64 }
         requires here { HasThing P.tells single_owner hung_root (P.blocks pages.old) self.now.tree.root (λ g. ⊤) }
         ensures found { IfOk result (λ v. OfThing P.tells single_owner hung_root (P.blocks pages.old) self.now.tree.root (λ g. v ≡ option_map placed_of (find_last (is_under at) (things g)))) }
+        ensures short { IfOk result (λ v. IfSome v (λ p. p.mark.length ≤ 1024)) }
         ensures steps { OfThing P.tells single_owner hung_root (P.blocks pages.old) self.now.tree.root (λ g. StepsAtMost 2 0 g.0 steps.old steps.new) }
         ensures kept { IsTrue P.tells → P.blocks pages.new ≡ P.blocks pages.old }
         ensures budget { P.budget pages.new ≡ P.budget pages.old }
@@ -129,6 +132,7 @@ impl Single {
         requires kind { self.now.tree.kind ≡ 5 }
         requires here { HasThing P.tells single_owner hung_root (P.blocks pages.old) self.now.tree.root (λ g. ⊤) }
         ensures found { IfOk result (λ v. OfThing P.tells single_owner hung_root (P.blocks pages.old) self.now.tree.root (λ g. v ≡ option_map version_of (find_last (is_under (start_of below)) (things g)))) }
+        ensures steps { OfThing P.tells single_owner hung_root (P.blocks pages.old) self.now.tree.root (λ g. StepsAtMost 2 5 g.0 steps.old steps.new) }
         ensures kept { IsTrue P.tells → P.blocks pages.new ≡ P.blocks pages.old }
         ensures budget { P.budget pages.new ≡ P.budget pages.old }
         ensures goes { Goes P.stopped P.count P.burns pages.old pages.new }

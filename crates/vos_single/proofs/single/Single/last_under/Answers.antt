@@ -19,6 +19,6 @@ returns-clause-steps g c told x held at =
 
 pub returns-clause-found : goal.returns-clause-found
 returns-clause-found g c told x held at =
-    c.placed_in.ensures
+    c.placed_in.ensures.placed
     ∙ (ap (option_and_then placed_in_pair) (c.in_ok-last_below.ensures.found told x.0 (single_tree (g.P.Pages.blocks c.args.pages.now) c.args.self.now.tree.kind c.args.self.now.tree.root x c.requires.kind held at))
     ∙ placed_found (g.P.Pages.blocks c.args.pages.now) x c.args.at c.key_at-key.result held c.key_at-key.ensures.moment c.key_at-key.ensures.key)

@@ -32,3 +32,9 @@ returns-clause-found g c told x held at =
     let chain = subst (λ b. IsChainAt b c.in-Some.placed.mark.chain c.in-Some.placed.mark.length (chain_of f.stored)) (sym (c.last_under.ensures.kept told)) f.chain in
     let bytes = c.in_ok-bytes.ensures.bytes told (chain_of f.stored) chain in
     version_found m x c.start_of-at.result c.in-Some.placed c.in_ok-bytes.bytes f bytes ∙ ap (λ k. option_map version_of (find_last (is_under k) (things x))) c.start_of-at.ensures
+
+pub returns-in_err-placed-clause-steps : goal.returns-in_err-placed-clause-steps
+returns-in_err-placed-clause-steps g c told x held at d few = let h = c.last_under.ensures.steps told x held at d few in omega arith
+
+pub returns-in_default-clause-steps : goal.returns-in_default-clause-steps
+returns-in_default-clause-steps g c told x held at d few = let h = c.last_under.ensures.steps told x held at d few in omega arith
