@@ -19,10 +19,10 @@ use Rattle.run_opening.specs.Steps.{AllCommitted, all_ended, all_forgotten, ende
 -- ---- which parts change
 
 -- what a step makes of versions and of entries
-abbrev versions_at : (AttemptId → Bool) → Entry → List Version → List Version
+abbrev pub versions_at : (AttemptId → Bool) → Entry → List Version → List Version
 versions_at r e vs = if e.committed then vs else if r e.attempt then map (done_by e.attempt) vs else filter (is_not_pending e.attempt) vs
 
-abbrev entries_at : (AttemptId → Bool) → Entry → List Entry → List Entry
+abbrev pub entries_at : (AttemptId → Bool) → Entry → List Entry → List Entry
 entries_at r e es = if e.committed then es else if r e.attempt then map (committed_at e.attempt) es else filter (is_other e.attempt) es
 
 abbrev versions_ended : (AttemptId → Bool) → List Entry → List Version → List Version
@@ -33,7 +33,7 @@ abbrev entries_ended : (AttemptId → Bool) → List Entry → List Entry → Li
 entries_ended r [] zs = zs
 entries_ended r (e ∷ es) zs = entries_ended r es (entries_at r e zs)
 
-part-ended : (r : AttemptId → Bool) (e : Entry) (d : Durable) → ended_at r e d ≡ record d { versions = versions_at r e d.versions; entries = entries_at r e d.entries }
+pub part-ended : (r : AttemptId → Bool) (e : Entry) (d : Durable) → ended_at r e d ≡ record d { versions = versions_at r e d.versions; entries = entries_at r e d.entries }
 unfolding settled
 part-ended r e d = by e.committed (r e.attempt)
   where

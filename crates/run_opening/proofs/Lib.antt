@@ -7,3 +7,8 @@ pub mod Direct
 pub mod Made
 pub mod Walks
 pub mod Whole
+pub mod Leaving
+pub mod Settling
+pub mod Cutting
+pub mod Dropping
+pub mod Finding

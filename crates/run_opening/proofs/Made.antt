@@ -36,15 +36,15 @@ part-thawed : (x : Snap) (d : Durable) → thawed x.cont x.epoch d ≡ record d 
 unfolding thawed
 part-thawed x d = refl
 
-parts-thawed : (xs : List Snap) (d : Durable) → all_thawed xs d ≡ record d { snaps = snaps_thawed xs d.snaps }
+pub parts-thawed : (xs : List Snap) (d : Durable) → all_thawed xs d ≡ record d { snaps = snaps_thawed xs d.snaps }
 parts-thawed [] d = refl
 parts-thawed (x ∷ xs) d = ap (all_thawed xs) (part-thawed x d) ∙ parts-thawed xs (record d { snaps = filter (is_other_snap x.cont x.epoch) d.snaps })
 
 -- a snapshot has the name of none of some
-abbrev spared : List Snap → Snap → Bool
+abbrev pub spared : List Snap → Snap → Bool
 spared xs y = not (list_any (λ x. is_snap_at x.cont x.epoch y) xs)
 
-thawed-spared : (xs zs : List Snap) → snaps_thawed xs zs ≡ filter (spared xs) zs
+pub thawed-spared : (xs zs : List Snap) → snaps_thawed xs zs ≡ filter (spared xs) zs
 thawed-spared [] zs = sym (all zs)
   where
     all : (zs : List Snap) → filter (spared []) zs ≡ zs

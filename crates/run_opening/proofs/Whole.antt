@@ -61,7 +61,7 @@ all-bare (es ∷ all) (d ∷ F) many own =
     ap (λ zs. bare zs ∷ map bare all) (own 0 es d refl refl)
     ∙ ap (λ ys. bare d.entries ∷ ys) (all-bare all F (omega (arith, many)) (λ t fs e at bt. own (suc t) fs e at bt))
 
-all-resolved : (all : List (List Entry)) (F : List Durable) → length all ≡ length F → ((t : ℕ) (es : List Entry) (d : Durable) → slice_get all t ≡ Some es → slice_get F t ≡ Some d → es ≡ d.entries) → resolved_by all ≡ resolved F
+pub all-resolved : (all : List (List Entry)) (F : List Durable) → length all ≡ length F → ((t : ℕ) (es : List Entry) (d : Durable) → slice_get all t ≡ Some es → slice_get F t ≡ Some d → es ≡ d.entries) → resolved_by all ≡ resolved F
 all-resolved all F many own = λ i x. (ap (λ G. resolved G x) (all-bare all F many own) ∙ resolved-alike (λ d. bare d.entries) (λ d. refl) F x) i
 
 -- the snapshots that last are those that the first target holds as created
@@ -170,13 +170,17 @@ module _ {S : Type 0} (durable : S → Option Durable) (state : S → State) whe
         goes = all-wanting durable state {U = U} (only 0 (dropped s)) (λ t d. left_with [] (only 0 (dropped s) t d)) x why old mid is first-all;
       }
 
+      -- these are the snapshots that it holds as created
+      pub first-held : (xs : List Snap) (z : S) → ((d : Durable) → durable (slice_index_or mid 0 z) ≡ Some d → xs ≡ filter is_created d.snaps) → AreCreated durable (dropped s) old 0 xs
+      first-held xs z held y d at told =
+          held (dropped s d) ((first-all.each 0 y (slice_index_or mid 0 z) at (first-there z)).made ∙ ap (option_map (only 0 (dropped s) 0)) told ∙ ap (λ w. Some w) (sym (only-here 0 (dropped s) d)))
+
       -- all targets drop what it doesn't hold, unless this says otherwise
       pub drops-all : {U : Type 0} (result : Result U OpeningStop) (xs : List Snap) (new : List S) (z : S) → ((d : Durable) → durable (slice_index_or mid 0 z) ≡ Some d → xs ≡ filter is_created d.snaps) → GoesAll durable state (alike (left_with xs)) result mid new
           → DropsAll durable state s result old new
       drops-all result xs new z held g = record {
         created = xs;
-        holds = on-any result (λ y d at told. held (dropped s d)
-            ((first-all.each 0 y (slice_index_or mid 0 z) at (first-there z)).made ∙ ap (option_map (only 0 (dropped s) 0)) told ∙ ap (λ w. Some w) (sym (only-here 0 (dropped s) d))));
+        holds = on-any result (first-held xs z held);
         goes = all-on durable state (only 0 (dropped s)) (alike (left_with xs)) x result old mid new first-all g;
       }
 

@@ -43,6 +43,11 @@ pub record AreKept {S : Type 0} (durable : S → Option Durable) (stores : List 
   pub many : length F ≡ length stores
   pub each : (t : ℕ) (x : S) (d : Durable) → slice_get stores t ≡ Some x → slice_get F t ≡ Some d → durable x ≡ Some d
 
+-- the next openings of the stores of the targets, in the order of their numbers, may find this
+pub record MayBeFound {S : Type 0} (may : S → Durable → Type 0) (stores : List S) (F : List Durable) : Type 0 where
+  pub many : length F ≡ length stores
+  pub each : (t : ℕ) (x : S) (d : Durable) → slice_get stores t ≡ Some x → slice_get F t ≡ Some d → may x d
+
 -- these are the entries that one target keeps
 abbrev pub IsOwn : {S : Type 0} → (S → Option Durable) → List S → ℕ → List Entry → Type 0
 IsOwn {S} durable stores t es = (x : S) (d : Durable) → slice_get stores t ≡ Some x → durable x ≡ Some d → es ≡ d.entries

@@ -6,6 +6,7 @@ ghost use Rattle.daos_model.specs.Changes.{settled};
 ghost use Rattle.daos_model.specs.Durables.{entry_of};
 ghost use Rattle.vos_store.specs.Refusals.{always_stop};
 ghost use Rattle.target_parts.specs.Halts.{halt_stop};
+ghost use Rattle.run_opening.specs.Left.{Leaves, first_ended, first_forgotten, nothing, or_not};
 ghost use Rattle.run_opening.specs.Steps.{AllCommitted, Goes, ended, ended_at, forgotten, resolved_by, same};
 
 use crate::resolving::{ending, is_resolved};
@@ -19,7 +20,8 @@ fn settle_entry<S: Store>(store: &mut S, all: &[Entries], entry: &Entry) -> Resu
     requires few { length all.now ≤ 64 }
     requires running { (S.state store.old).stopped ≡ false }
     requires here { ForSome (S.durable store.old) (λ d. entry_of d entry.now.attempt ≡ Some entry.now) }
-    ensures { Goes always_stop (ended_at (resolved_by all.now) entry.now) result (S.state store.old) (S.state store.new) (S.durable store.old) (S.durable store.new) }
+    ensures goes { Goes always_stop (ended_at (resolved_by all.now) entry.now) result (S.state store.old) (S.state store.new) (S.durable store.old) (S.durable store.new) }
+    ensures left { Leaves S.durable S.may (or_not (ended_at (resolved_by all.now) entry.now)) store.old store.new }
 {
     if entry.committed {
         return Ok(());
@@ -42,7 +44,8 @@ pub fn settle_all<S: Store>(
     requires few { length all.now ≤ 64 }
     requires running { (S.state store.old).stopped ≡ false }
     requires own { ForSome (S.durable store.old) (λ d. entries.now ≡ d.entries) }
-    ensures { Goes always_stop (ended (resolved_by all.now)) result (S.state store.old) (S.state store.new) (S.durable store.old) (S.durable store.new) }
+    ensures goes { Goes always_stop (ended (resolved_by all.now)) result (S.state store.old) (S.state store.new) (S.durable store.old) (S.durable store.new) }
+    ensures left { Leaves S.durable S.may (first_ended (resolved_by all.now)) store.old store.new }
 {
     for entry in entries {
         settle_entry(store, all, entry)?;
@@ -55,7 +58,8 @@ fn forget_entry<S: Store>(store: &mut S, entry: &Entry) -> Result<(), Stopped>
     requires running { (S.state store.old).stopped ≡ false }
     requires here { ForSome (S.durable store.old) (λ d. entry_of d entry.now.attempt ≡ Some entry.now) }
     requires committed { ForSome (S.durable store.old) (λ _. entry.now.committed ≡ true) }
-    ensures { Goes always_stop (settled entry.now.attempt settle.Forget) result (S.state store.old) (S.state store.new) (S.durable store.old) (S.durable store.new) }
+    ensures goes { Goes always_stop (settled entry.now.attempt settle.Forget) result (S.state store.old) (S.state store.new) (S.durable store.old) (S.durable store.new) }
+    ensures left { Leaves S.durable S.may (or_not (settled entry.now.attempt settle.Forget)) store.old store.new }
 {
     store.settle(entry.attempt, Settle::Forget)
 }
@@ -65,7 +69,8 @@ fn forget<S: Store>(store: &mut S, entries: &[Entry]) -> Result<(), Stopped>
     requires running { (S.state store.old).stopped ≡ false }
     requires own { ForSome (S.durable store.old) (λ d. entries.now ≡ d.entries) }
     requires committed { ForSome (S.durable store.old) AllCommitted }
-    ensures { Goes always_stop forgotten result (S.state store.old) (S.state store.new) (S.durable store.old) (S.durable store.new) }
+    ensures goes { Goes always_stop forgotten result (S.state store.old) (S.state store.new) (S.durable store.old) (S.durable store.new) }
+    ensures left { Leaves S.durable S.may first_forgotten store.old store.new }
 {
     for entry in entries {
         forget_entry(store, entry)?;
@@ -82,6 +87,7 @@ pub fn entries_at<S: Store>(store: &mut S) -> Result<Entries, Halt>
     requires running { (S.state store.old).stopped ≡ false }
     ensures goes { Goes halt_stop same result (S.state store.old) (S.state store.new) (S.durable store.old) (S.durable store.new) }
     ensures own { IfOk result (λ entries. ForSome (S.durable store.old) (λ d. entries ≡ d.entries)) }
+    ensures left { Leaves S.durable S.may nothing store.old store.new }
 {
     match store.entries() {
         Ok(entries) => Ok(entries),
@@ -97,7 +103,8 @@ pub fn entries_at<S: Store>(store: &mut S) -> Result<Entries, Halt>
 pub fn forget_all<S: Store>(store: &mut S) -> Result<(), Halt>
     requires running { (S.state store.old).stopped ≡ false }
     requires committed { ForSome (S.durable store.old) AllCommitted }
-    ensures { Goes halt_stop forgotten result (S.state store.old) (S.state store.new) (S.durable store.old) (S.durable store.new) }
+    ensures goes { Goes halt_stop forgotten result (S.state store.old) (S.state store.new) (S.durable store.old) (S.durable store.new) }
+    ensures left { Leaves S.durable S.may first_forgotten store.old store.new }
 {
     let entries = entries_at(store)?;
     match forget(store, entries.as_slice()) {

@@ -3,6 +3,7 @@ ghost use Rattle.std.specs.Prelude.{◌≡◌, ◌≤◌, ◌<◌, List, length,
 ghost use Rattle.base_types.specs.declared.entry.Entry.{Entry};
 ghost use Rattle.daos_model.specs.declared.durable.Durable.{Durable};
 ghost use Rattle.run_opening.specs.All.{AllRun, GoesAt, IsCommitted, IsOwn};
+ghost use Rattle.run_opening.specs.Left.{LeavesAt, first_dropped, first_ended, first_forgotten, first_left_with, nothing};
 ghost use Rattle.run_opening.specs.Steps.{dropped, ended, forgotten, left_with, resolved_by, same};
 
 use crate::attempts::{entries_at, forget_all, settle_all};
@@ -25,6 +26,7 @@ pub fn read_at<S: Store>(stores: &mut [S], t: usize) -> Result<Entries, OpeningS
     requires running { AllRun S.state stores.old }
     ensures goes { GoesAt S.durable S.state t same result stores.old stores.new }
     ensures own { IfOk result (IsOwn S.durable stores.old t) }
+    ensures left { LeavesAt S.durable S.may t nothing stores.old stores.new }
 {
     match entries_at(&mut stores[t]) {
         Ok(entries) => Ok(entries),
@@ -43,7 +45,8 @@ pub fn settle_at<S: Store>(stores: &mut [S], all: &[Entries], t: usize) -> Resul
     requires running { AllRun S.state stores.old }
     requires many { length all.now ≡ length stores.old }
     requires entries { (es : List Entry) → slice_get all.now t ≡ Some es → IsOwn S.durable stores.old t es }
-    ensures { GoesAt S.durable S.state t (ended (resolved_by all.now)) result stores.old stores.new }
+    ensures goes { GoesAt S.durable S.state t (ended (resolved_by all.now)) result stores.old stores.new }
+    ensures left { LeavesAt S.durable S.may t (first_ended (resolved_by all.now)) stores.old stores.new }
 {
     match settle_all(&mut stores[t], all, all[t].as_slice()) {
         Ok(()) => Ok(()),
@@ -61,7 +64,8 @@ pub fn forget_at<S: Store>(stores: &mut [S], t: usize) -> Result<(), OpeningStop
     requires within { t < length stores.old }
     requires running { AllRun S.state stores.old }
     requires committed { IsCommitted S.durable stores.old t }
-    ensures { GoesAt S.durable S.state t forgotten result stores.old stores.new }
+    ensures goes { GoesAt S.durable S.state t forgotten result stores.old stores.new }
+    ensures left { LeavesAt S.durable S.may t first_forgotten stores.old stores.new }
 {
     match forget_all(&mut stores[t]) {
         Ok(()) => Ok(()),
@@ -81,7 +85,8 @@ pub fn drop_at_first<S: Store>(
 ) -> Result<(), OpeningStop>
     requires some { 0 < length stores.old }
     requires running { AllRun S.state stores.old }
-    ensures { GoesAt S.durable S.state 0 (dropped script.now) result stores.old stores.new }
+    ensures goes { GoesAt S.durable S.state 0 (dropped script.now) result stores.old stores.new }
+    ensures left { LeavesAt S.durable S.may 0 (first_dropped script.now) stores.old stores.new }
 {
     match drop_snaps(alloc, script, &mut stores[0]) {
         Ok(()) => Ok(()),
@@ -103,7 +108,8 @@ pub fn thaw_at<S: Store>(
     requires few { length stores.old ≤ 64 }
     requires within { t < length stores.old }
     requires running { AllRun S.state stores.old }
-    ensures { GoesAt S.durable S.state t (left_with some.now) result stores.old stores.new }
+    ensures goes { GoesAt S.durable S.state t (left_with some.now) result stores.old stores.new }
+    ensures left { LeavesAt S.durable S.may t (first_left_with some.now) stores.old stores.new }
 {
     match thaw_others(alloc, some, &mut stores[t]) {
         Ok(()) => Ok(()),

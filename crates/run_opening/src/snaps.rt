@@ -9,6 +9,7 @@ ghost use Rattle.daos_model.specs.Family.{is_created};
 ghost use Rattle.daos_model.specs.Opening.{drops_by};
 ghost use Rattle.vos_store.specs.Refusals.{always_stop};
 ghost use Rattle.target_parts.specs.Halts.{halt_stop};
+ghost use Rattle.run_opening.specs.Left.{Leaves, first_dropped, first_left_with, first_thawed, or_not};
 ghost use Rattle.run_opening.specs.Opened.{is_at_one_of, keeps, named};
 ghost use Rattle.run_opening.specs.Steps.{AreFrozen, Goes, all_thawed, dropped, is_dropped, is_other_than, left_with};
 
@@ -106,7 +107,8 @@ fn created_of(alloc: Global, snaps: &[Snap]) -> Result<Vec<Snap>, Memory>
 fn thaw_one<S: Store>(store: &mut S, snap: &Snap) -> Result<(), Stopped>
     requires running { (S.state store.old).stopped ≡ false }
     requires frozen { ForSome (S.durable store.old) (λ d. is_frozen d snap.now.cont snap.now.epoch ≡ true) }
-    ensures { Goes always_stop (thawed snap.now.cont snap.now.epoch) result (S.state store.old) (S.state store.new) (S.durable store.old) (S.durable store.new) }
+    ensures goes { Goes always_stop (thawed snap.now.cont snap.now.epoch) result (S.state store.old) (S.state store.new) (S.durable store.old) (S.durable store.new) }
+    ensures left { Leaves S.durable S.may (or_not (thawed snap.now.cont snap.now.epoch)) store.old store.new }
 {
     store.thaw(snap.cont, snap.epoch)
 }
@@ -115,7 +117,8 @@ fn thaw_one<S: Store>(store: &mut S, snap: &Snap) -> Result<(), Stopped>
 fn thaw_all<S: Store>(store: &mut S, gone: &[Snap]) -> Result<(), Stopped>
     requires running { (S.state store.old).stopped ≡ false }
     requires frozen { ForSome (S.durable store.old) (AreFrozen gone.now) }
-    ensures { Goes always_stop (all_thawed gone.now) result (S.state store.old) (S.state store.new) (S.durable store.old) (S.durable store.new) }
+    ensures goes { Goes always_stop (all_thawed gone.now) result (S.state store.old) (S.state store.new) (S.durable store.old) (S.durable store.new) }
+    ensures left { Leaves S.durable S.may (first_thawed gone.now) store.old store.new }
 {
     for snap in gone {
         thaw_one(store, snap)?;
@@ -127,7 +130,8 @@ fn thaw_all<S: Store>(store: &mut S, gone: &[Snap]) -> Result<(), Stopped>
 fn thaw<S: Store>(store: &mut S, gone: &[Snap]) -> Result<(), Halt>
     requires running { (S.state store.old).stopped ≡ false }
     requires frozen { ForSome (S.durable store.old) (AreFrozen gone.now) }
-    ensures { Goes halt_stop (all_thawed gone.now) result (S.state store.old) (S.state store.new) (S.durable store.old) (S.durable store.new) }
+    ensures goes { Goes halt_stop (all_thawed gone.now) result (S.state store.old) (S.state store.new) (S.durable store.old) (S.durable store.new) }
+    ensures left { Leaves S.durable S.may (first_thawed gone.now) store.old store.new }
 {
     match thaw_all(store, gone) {
         Ok(()) => Ok(()),
@@ -142,7 +146,8 @@ fn thaw<S: Store>(store: &mut S, gone: &[Snap]) -> Result<(), Halt>
 /// Where the store stopped, and for want of memory.
 pub fn drop_snaps<S: Store>(alloc: Global, script: &Script, store: &mut S) -> Result<(), Halt>
     requires running { (S.state store.old).stopped ≡ false }
-    ensures { Goes halt_stop (dropped script.now) result (S.state store.old) (S.state store.new) (S.durable store.old) (S.durable store.new) }
+    ensures goes { Goes halt_stop (dropped script.now) result (S.state store.old) (S.state store.new) (S.durable store.old) (S.durable store.new) }
+    ensures left { Leaves S.durable S.may (first_dropped script.now) store.old store.new }
 {
     let snaps = store.snaps()?;
     let gone = dropped_of(alloc, script, snaps.as_slice())?;
@@ -169,7 +174,8 @@ pub fn created_at<S: Store>(alloc: Global, store: &S) -> Result<Vec<Snap>, Memor
 /// Where the store stopped, and for want of memory.
 pub fn thaw_others<S: Store>(alloc: Global, some: &[Snap], store: &mut S) -> Result<(), Halt>
     requires running { (S.state store.old).stopped ≡ false }
-    ensures { Goes halt_stop (left_with some.now) result (S.state store.old) (S.state store.new) (S.durable store.old) (S.durable store.new) }
+    ensures goes { Goes halt_stop (left_with some.now) result (S.state store.old) (S.state store.new) (S.durable store.old) (S.durable store.new) }
+    ensures left { Leaves S.durable S.may (first_left_with some.now) store.old store.new }
 {
     let snaps = store.snaps()?;
     let gone = others_of(alloc, some, snaps.as_slice())?;

@@ -3,6 +3,8 @@ use Rattle.std.proofs.Common.{rules, ◌≡◌, ◌<◌, ◌+◌, arith, refl, s
 use Rattle.run_opening.specs.All.{GoesAll, alike, wanting}
 use Rattle.run_opening.specs.Steps.{same}
 use Rattle.run_opening.proofs.Walks.{ReadSoFar, all-read, all-so, none-read, one-read, read-err, still-run, unread}
+use Rattle.run_opening.specs.Left.{nothing}
+use Rattle.run_opening.proofs.Leaving.{all-leave, read-leaves}
 use Rattle.run_opening.proofs.opening.read_all.Goals as goal
 
 pub loop-t-init : goal.loop-t-init
@@ -49,3 +51,14 @@ returns-clause-entries g c =
     let at-most = c.loop-t.auto.t-end in
     let done : c.loop-t.t ≡ length c.args.stores.now = omega (arith, over, at-most) in
     all-read g.S.Store.durable g.S.Store.state c.loop-t.t c.loop-t.all.items c.args.stores.now c.loop-t.stores done c.loop-t.invariant
+
+pub returns-in_err-entries-clause-left : goal.returns-in_err-entries-clause-left
+returns-in_err-entries-clause-left g c =
+    read-leaves g.S.Store.durable g.S.Store.state g.S.Store.may g.met.S.Store.steady c.loop-t.t (tt {0}) _ c.args.stores.now c.loop-t.stores c.read_at.new.stores c.loop-t.invariant.goes c.in_err-entries.ensures.goes c.in_err-entries.ensures.left
+
+pub returns-in_err-push-clause-left : goal.returns-in_err-push-clause-left
+returns-in_err-push-clause-left g c =
+    read-leaves g.S.Store.durable g.S.Store.state g.S.Store.may g.met.S.Store.steady c.loop-t.t (tt {0}) _ c.args.stores.now c.loop-t.stores c.read_at.new.stores c.loop-t.invariant.goes c.in_ok-entries.ensures.goes c.in_ok-entries.ensures.left
+
+pub returns-clause-left : goal.returns-clause-left
+returns-clause-left g c = all-leave g.S.Store.durable g.S.Store.state g.S.Store.may g.met.S.Store.steady (alike same) (λ t. nothing) (tt {0}) c.args.stores.now c.loop-t.stores c.loop-t.invariant.goes (λ t d. (0, refl))
