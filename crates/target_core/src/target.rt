@@ -11,7 +11,7 @@ ghost use Rattle.world_posts.specs.Forms.{Follows, PostsInForm};
 ghost use Rattle.target_parts.specs.Knowing.{IsHeard};
 ghost use Rattle.target_parts.specs.Parts.{Runs};
 ghost use Rattle.target_parts.specs.Readings.{IsReadUpTo, most_readings};
-ghost use Rattle.target_parts.specs.Stops.{stop_foreign, stop_store};
+ghost use Rattle.target_parts.specs.Stops.{IsSilent, stop_foreign, stop_store};
 ghost use Rattle.target_resync.specs.Openings.{IsBare, Left, Reopens, TellsRestart};
 ghost use Rattle.target_core.specs.Targets.{CanHear, HearsOrStops, IdlesOrStops, IsInForm, OpensAs, has_epoch, is_of_client};
 
@@ -142,6 +142,7 @@ impl<S: Store, C: Clock> Target<S, C> {
             → HearsOrStops self.old.plan self.old.memory reading from message d (S.state self.old.store)
             (S.durable self.new.store) (S.state self.new.store) (S.may self.new.store) self.new.memory result) }
         ensures native { says stop_foreign result ≡ false }
+        ensures silent { IsSilent result }
         ensures clock { IsReadUpTo C.is_read (most_readings (has_epoch message)) self.old.clock self.new.clock }
         ensures unread { has_epoch message ≡ true → self.new.clock ≡ self.old.clock }
         ensures posts { is_of_client message ≡ from.client → IfOk result (λ did. PostsInForm self.old.plan.targets self.old.memory.leader self.new.memory.leader did.posts) }
@@ -175,6 +176,7 @@ impl<S: Store, C: Clock> Target<S, C> {
             → IdlesOrStops settling self.old.plan self.old.memory d (S.state self.old.store)
             (S.durable self.new.store) (S.state self.new.store) (S.may self.new.store) self.new.memory result }
         ensures native { says stop_foreign result ≡ false }
+        ensures silent { IsSilent result }
         ensures posts { IfOk result (λ did. PostsInForm self.old.plan.targets self.old.memory.leader self.new.memory.leader did.posts) }
     {
         idle_work(

@@ -9,7 +9,7 @@ ghost use Rattle.world_base.specs.Turns.{Whole};
 ghost use Rattle.world_posts.specs.Forms.{PostsInForm, TargetPosts};
 ghost use Rattle.target_parts.specs.Knowing.{LeadsWell, memory_of};
 ghost use Rattle.target_parts.specs.Parts.{kept};
-ghost use Rattle.target_parts.specs.Stops.{Turn, never, stop_memory};
+ghost use Rattle.target_parts.specs.Stops.{IsSilent, Turn, never, stop_memory};
 ghost use Rattle.target_dtx.specs.Dtx.{GoesThrough, asks_if};
 ghost use Rattle.target_parts.specs.Standing.{IsTarget, Keeps, TurnRuns};
 
@@ -76,6 +76,7 @@ fn tell<S: Store>(
     ensures memory { ForSome (S.durable store.now) (λ d. OnOk result (memory_of knows.new ≡ idle_memory settling plan (memory_of knows.old) d)) }
     ensures told { ForSome (S.durable store.now) (λ d. IfOk result (λ did. did ≡ idle_told settling plan (memory_of knows.old) d)) }
     ensures wanting { IfErr result (λ stop. stop ≡ stop_memory) }
+    ensures silent { IsSilent result }
     ensures posts { IfOk result (λ did. PostsInForm plan.targets knows.old.leader knows.new.leader did.posts) }
     ensures target { IsTarget plan (S.state store.now) (S.durable store.now) knows.new }
 {

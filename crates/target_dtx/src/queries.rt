@@ -7,7 +7,7 @@ ghost use Rattle.world_base.specs.Verdicts.{QueryEnds, QueryNext, QueryStage};
 ghost use Rattle.world_posts.specs.Forms.{TargetPosts};
 ghost use Rattle.target_parts.specs.Knowing.{memory_of};
 ghost use Rattle.target_parts.specs.Parts.{kept};
-ghost use Rattle.target_parts.specs.Stops.{Turn, never, stop_foreign, stop_store};
+ghost use Rattle.target_parts.specs.Stops.{IsSilent, Turn, never, stop_foreign, stop_store};
 ghost use Rattle.target_parts.specs.Standing.{IsTarget};
 
 use base_messages::actor::ActorId;
@@ -44,6 +44,7 @@ pub fn hear_query<S: Store>(
         (S.durable store.now) (S.state store.now) (S.may store.now) result }
     ensures whole { says stop_store result ≡ false }
     ensures native { says stop_foreign result ≡ false }
+    ensures silent { IsSilent result }
     ensures posts { from.client ≡ false → IfOk result (λ did. TargetPosts plan.targets did.posts) }
 {
     let seat = seat_of(plan, store);

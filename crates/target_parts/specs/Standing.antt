@@ -18,7 +18,7 @@ use Rattle.target_parts.specs.KnowsLaws.{own-beside, with_clock}
 use Rattle.target_parts.specs.Parts.{Runs}
 use Rattle.target_parts.specs.Readying.{leads-covered, leases}
 use Rattle.target_parts.specs.Running.{for_some_on}
-use Rattle.target_parts.specs.Stops.{stop_foreign, stop_store}
+use Rattle.target_parts.specs.Stops.{IsSilent, stop_foreign, stop_store}
 
 -- a target is one of so many, which its store was made for
 pub record IsPlaced (t : TargetPlan) (s : State) : Type 0 where
@@ -40,10 +40,12 @@ pub record Keeps {T E : Type 0} (t : TargetPlan) (stop : E → Bool) (result : R
   pub beside : IsBeside before after
   pub leads : says stop result ≡ false → ForSome new (LeadsWell t (memory_of after) after.entries.items)
 
--- What a turn says of the store of its target: what each part of one says; and that no foreign byte was found, since nothing was opened.
+-- What a turn says whatever the store of its target keeps: of the store what each part of one says; that no foreign byte was found, since
+-- nothing was opened; and that it tells no line.
 pub record TurnRuns (result : Result Did TargetStop) (h k : State) (old new : Option Durable) : Type 0 where
   pub runs : Runs stop_store result h k old new
   pub native : says stop_foreign result ≡ false
+  pub silent : IsSilent result
 
 -- what holds after Ok holds where no stop was answered
 pub by_ok : {T : Type 0} (result : Result T Stopped) (P : Type 0) → OnOk result P → says always_stop result ≡ false → P

@@ -38,6 +38,19 @@ abbrev pub stop_of : Halt → Option (AttemptId × Epoch) → TargetStop
 stop_of halt.Stopped issued = stop.Store issued []
 stop_of halt.Memory issued = stop.Memory
 
+-- ---- the lines that a turn tells of its own
+
+-- those of what follows from it, or those shown where its store stopped
+abbrev pub lines_told : Result Did TargetStop → List Line
+lines_told (Ok did) = did.lines
+lines_told (Err (stop.Store issued lines)) = lines
+lines_told (Err (stop.Foreign at byte)) = []
+lines_told (Err stop.Memory) = []
+
+-- it tells none
+abbrev pub IsSilent : Result Did TargetStop → Type 0
+IsSilent result = lines_told result ≡ []
+
 -- ---- the epoch that a turn issued, once the lease covers it
 
 abbrev pub fetch_issued : FetchRequest → read.FetchStage → Option (AttemptId × Epoch)

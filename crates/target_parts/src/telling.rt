@@ -1,7 +1,7 @@
 // What follows from a turn.
 ghost use Rattle.std.specs.Prelude.{◌≡◌, ◌++◌, IfOk, IfErr, OnOk, OnErr};
 ghost use Rattle.world_base.specs.Requests as asked;
-ghost use Rattle.target_parts.specs.Stops.{stop_memory};
+ghost use Rattle.target_parts.specs.Stops.{IsSilent, stop_memory};
 
 use crate::stop::TargetStop;
 use base_messages::actor::ActorId;
@@ -46,6 +46,7 @@ pub fn says(
 ) -> Result<Did, TargetStop>
     ensures did { IfOk result (λ did. did ≡ asked.says to message issued) }
     ensures wanting { IfErr result (λ stop. stop ≡ stop_memory) }
+    ensures silent { IsSilent result }
 {
     let mut posts = Items::new(alloc);
     posts.push(Post { to, message })?;

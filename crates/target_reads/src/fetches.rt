@@ -11,7 +11,7 @@ ghost use Rattle.world_base.specs.Reads.{FetchStage, fetch_at, fetched_message, 
 ghost use Rattle.world_base.specs.Requests as asked;
 ghost use Rattle.world_posts.specs.Forms.{PostsInForm};
 ghost use Rattle.target_parts.specs.Knowing.{IsOwn, IsReadAsked, LeadsWell, memory_of};
-ghost use Rattle.target_parts.specs.Stops.{stop_memory};
+ghost use Rattle.target_parts.specs.Stops.{IsSilent, stop_memory};
 ghost use Rattle.target_reads.specs.Fetches.{FetchTurn};
 ghost use Rattle.target_reads.specs.Meets.{told_of};
 ghost use Rattle.target_parts.specs.Standing.{IsTarget, TurnRuns};
@@ -92,6 +92,7 @@ fn tell(
     requires own { IsOwn plan knows.old }
     ensures told { IfOk result (λ did. (memory_of knows.new, did) ≡ told_of plan request.now from epoch served (memory_of knows.old)) }
     ensures wanting { IfErr result (λ stop. stop ≡ stop_memory) }
+    ensures silent { IsSilent result }
     ensures leads { (d : Durable) → is_enlisted d (read_path request.now.read).cont ≡ true → LeadsWell plan (memory_of knows.old) knows.old.entries.items d
         → LeadsWell plan (memory_of knows.new) knows.new.entries.items d }
     ensures own { IsOwn plan knows.new }

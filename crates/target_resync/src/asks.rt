@@ -7,7 +7,7 @@ ghost use Rattle.world_base.specs.Turns.{Whole};
 ghost use Rattle.world_posts.specs.Forms.{PostsInForm};
 ghost use Rattle.target_parts.specs.Knowing.{memory_of};
 ghost use Rattle.target_parts.specs.Parts.{kept};
-ghost use Rattle.target_parts.specs.Stops.{Turn, never, stop_foreign, stop_store};
+ghost use Rattle.target_parts.specs.Stops.{IsSilent, Turn, never, stop_foreign, stop_store};
 ghost use Rattle.target_parts.specs.Standing.{IsTarget};
 
 use base_messages::actor::ActorId;
@@ -42,6 +42,7 @@ pub fn hear_ask<S: Store>(
         (S.durable store.now) (S.state store.now) (S.may store.now) result }
     ensures whole { says stop_store result ≡ false }
     ensures native { says stop_foreign result ≡ false }
+    ensures silent { IsSilent result }
     ensures posts { from.client ≡ true → IfOk result (λ did. PostsInForm plan.targets knows.old.leader knows.new.leader did.posts) }
     ensures target { IsTarget plan (S.state store.now) (S.durable store.now) knows.new }
 {

@@ -8,7 +8,7 @@ ghost use Rattle.world_base.specs.Turns.{Whole};
 ghost use Rattle.world_posts.specs.Forms.{PostsInForm, TargetPosts};
 ghost use Rattle.target_parts.specs.Knowing.{memory_of};
 ghost use Rattle.target_parts.specs.Parts.{kept};
-ghost use Rattle.target_parts.specs.Stops.{Turn, never, stop_foreign, stop_store};
+ghost use Rattle.target_parts.specs.Stops.{IsSilent, Turn, never, stop_foreign, stop_store};
 ghost use Rattle.target_parts.specs.Standing.{IsTarget, TurnRuns};
 
 use base_messages::actor::ActorId;
@@ -48,6 +48,7 @@ pub fn hear_status<S: Store>(
         (S.durable store.now) (S.state store.now) (S.may store.now) result }
     ensures whole { says stop_store result ≡ false }
     ensures native { says stop_foreign result ≡ false }
+    ensures silent { IsSilent result }
     ensures posts { from.client ≡ false → IfOk result (λ did. TargetPosts plan.targets did.posts) }
 {
     let _plan = plan;

@@ -9,7 +9,7 @@ ghost use Rattle.world_base.specs.Commits as commit;
 ghost use Rattle.world_base.specs.Requests as asked;
 ghost use Rattle.world_posts.specs.Forms.{PostsInForm};
 ghost use Rattle.target_parts.specs.Knowing.{IsApart, IsOpenHere, memory_of};
-ghost use Rattle.target_parts.specs.Stops.{stop_memory};
+ghost use Rattle.target_parts.specs.Stops.{IsSilent, stop_memory};
 ghost use Rattle.target_writes.specs.Checks.{AreWrites, CanCommit, CanStore};
 ghost use Rattle.target_writes.specs.Turns.{CommitTurn, begun_of};
 ghost use Rattle.target_parts.specs.Standing.{IsTarget, TurnRuns};
@@ -90,6 +90,7 @@ fn begin<S: Store>(
     requires apart { ForSome (S.durable store.now) (λ _. IsApart request.now.attempt knows.old.leader) }
     ensures begun { ForSome (S.durable store.now) (λ d. IfOk result (λ did. (memory_of knows.new, did) ≡ begun_of plan (memory_of knows.old) request.now from entry.now.epoch d)) }
     ensures wanting { IfErr result (λ stop. stop ≡ stop_memory) }
+    ensures silent { IsSilent result }
     ensures posts { plan.me < plan.targets → from.client ≡ true → IfOk result (λ did. PostsInForm plan.targets knows.old.leader knows.new.leader did.posts) }
     ensures target { IsTarget plan (S.state store.now) (S.durable store.now) knows.new }
 {

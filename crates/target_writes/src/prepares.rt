@@ -8,7 +8,7 @@ ghost use Rattle.world_base.specs.Prepares as prepare;
 ghost use Rattle.world_base.specs.Requests.{with_ticks};
 ghost use Rattle.world_posts.specs.Forms.{PostsInForm};
 ghost use Rattle.target_parts.specs.Knowing.{memory_of};
-ghost use Rattle.target_parts.specs.Stops.{stop_memory};
+ghost use Rattle.target_parts.specs.Stops.{IsSilent, stop_memory};
 ghost use Rattle.target_writes.specs.Checks.{CanStore};
 ghost use Rattle.target_writes.specs.Turns.{CanPrepareHere, IsPrepareInForm, PrepareTurn};
 ghost use Rattle.target_parts.specs.Standing.{IsTarget, TurnRuns};
@@ -37,6 +37,7 @@ fn acks(
 ) -> Result<Did, TargetStop>
     ensures did { IfOk result (λ did. did ≡ prepare.acks request.now refusal) }
     ensures wanting { IfErr result (λ stop. stop ≡ stop_memory) }
+    ensures silent { IsSilent result }
 {
     let to = ActorId {
         client: false,
