@@ -1,5 +1,5 @@
 -- An index of an array below an epoch holds the record of the greatest extent that covers it, unless a punch is later.
-use Rattle.std.proofs.Common.{◌≡◌, ℕ, ◌+◌, ◌-◌, ◌*◌, ◌/◌, ◌<◌, ◌≤◌, ◌==◌, ◌&&◌, ◌||◌, nat_le, nat_lt, Bool, true, false, List, [], ◌∷◌, ◌++◌, Option, Some, None, map, zero, suc, take, drop, length, refl, sym, ap, ◌∙◌, subst, arith}
+use Rattle.std.proofs.Common.{◌≡◌, ℕ, ◌+◌, ◌-◌, ◌*◌, ◌/◌, ◌≤◌, ◌==◌, ◌&&◌, ◌||◌, nat_le, nat_lt, Bool, true, false, List, [], ◌∷◌, ◌++◌, Option, Some, None, map, zero, suc, take, drop, length, refl, sym, ap, ◌∙◌, arith}
 use Rattle.std.specs.Prelude.{All, if◌then◌else◌, nat_eq}
 use Rattle.std.specs.List.{list_any}
 use Rattle.std.specs.Option.{option_eq, option_map}
@@ -11,22 +11,21 @@ use Rattle.base_types.specs.declared.id.ObjId.{ObjId}
 use Rattle.base_types.specs.Paths.{record_size, same_path, unit_of}
 use Rattle.daos_model.specs.Forms.{is_unit}
 use Rattle.base_types.specs.declared.epoch.Epoch.{Epoch}
-use Rattle.base_types.specs.declared.operation.Write.TheVariants.{Extent, Single}
+use Rattle.base_types.specs.declared.operation.Write.TheVariants.{Extent}
 use Rattle.base_types.specs.declared.path.Path.{Path}
 use Rattle.daos_model.specs.Answers.{is_before}
-use Rattle.daos_model.specs.Cells.{index_cell, is_of, same_cell, single_cell, value_at}
+use Rattle.daos_model.specs.Cells.{index_cell, is_of, same_cell, value_at}
 use Rattle.daos_model.specs.Durables.{object_key as object_order, version_key}
-use Rattle.daos_model.specs.Effect.{cut_records, record_cells, records_of}
-use Rattle.daos_model.specs.Prunes.{is_punch as is_punch_write, touches, values_of}
+use Rattle.daos_model.specs.Effect.{cut_records, record_cells}
+use Rattle.daos_model.specs.Prunes.{touches}
 use Rattle.daos_model.specs.Versions.{blocks_read, sees}
-use Rattle.daos_model.specs.declared.cell.Cell.{Cell}
 use Rattle.daos_model.specs.declared.durable.Version.{Version}
 use Rattle.vos_values.specs.declared.keys.Moment.{Moment}
 use Rattle.vos_values.specs.declared.keys.ObjectKey.{ObjectKey}
 use Rattle.vos_levels.specs.Moments.{is_earlier}
 use Rattle.vos_single.specs.declared.single.SingleVersion.{SingleVersion}
 use Rattle.vos_extent.specs.declared.extent.ExtentVersion.{ExtentVersion}
-use Rattle.vos_extent.specs.Shown.{covers, greatest, greatest_with, hides, if_passes as if_extent, is_seen, later_of as later_extent, moment_of, record_in, shown_of}
+use Rattle.vos_extent.specs.Shown.{covers, greatest, greatest_with, if_passes as if_extent, is_seen, later_of as later_extent, moment_of, record_in, shown_of}
 use Rattle.vos_path.specs.Objects.{akey_path, extent_version, single_version}
 use Rattle.vos_newest.specs.Newest.{if_passes, later_of, newest, speaks, told}
 use Rattle.vos_newest.proofs.Greatest.{later_assoc}
@@ -48,7 +47,7 @@ use Rattle.vos_path.specs.Objects.{Objects, Values, objects_owner, objects_versi
 use Rattle.vos_newest.proofs.Greatest.{newest_append, newest_none}
 use Rattle.vos_reads.specs.Ways.{IsSettled, akey_of, below_object, dkey_of, last_punch}
 use Rattle.vos_reads.proofs.Covered.{akey_leads, punch, punch_is, settled_extents, value_is}
-use Rattle.vos_reads.proofs.Rising.{IsPunchAt, before_is, earlier_before, key_at}
+use Rattle.vos_reads.proofs.Rising.{IsPunchAt, before_is, earlier_before}
 
 path_own : (p : Path) → same_path p p ≡ true
 path_own p = (same_path-Decides p p).1 refl

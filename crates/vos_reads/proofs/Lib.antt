@@ -3,3 +3,4 @@ pub mod Quiet
 pub mod Covered
 pub mod Going
 pub mod Arrays
+pub mod Costs

@@ -13,6 +13,7 @@ ghost use Rattle.vos_levels.specs.Levels.{hung_root};
 ghost use Rattle.vos_chain.specs.declared.refusal.PiecesNo.TheVariants.{Stopped as stopped_no};
 ghost use Rattle.vos_path.specs.Objects.{objects_owner, objects_versions};
 ghost use Rattle.vos_path.specs.Writes.{NamesAreKeys};
+ghost use Rattle.vos_reads.specs.Cost.{OfNames, StepsToExtents};
 ghost use Rattle.vos_reads.specs.Ways.{IsSettled};
 
 use crate::punch::last_punch;
@@ -52,6 +53,7 @@ pub fn fetch_extent<P: Pages, L: Ledger>(
     requires names { NamesAreKeys path.now }
     requires here { HasThing P.tells objects_owner hung_root (P.blocks pages.old) objects.root (IsSettled path.now below) }
     ensures found { IfOk result (λ a. OfThing P.tells objects_owner hung_root (P.blocks pages.old) objects.root (λ g. IsSettled path.now below g → a ≡ answer (extent_read path.now low len) (map_below (in_order version_key (objects_versions g)) below.0))) }
+    ensures steps { OfThing P.tells objects_owner hung_root (P.blocks pages.old) objects.root (λ g. OfNames path.now (λ o k a. StepsToExtents low (low + len) o k a g steps.old steps.new)) }
     ensures kept { IsTrue P.tells → P.blocks pages.new ≡ P.blocks pages.old }
     ensures budget { P.budget pages.new ≡ P.budget pages.old }
     ensures goes { Goes P.stopped P.count P.burns pages.old pages.new }

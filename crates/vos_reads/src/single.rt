@@ -8,6 +8,7 @@ ghost use Rattle.daos_model.specs.Durables.{version_key};
 ghost use Rattle.daos_model.specs.Forms.{ends_at_akey, is_unit};
 ghost use Rattle.daos_model.specs.Ordered.{in_order};
 ghost use Rattle.daos_model.specs.Versions.{map_below};
+ghost use Rattle.pmem_tree.specs.Calls.{StepsAtMost};
 ghost use Rattle.pmem_tree_base.specs.Calls.{Goes};
 ghost use Rattle.vos_levels.specs.Calls.{HasThing, OfThing};
 ghost use Rattle.vos_levels.specs.Levels.{find_last, hung_root, things};
@@ -15,6 +16,7 @@ ghost use Rattle.vos_chain.specs.declared.refusal.PiecesNo.TheVariants.{Stopped 
 ghost use Rattle.vos_single.specs.Singles.{is_under, single_owner, version_of};
 ghost use Rattle.vos_path.specs.Objects.{objects_owner, objects_versions};
 ghost use Rattle.vos_path.specs.Writes.{NamesAreKeys};
+ghost use Rattle.vos_reads.specs.Cost.{OfNames, StepsToSingle};
 ghost use Rattle.vos_reads.specs.Ways.{IsSettled, single_answer, start_of};
 
 use crate::punch::{hides, last_punch};
@@ -60,6 +62,7 @@ fn newest_single<P: Pages, L: Ledger>(
 ) -> Result<Answer, PiecesNo>
     requires here { HasThing P.tells single_owner hung_root (P.blocks pages.old) root (λ g. ⊤) }
     ensures found { IfOk result (λ a. OfThing P.tells single_owner hung_root (P.blocks pages.old) root (λ g. a ≡ single_answer punched (option_map version_of (find_last (is_under (start_of below)) (things g))))) }
+    ensures steps { OfThing P.tells single_owner hung_root (P.blocks pages.old) root (λ g. StepsAtMost 2 5 g.0 steps.old steps.new) }
     ensures kept { IsTrue P.tells → P.blocks pages.new ≡ P.blocks pages.old }
     ensures budget { P.budget pages.new ≡ P.budget pages.old }
     ensures goes { Goes P.stopped P.count P.burns pages.old pages.new }
@@ -93,6 +96,7 @@ pub fn fetch_single<P: Pages, L: Ledger>(
     requires names { NamesAreKeys path.now }
     requires here { HasThing P.tells objects_owner hung_root (P.blocks pages.old) objects.root (IsSettled path.now below) }
     ensures found { IfOk result (λ a. OfThing P.tells objects_owner hung_root (P.blocks pages.old) objects.root (λ g. IsSettled path.now below g → a ≡ answer (single_read path.now) (map_below (in_order version_key (objects_versions g)) below.0))) }
+    ensures steps { OfThing P.tells objects_owner hung_root (P.blocks pages.old) objects.root (λ g. OfNames path.now (λ o k a. StepsToSingle o k a g steps.old steps.new)) }
     ensures kept { IsTrue P.tells → P.blocks pages.new ≡ P.blocks pages.old }
     ensures budget { P.budget pages.new ≡ P.budget pages.old }
     ensures goes { Goes P.stopped P.count P.burns pages.old pages.new }

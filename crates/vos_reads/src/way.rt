@@ -6,6 +6,7 @@ ghost use Rattle.vos_values.specs.Keys.{IsName, IsObjectKey, is_size};
 ghost use Rattle.vos_levels.specs.Calls.{HasThing, OfThing};
 ghost use Rattle.vos_levels.specs.Levels.{hung_root};
 ghost use Rattle.vos_path.specs.Objects.{objects_owner};
+ghost use Rattle.vos_reads.specs.Cost.{StepsToAkey};
 ghost use Rattle.vos_reads.specs.Ways.{way_to};
 
 use base_types::key::Key;
@@ -48,6 +49,7 @@ pub fn way_down<P: Pages, L: Ledger>(
     requires here { HasThing P.tells objects_owner hung_root (P.blocks pages.old) objects.root (λ g. ⊤) }
     ensures found { IfOk result (λ w. OfThing P.tells objects_owner hung_root (P.blocks pages.old) objects.root (λ g. w ≡ way_to object dkey.now akey.now g)) }
     ensures object { IsObjectKey Two object }
+    ensures steps { OfThing P.tells objects_owner hung_root (P.blocks pages.old) objects.root (λ g. StepsToAkey object dkey.now g steps.old steps.new) }
     ensures kept { IsTrue P.tells → P.blocks pages.new ≡ P.blocks pages.old }
     ensures budget { P.budget pages.new ≡ P.budget pages.old }
     ensures goes { Goes P.stopped P.count P.burns pages.old pages.new }

@@ -12,7 +12,9 @@ use Rattle.vos_extent.specs.Shown.{pieces_at}
 use Rattle.vos_path.specs.Objects.{akey_path, objects_versions}
 use Rattle.vos_path.proofs.Naming.{named}
 use Rattle.vos_path.proofs.Written.{holds_extent, holds_log}
+use Rattle.vos_reads.specs.Cost.{StepsToExtents}
 use Rattle.vos_reads.specs.Ways.{IsSettled, akey_of, below_object, dkey_of, last_punch, start_of}
+use Rattle.vos_reads.proofs.Costs.{of_names}
 use Rattle.vos_reads.proofs.Arrays.{pieces_law, unit_bounds}
 use Rattle.vos_reads.proofs.Going.{dkey_log_holds, object_log_holds, values_hold}
 use Rattle.vos_reads.proofs.extent.fetch_extent.Goals as goal
@@ -97,3 +99,69 @@ returns-clause-found g c told x held at settled =
     ∙ (ap (λ z. pieces_at o.obj.unit (start_of c.args.below) z c.args.low ((c.args.low + c.args.len) - c.args.low) (extents v.1.1)) q
     ∙ (ap (λ z. pieces_at o.obj.unit (start_of c.args.below) (last_punch c.args.below l0 l1 v.0) c.args.low z (extents v.1.1)) count
     ∙ (sym law ∙ ap (λ z. pieces z c.args.low c.args.len (map_below (in_order version_key (objects_versions x)) c.args.below.0)) (sym path)))))
+
+pub returns-in_err-way-clause-steps : goal.returns-in_err-way-clause-steps
+returns-in_err-way-clause-steps g c told x held at =
+    let m = g.P.Pages.blocks c.args.pages.now in
+    let o : ObjectKey = record { cont = c.args.path.now.cont; obj = c.in-Some-Some-Some.obj } in
+    let d = c.in-Some-Some-Some.dkey in
+    let a = c.in-Some-Some-Some.akey in
+    let path : c.args.path.now ≡ akey_path o d a = λ i. record { cont = c.args.path.now.cont; obj = c.in-Some-Some-Some.is-0 i; dkey = c.in-Some-Some-Some.is-1 i; akey = c.in-Some-Some-Some.is-2 i } in
+    of_names (λ o k a. StepsToExtents c.args.low (c.args.low + c.args.len) o k a x _ _) c.args.path.now o d a path (λ n few last.
+    let one = c.way_down.ensures.steps told x held at n few.way in
+    omega arith)
+
+pub returns-in_err-punched-clause-steps : goal.returns-in_err-punched-clause-steps
+returns-in_err-punched-clause-steps g c told x held at =
+    let m = g.P.Pages.blocks c.args.pages.now in
+    let o : ObjectKey = record { cont = c.args.path.now.cont; obj = c.in-Some-Some-Some.obj } in
+    let d = c.in-Some-Some-Some.dkey in
+    let a = c.in-Some-Some-Some.akey in
+    let path : c.args.path.now ≡ akey_path o d a = λ i. record { cont = c.args.path.now.cont; obj = c.in-Some-Some-Some.is-0 i; dkey = c.in-Some-Some-Some.is-1 i; akey = c.in-Some-Some-Some.is-2 i } in
+    of_names (λ o k a. StepsToExtents c.args.low (c.args.low + c.args.len) o k a x _ _) c.args.path.now o d a path (λ n few last.
+    let one = c.way_down.ensures.steps told x held at n few.way in
+    let e = c.way_down.ensures.kept told in
+    let w = c.in_ok-way.ensures.found told x held at in
+    let l0 = (below_object o x).0 in
+    let l1 = (dkey_of o d x).0 in
+    let v = akey_of o d a x in
+    let two = c.last_punch.ensures.steps told l0 (subst (λ b. Holds log_owner b l0) (sym e) (object_log_holds m x o held)) (ap (λ z. z.object_log) w) told l1 (subst (λ b. Holds log_owner b l1) (sym e) (dkey_log_holds m x o held d)) (ap (λ z. z.dkey_log) w) told v.0 (subst (λ b. Holds log_owner b v.0) (sym e) (holds_log m v (values_hold m x o held d a))) (ap (λ z. z.akey.log) w) n few.object_log few.dkey_log few.akey_log in
+    omega arith)
+
+pub returns-in_err-pieces-clause-steps : goal.returns-in_err-pieces-clause-steps
+returns-in_err-pieces-clause-steps g c told x held at =
+    let m = g.P.Pages.blocks c.args.pages.now in
+    let o : ObjectKey = record { cont = c.args.path.now.cont; obj = c.in-Some-Some-Some.obj } in
+    let d = c.in-Some-Some-Some.dkey in
+    let a = c.in-Some-Some-Some.akey in
+    let path : c.args.path.now ≡ akey_path o d a = λ i. record { cont = c.args.path.now.cont; obj = c.in-Some-Some-Some.is-0 i; dkey = c.in-Some-Some-Some.is-1 i; akey = c.in-Some-Some-Some.is-2 i } in
+    of_names (λ o k a. StepsToExtents c.args.low (c.args.low + c.args.len) o k a x _ _) c.args.path.now o d a path (λ n few last.
+    let one = c.way_down.ensures.steps told x held at n few.way in
+    let e = c.way_down.ensures.kept told in
+    let w = c.in_ok-way.ensures.found told x held at in
+    let l0 = (below_object o x).0 in
+    let l1 = (dkey_of o d x).0 in
+    let v = akey_of o d a x in
+    let two = c.last_punch.ensures.steps told l0 (subst (λ b. Holds log_owner b l0) (sym e) (object_log_holds m x o held)) (ap (λ z. z.object_log) w) told l1 (subst (λ b. Holds log_owner b l1) (sym e) (dkey_log_holds m x o held d)) (ap (λ z. z.dkey_log) w) told v.0 (subst (λ b. Holds log_owner b v.0) (sym e) (holds_log m v (values_hold m x o held d a))) (ap (λ z. z.akey.log) w) n few.object_log few.dkey_log few.akey_log in
+    let same = c.last_punch.ensures.kept told ∙ e in
+    let three = c.pieces.ensures.steps told v.1.1 (subst (λ b. Holds extent_owner b v.1.1) (sym same) (holds_extent m v (values_hold m x o held d a))) (ap (λ z. z.akey.extents) w) n last in
+    omega arith)
+
+pub returns-clause-steps : goal.returns-clause-steps
+returns-clause-steps g c told x held at =
+    let m = g.P.Pages.blocks c.args.pages.now in
+    let o : ObjectKey = record { cont = c.args.path.now.cont; obj = c.in-Some-Some-Some.obj } in
+    let d = c.in-Some-Some-Some.dkey in
+    let a = c.in-Some-Some-Some.akey in
+    let path : c.args.path.now ≡ akey_path o d a = λ i. record { cont = c.args.path.now.cont; obj = c.in-Some-Some-Some.is-0 i; dkey = c.in-Some-Some-Some.is-1 i; akey = c.in-Some-Some-Some.is-2 i } in
+    of_names (λ o k a. StepsToExtents c.args.low (c.args.low + c.args.len) o k a x _ _) c.args.path.now o d a path (λ n few last.
+    let one = c.way_down.ensures.steps told x held at n few.way in
+    let e = c.way_down.ensures.kept told in
+    let w = c.in_ok-way.ensures.found told x held at in
+    let l0 = (below_object o x).0 in
+    let l1 = (dkey_of o d x).0 in
+    let v = akey_of o d a x in
+    let two = c.last_punch.ensures.steps told l0 (subst (λ b. Holds log_owner b l0) (sym e) (object_log_holds m x o held)) (ap (λ z. z.object_log) w) told l1 (subst (λ b. Holds log_owner b l1) (sym e) (dkey_log_holds m x o held d)) (ap (λ z. z.dkey_log) w) told v.0 (subst (λ b. Holds log_owner b v.0) (sym e) (holds_log m v (values_hold m x o held d a))) (ap (λ z. z.akey.log) w) n few.object_log few.dkey_log few.akey_log in
+    let same = c.last_punch.ensures.kept told ∙ e in
+    let three = c.pieces.ensures.steps told v.1.1 (subst (λ b. Holds extent_owner b v.1.1) (sym same) (holds_extent m v (values_hold m x o held d a))) (ap (λ z. z.akey.extents) w) n last in
+    omega arith)
