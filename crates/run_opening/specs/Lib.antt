@@ -5,9 +5,11 @@ pub mod All
 pub mod Laws
 pub mod StandLaws
 pub mod SoundLaws
+pub mod BeginLaws
 pub mod Alike
 pub mod AlikeSound
 pub mod EnlistLaws
 pub mod Left
 pub mod LeftLaws
+pub mod EnlistLeft
 pub mod UnusedLaws
