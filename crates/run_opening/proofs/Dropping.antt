@@ -18,8 +18,8 @@ use Rattle.daos_model.specs.Durables.{is_frozen, is_snap_at, snap_key}
 use Rattle.daos_model.specs.Family.{created_snaps, is_created, resolved}
 use Rattle.daos_model.specs.FormLaws.{length-map}
 use Rattle.daos_model.specs.Sound.{Sound}
-use Rattle.run_opening.specs.Left.{IsLeftOf, first_dropped, first_ended, first_forgotten, first_left_with, nothing, only_parts}
-use Rattle.run_opening.specs.LeftLaws.{Beside, beside-at, keeps-left, left-then}
+use Rattle.run_opening.specs.Left.{AreParts, IsLeftOf, first_dropped, first_ended, first_forgotten, first_left_with, nothing, only_parts}
+use Rattle.run_opening.specs.LeftLaws.{Beside, beside-at, beside-from, keeps-left, left-then}
 use Rattle.run_opening.specs.Opened.{is_at_one_of, keeps, lasting_snaps}
 use Rattle.run_opening.specs.SoundLaws.{at-mapped, left-done}
 use Rattle.run_opening.specs.StandLaws.{is-itself, keeps-same}
@@ -30,18 +30,7 @@ use Rattle.run_opening.proofs.Made.{ended-versions, parts-thawed, spared, thawed
 use Rattle.run_opening.proofs.Settling.{IsSettled, all-settled}
 use Rattle.run_opening.proofs.Thawing.{same-key}
 
--- ---- families in parts
-
--- Each target of a family keeps a part of a change of what its like kept.
-pub record AreParts (parts : ℕ → ℕ → Durable → Durable) (F G : List Durable) : Type 0 where
-  pub many : length G ≡ length F
-  pub each : (t : ℕ) (d g : Durable) → slice_get F t ≡ Some d → slice_get G t ≡ Some g → (n : ℕ) × (g ≡ parts t n d)
-
-beside-from : (R : Durable → Durable → Type 0) (F G : List Durable) → length G ≡ length F → ((t : ℕ) (d g : Durable) → slice_get F t ≡ Some d → slice_get G t ≡ Some g → R d g) → Beside R F G
-beside-from R [] [] many each = tt
-beside-from R [] (g ∷ G) many each = absurd (omega (arith, many))
-beside-from R (d ∷ F) [] many each = absurd (omega (arith, many))
-beside-from R (d ∷ F) (g ∷ G) many each = (each 0 d g refl refl, beside-from R F G (omega (arith, many)) (λ t e h at bt. each (suc t) e h at bt))
+-- ---- first targets
 
 at-first : (G : List Durable) (g : Durable) (x : Snap) → slice_get G 0 ≡ Some g → Has x (created_snaps G) → Has x g.snaps × (is_created x ≡ true)
 at-first [] g x at i = let no : ⊥ = cc in absurd no

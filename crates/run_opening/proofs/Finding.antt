@@ -12,27 +12,17 @@ use Rattle.daos_model.specs.FormLaws.{length-map}
 use Rattle.daos_model.specs.Sound.{Sound}
 use Rattle.vos_store.specs.Calls.{State}
 use Rattle.run_opening.specs.All.{AreEntries, AreKept, EndsAll, MayBeFound}
-use Rattle.run_opening.specs.Left.{DropsPartly, EndsPartly, EndsSome, IsLeftOf, LeavesAll, first_ended, first_forgotten}
+use Rattle.run_opening.specs.Left.{AreParts, DropsPartly, EndsPartly, EndsSome, IsLeftOf, LeavesAll, first_ended, first_forgotten}
 use Rattle.run_opening.specs.LeftLaws.{left-then}
+use Rattle.run_opening.specs.EnlistLeft.{found-parts}
 use Rattle.run_opening.specs.SoundLaws.{at-mapped}
 use Rattle.run_opening.specs.Steps.{ended, forgotten, resolved_by}
-use Rattle.run_opening.proofs.Dropping.{AreParts, drops-left, ended-left, ends-done, ends-left, forgets-left, thaws-left}
+use Rattle.run_opening.proofs.Dropping.{drops-left, ended-left, ends-done, ends-left, forgets-left, thaws-left}
 use Rattle.run_opening.proofs.Leaving.{none-ended}
 use Rattle.run_opening.proofs.Walks.{there}
 use Rattle.run_opening.proofs.Whole.{all-resolved}
 
 module _ {S : Type 0} (durable : S → Option Durable) (state : S → State) (may : S → Durable → Type 0) where
-  -- what may be found are parts of changes of what was kept
-  found-parts : (parts : ℕ → ℕ → Durable → Durable) (F : List Durable) (old new : List S) → AreKept durable old F → length new ≡ length old → LeavesAll durable may parts old new → (lasts : List Durable) → MayBeFound may new lasts
-      → AreParts parts F lasts
-  found-parts parts F old new kept many leaves lasts found = record {
-    many = found.many ∙ many ∙ sym kept.many;
-    each = λ t d g at bt.
-        let x = at-within old t (subst (λ n. t < n) kept.many (slice_get_within F t d at)) in
-        let y = there old new t x.0 x.0 many x.1 in
-        leaves t x.0 (slice_index_or new t x.0) x.1 y d g (kept.each t x.0 d x.1 at) (found.each t (slice_index_or new t x.0) g y bt);
-  }
-
   module _ (s : Script) (F : List Durable) (sound : Sound F) (old : List S) (kept : AreKept durable old F) where
     -- the entries that were read resolve what all targets do
     entries-resolve : (all : List (List Entry)) → AreEntries durable old all → resolved_by all ≡ resolved F
@@ -49,13 +39,13 @@ module _ {S : Type 0} (durable : S → Option Durable) (state : S → State) (ma
         none p = record { many = p.many; each = λ t d g at bt. (0, (p.each t d g at bt).1 ∙ none-ended (resolved F) d) }
 
         some : (e : EndsSome durable may old new) → LeavesAll durable may (λ t. first_ended (resolved_by e.all)) old new ⊎ LeavesAll durable may (λ t n d. first_forgotten n (ended (resolved_by e.all) d)) old new → IsLeftOf s F lasts
-        some e (inl first) = ended-left s F sound lasts (found-parts (λ t. first_ended (resolved F)) F old new kept many (subst (λ r. LeavesAll durable may (λ t. first_ended r) old new) (entries-resolve e.all e.entries) first) lasts found)
+        some e (inl first) = ended-left s F sound lasts (found-parts durable may (λ t. first_ended (resolved F)) F old new kept many (subst (λ r. LeavesAll durable may (λ t. first_ended r) old new) (entries-resolve e.all e.entries) first) lasts found)
         some e (inr all) =
             forgets-left s F sound lasts
-            (found-parts (λ t n d. first_forgotten n (ended (resolved F) d)) F old new kept many (subst (λ r. LeavesAll durable may (λ t n d. first_forgotten n (ended r d)) old new) (entries-resolve e.all e.entries) all) lasts found)
+            (found-parts durable may (λ t n d. first_forgotten n (ended (resolved F) d)) F old new kept many (subst (λ r. LeavesAll durable may (λ t n d. first_forgotten n (ended r d)) old new) (entries-resolve e.all e.entries) all) lasts found)
 
         by : EndsPartly durable may old new → IsLeftOf s F lasts
-        by (inl unchanged) = ended-left s F sound lasts (none (found-parts (λ t n d. d) F old new kept many unchanged lasts found))
+        by (inl unchanged) = ended-left s F sound lasts (none (found-parts durable may (λ t n d. d) F old new kept many unchanged lasts found))
         by (inr e) = some e e.left
 
     module _ (mid : List S) {T : Type 0} (x : T) (e : EndsAll durable state (Ok x) old mid) where
@@ -77,10 +67,10 @@ module _ {S : Type 0} (durable : S → Option Durable) (state : S → State) (ma
           left-then s F (map (λ d. forgotten (ended (resolved F) d)) F) lasts w (by part w.sound)
         where
           by : DropsPartly durable may s mid new → Sound (map (λ d. forgotten (ended (resolved F) d)) F) → IsLeftOf s (map (λ d. forgotten (ended (resolved F) d)) F) lasts
-          by (inl first) k = drops-left s (map (λ d. forgotten (ended (resolved F) d)) F) k (ends-done s F sound) lasts (found-parts _ (map (λ d. forgotten (ended (resolved F) d)) F) mid new ended-kept many first lasts found)
+          by (inl first) k = drops-left s (map (λ d. forgotten (ended (resolved F) d)) F) k (ends-done s F sound) lasts (found-parts durable may _ (map (λ d. forgotten (ended (resolved F) d)) F) mid new ended-kept many first lasts found)
           by (inr d) k =
               thaws-left s (map (λ d. forgotten (ended (resolved F) d)) F) k (ends-done s F sound) d.created lasts
               (λ g at.
               let y = at-within mid 0 (subst (λ n. 0 < n) ended-kept.many (slice_get_within (map (λ d. forgotten (ended (resolved F) d)) F) 0 g at)) in
               d.holds y.0 g y.1 (ended-kept.each 0 y.0 g y.1 at))
-              (found-parts _ (map (λ d. forgotten (ended (resolved F) d)) F) mid new ended-kept many d.left lasts found)
+              (found-parts durable may _ (map (λ d. forgotten (ended (resolved F) d)) F) mid new ended-kept many d.left lasts found)

@@ -37,7 +37,7 @@ one-more c rows r i = by (list_any (is_row_of c) rows) i
     by true i = inr i
     by false i = has-put cont_key (new_row c) rows r i
 
-rows-hold : (P : ContRow → Type 0) (new : (c : ContId) → P (new_row c)) (cs : List ContId) (rows : List ContRow) → All P rows → All P (with_conts cs rows)
+pub rows-hold : (P : ContRow → Type 0) (new : (c : ContId) → P (new_row c)) (cs : List ContId) (rows : List ContRow) → All P rows → All P (with_conts cs rows)
 rows-hold P new [] rows all = all
 rows-hold P new (c ∷ cs) rows all = rows-hold P new cs (with_cont c rows) (all-from_has P (with_cont c rows) (λ r i. by r (one-more c rows r i)))
   where

@@ -64,6 +64,13 @@ first_left_with xs n d = first_thawed (filter (is_other_than xs) d.snaps) n d
 abbrev pub only_parts : ℕ → (ℕ → Durable → Durable) → ℕ → ℕ → Durable → Durable
 only_parts t parts u = if u == t then parts else nothing
 
+-- ---- families
+
+-- Each target of a family keeps a part of a change of what its like kept.
+pub record AreParts (parts : ℕ → ℕ → Durable → Durable) (F G : List Durable) : Type 0 where
+  pub many : length G ≡ length F
+  pub each : (t : ℕ) (d g : Durable) → slice_get F t ≡ Some d → slice_get G t ≡ Some g → (n : ℕ) × (g ≡ parts t n d)
+
 -- ---- stores
 
 -- Whatever the next opening of a store finds comes of what it kept by a part of a change.

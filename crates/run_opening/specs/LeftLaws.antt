@@ -1,6 +1,6 @@
 -- What holds of targets that are changed one by one, so that what counts stays.
 use Rattle.std.specs.Prelude.{ℕ, zero, suc, ◌≡◌, ◌≢◌, ◌≤◌, ◌<◌, ◌+◌, ◌==◌, ◌&&◌, nat_lt, Bool, true, false, All, AllPairs, Contains, List, [], ◌∷◌, ◌++◌, filter, length, slice_get, Some, refl}
-use Rattle.std.proofs.Common.{sym, ◌∙◌, ap, subst}
+use Rattle.std.proofs.Common.{sym, ◌∙◌, ap, arith, subst}
 use Rattle.std.proofs.lemmas.Option.{slice_get_within}
 use Rattle.base_types.specs.declared.entry.Entry.{Entry}
 use Rattle.base_types.specs.declared.epoch.Epoch.{Epoch}
@@ -50,6 +50,12 @@ beside-as R Q [] [] b is = tt
 beside-as R Q [] (g ∷ G) b is = absurd b
 beside-as R Q (d ∷ F) [] b is = absurd b
 beside-as R Q (d ∷ F) (g ∷ G) b is = (is 0 d g refl refl b.0, beside-as R Q F G b.1 (λ t e h at bt. is (suc t) e h at bt))
+
+pub beside-from : (R : Durable → Durable → Type 0) (F G : List Durable) → length G ≡ length F → ((t : ℕ) (d g : Durable) → slice_get F t ≡ Some d → slice_get G t ≡ Some g → R d g) → Beside R F G
+beside-from R [] [] many each = tt
+beside-from R [] (g ∷ G) many each = absurd (omega (arith, many))
+beside-from R (d ∷ F) [] many each = absurd (omega (arith, many))
+beside-from R (d ∷ F) (g ∷ G) many each = (each 0 d g refl refl, beside-from R F G (omega (arith, many)) (λ t e h at bt. each (suc t) e h at bt))
 
 -- ---- what stays at each target
 
