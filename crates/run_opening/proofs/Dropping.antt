@@ -5,7 +5,6 @@ use Rattle.std.proofs.Common.{sym, ◌∙◌, ap, subst, arith, inl, inr}
 use Rattle.std.proofs.lemmas.List.{take_all}
 use Rattle.base_types.specs.declared.entry.Entry.{Entry}
 use Rattle.base_types.specs.declared.entry.Settle.TheVariants.{Forget}
-use Rattle.base_types.specs.declared.id.AttemptId.{AttemptId}
 use Rattle.base_types.specs.declared.script.Script.{Script}
 use Rattle.base_types.specs.declared.snapshot.Snap.{Snap}
 use Rattle.model_laws.specs.DecidedLaws.{has-all}

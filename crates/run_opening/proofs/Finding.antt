@@ -1,5 +1,5 @@
 -- What the next openings of stores find after an opening of all that was cut.
-use Rattle.std.specs.Prelude.{ℕ, ◌≡◌, ◌<◌, ◌⊎◌, List, length, map, slice_index_or, Option, Some, Ok}
+use Rattle.std.specs.Prelude.{◌≡◌, ◌<◌, ◌⊎◌, List, length, map, Option, Some, Ok}
 use Rattle.std.specs.Option.{option_map}
 use Rattle.std.proofs.Common.{sym, ◌∙◌, ap, subst, inl, inr}
 use Rattle.std.proofs.lemmas.Option.{slice_get_within}
@@ -19,7 +19,6 @@ use Rattle.run_opening.specs.SoundLaws.{at-mapped}
 use Rattle.run_opening.specs.Steps.{ended, forgotten, resolved_by}
 use Rattle.run_opening.proofs.Dropping.{drops-left, ended-left, ends-done, ends-left, forgets-left, thaws-left}
 use Rattle.run_opening.proofs.Leaving.{none-ended}
-use Rattle.run_opening.proofs.Walks.{there}
 use Rattle.run_opening.proofs.Whole.{all-resolved}
 
 module _ {S : Type 0} (durable : S → Option Durable) (state : S → State) (may : S → Durable → Type 0) where
