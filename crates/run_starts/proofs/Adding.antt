@@ -1,5 +1,6 @@
 -- Containers are added to the stores of all targets, one after another.
-use Rattle.std.specs.Prelude.{ℕ, zero, suc, ◌≡◌, ◌≤◌, ◌<◌, ◌+◌, Bool, true, false, nat_lt, List, [], ◌∷◌, length, slice_get, slice_index_or, slice_set, Option, Some, Ok, Err, if◌then◌else◌, refl}
+use Rattle.std.specs.Prelude.{ℕ, zero, suc, ◌≡◌, ◌≤◌, ◌<◌, ◌+◌, ◌⊎◌, Bool, true, false, nat_lt, List, [], ◌∷◌, length, slice_get, slice_index_or, slice_set, Option, Some, Result, Ok, Err, if◌then◌else◌, refl}
+use Rattle.std.specs.Option.{option_map}
 use Rattle.std.proofs.Common.{inl, inr, sym, ◌∙◌, ap, subst, arith}
 use Rattle.std.proofs.lemmas.Bool.{cases_eq, cases_lt}
 use Rattle.std.proofs.lemmas.Bool.Decides.{nat_tests}
@@ -12,6 +13,7 @@ use Rattle.daos_model.specs.Changes.{enlisted}
 use Rattle.model_laws.specs.Lists.{at-within}
 use Rattle.model_laws.specs.TargetLaws.{number_same, same_number}
 use Rattle.run_opening.specs.All.{AllRun, FromTo}
+use Rattle.run_opening.specs.Left.{Leaves, LeavesAll, LeavesAt, or_not}
 use Rattle.target_parts.specs.Parts.{Runs, StillRuns}
 use Rattle.target_parts.specs.Running.{runs_as, runs_call, runs_first}
 use Rattle.vos_store.specs.Answers.{IsManyShown, enlists}
@@ -19,7 +21,7 @@ use Rattle.vos_store.specs.Calls.{Answers, Makes, State, Turns}
 use Rattle.vos_store.specs.Refusals.{always_stop, enlist_open, enlist_stop}
 use Rattle.vos_store.specs.declared.refusal.EnlistNo.{EnlistNo}
 use Rattle.vos_store.specs.declared.refusal.EnlistNo.TheVariants as enlist
-use Rattle.world_base.specs.StepLaws.{set-is, set-there}
+use Rattle.world_base.specs.StepLaws.{set-here, set-is, set-there}
 use Rattle.run_starts.specs.declared.stop.StartStop.{StartStop}
 use Rattle.run_starts.specs.Calls.{AreFewWith, EnlistsAt, RunAll, WhyNotOpened, WithContainers}
 use Rattle.run_starts.specs.Stops.{is_fault_of, not_enlisted}
@@ -128,6 +130,25 @@ module _ {S : Type 0} (durable : S → Option Durable) (state : S → State) (cs
     why = why-not refusal answer many;
   })
 
+-- wherever the call is cut, its store has got them or not
+pub enlist-left : {S T E : Type 0} (durable : S → Option Durable) (state : S → State) (may : S → Durable → Type 0) → ((s : S) (d x : Durable) → (state s).stopped ≡ false → durable s ≡ Some d → may s x → x ≡ d)
+    → (cs : List ContId) (stores : List S) (t : ℕ) (z store : S) → t < length stores → AllRun state stores → (was : Bool) (stop : E → Bool) (result : Result T E)
+    → Makes was stop (enlisted cs) result (durable (slice_index_or stores t z)) (durable store) (may (slice_index_or stores t z)) (may store) → LeavesAt durable may t (or_not (enlisted cs)) stores (slice_set stores t store)
+enlist-left {S} durable state may steady cs stores t z store low run was stop result m x y at bt d g told found = by (m.left g (subst (λ w. may w g) (sym new) found))
+  where
+    old : slice_index_or stores t z ≡ x
+    old = same-at stores t (slice_index_or stores t z) x (at-read stores t z low) at
+
+    new : store ≡ y
+    new = same-at (slice_set stores t store) t store y (set-here stores t x store at) bt
+
+    kept : durable (slice_index_or stores t z) ≡ Some d
+    kept = ap durable old ∙ told
+
+    by : may (slice_index_or stores t z) g ⊎ ((was ≡ false) × (Some g ≡ option_map (enlisted cs) (durable (slice_index_or stores t z)))) → (n : ℕ) × (g ≡ or_not (enlisted cs) n d)
+    by (inl before) = (0, steady (slice_index_or stores t z) d g (run t (slice_index_or stores t z) (at-read stores t z low)) kept before)
+    by (inr made) = (1, let e : Some g ≡ Some (enlisted cs d) = made.1 ∙ ap (option_map (enlisted cs)) kept in cc)
+
 -- ---- all stores
 
 module _ {S : Type 0} (durable : S → Option Durable) (state : S → State) (cs : List ContId) where
@@ -142,6 +163,10 @@ module _ {S : Type 0} (durable : S → Option Durable) (state : S → State) (cs
     pub many : length now ≡ length old
     pub done : (t : ℕ) (x y : S) → t < n → slice_get old t ≡ Some x → slice_get now t ≡ Some y → IsAdded x y
     pub left : (t : ℕ) → n ≤ t → slice_get now t ≡ slice_get old t
+
+  -- its next opening finds it with them
+  added-leaves : (may : S → Durable → Type 0) → ((s : S) (d x : Durable) → (state s).stopped ≡ false → durable s ≡ Some d → may s x → x ≡ d) → (x y : S) → IsAdded x y → Leaves durable may (or_not (enlisted cs)) x y
+  added-leaves may steady x y a d g told found = (1, steady y (enlisted cs d) g a.runs.stops (a.added.made ∙ ap (option_map (enlisted cs)) told) found)
 
   pub none-added : (stores : List S) → AreAddedSoFar 0 stores stores
   none-added stores = record { many = refl; done = λ t x y low. absurd (omega (arith, low)); left = λ t high. refl }
@@ -209,6 +234,11 @@ module _ {S : Type 0} (durable : S → Option Durable) (state : S → State) (cs
         own = λ t is. let same = e.own t is in let many = k.many in omega (arith, same, many, low);
       }
 
+      pub left-err : (may : S → Durable → Type 0) → ((s : S) (d x : Durable) → (state s).stopped ≡ false → durable s ≡ Some d → may s x → x ≡ d) → LeavesAt durable may n (or_not (enlisted cs)) mid new → LeavesAll durable may (λ t. or_not (enlisted cs)) old new
+      left-err may steady l =
+          each-of (λ t x y. Leaves durable may (or_not (enlisted cs)) x y) (λ t x y apart a. added-leaves may steady x y a) (λ x at. l x e.store at (ap (λ l. slice_get l n) e.set ∙ set-here mid n x e.store at))
+          (λ t x apart at d g told found. (0, steady x d g (run t x at) told found))
+
       pub why-err : WhyNotOpened durable cs old why
       why-err = let many = k.many in e.why old (sym (k.left n (omega arith))) (omega (arith, many, low))
 
@@ -225,6 +255,9 @@ module _ {S : Type 0} (durable : S → Option Durable) (state : S → State) (cs
       still = λ t x y at to d told none. (each-added t x y at to).free;
       own = λ t. tt;
     }
+
+    pub left-ok : (may : S → Durable → Type 0) → ((s : S) (d x : Durable) → (state s).stopped ≡ false → durable s ≡ Some d → may s x → x ≡ d) → LeavesAll durable may (λ t. or_not (enlisted cs)) old now
+    left-ok may steady t x y at to = added-leaves may steady x y (each-added t x y at to)
 
     pub with-all : FromTo old now (λ t x y. WithContainers durable cs x y)
     with-all t x y at to = (each-added t x y at to).added

@@ -1,7 +1,7 @@
 -- Stores that are opened together for a run of a script.
-use Rattle.std.specs.Prelude.{ℕ, ◌≡◌, ◌≤◌, ◌<◌, ◌^◌, List, [], filter, length, slice_get, Option, Some, Result, Ok, Err, refl}
+use Rattle.std.specs.Prelude.{ℕ, ◌≡◌, ◌≤◌, ◌<◌, ◌^◌, false, List, [], ◌∷◌, filter, length, slice_get, Option, Some, Result, Ok, Err, refl}
 use Rattle.std.specs.Option.{option_map}
-use Rattle.std.proofs.Common.{sym, ◌∙◌, ap, subst, arith}
+use Rattle.std.proofs.Common.{inl, sym, ◌∙◌, ap, subst, arith}
 use Rattle.base_types.specs.declared.epoch.Epoch.{Epoch}
 use Rattle.base_types.specs.declared.id.ContId.{ContId}
 use Rattle.base_types.specs.declared.script.Script.{Script}
@@ -9,17 +9,22 @@ use Rattle.base_types.specs.Epochs.{restart_floor}
 use Rattle.daos_model.specs.declared.durable.Durable.{Durable}
 use Rattle.daos_model.specs.Changes.{enlisted}
 use Rattle.daos_model.specs.Durables.{IsInForm}
-use Rattle.daos_model.specs.Family.{greatest_lease}
+use Rattle.daos_model.specs.Family.{created_snaps, greatest_lease}
 use Rattle.daos_model.specs.Finals.{opening_of}
 use Rattle.daos_model.specs.FormLaws.{length-map}
+use Rattle.daos_model.specs.Sound.{Sound}
+use Rattle.model_laws.specs.Members.{Has, has-filter, has-from_filter}
 use Rattle.model_laws.specs.TargetLaws.{same_number}
 use Rattle.run_opening.specs.declared.stop.OpeningStop.{OpeningStop}
 use Rattle.run_opening.specs.declared.stop.OpeningStop.TheVariants as opening
-use Rattle.run_opening.specs.All.{AllRun, AreKept, FromTo, RunAll as OpeningRuns, is_fault_of as is_opening_fault}
+use Rattle.run_opening.specs.All.{AllRun, AreKept, FromTo, MayBeFound, RunAll as OpeningRuns, is_fault_of as is_opening_fault}
 use Rattle.run_opening.specs.Alike.{KeepsData, created-alike}
 use Rattle.run_opening.specs.BeginLaws.{runs-begin}
 use Rattle.run_opening.specs.EnlistLaws.{enlisting-form, enlisting-openings, enlisting-sound, opened-knows}
+use Rattle.run_opening.specs.EnlistLeft.{enlisting-left, found-parts}
 use Rattle.run_opening.specs.Laws.{AreFew}
+use Rattle.run_opening.specs.Left.{IsLeftOf, LeavesAll, or_not}
+use Rattle.run_opening.specs.LeftLaws.{left-then}
 use Rattle.run_opening.specs.Opened.{AreInForm, enlisted_family, keeps, lasting_snaps, opened, opened_family}
 use Rattle.run_opening.specs.SoundLaws.{at-mapped}
 use Rattle.run_opening.specs.StandLaws.{opened-leases}
@@ -31,7 +36,7 @@ use Rattle.world_ends.specs.Settled.{OpenTogether}
 use Rattle.world_whole.specs.Begins.{IsOpeningPlain, OpensWith, declared_conts}
 use Rattle.run_starts.specs.declared.stop.StartStop.{StartStop}
 use Rattle.run_starts.specs.Calls.{AreCovered, RunAll, WhyNotOpened, WithContainers}
-use Rattle.run_starts.specs.Starts.{AreOpened, BeginsAs, CanOpen, IsWhole, begun_family}
+use Rattle.run_starts.specs.Starts.{AreOpened, BeginsAs, CanOpen, IsWhole, MayOpenAgain, begun_family}
 use Rattle.run_starts.specs.Stops.{is_fault_of, not_opened, wanting}
 use Rattle.run_starts.proofs.Adding.{same-at, there}
 
@@ -144,6 +149,41 @@ module _ {S : Type 0} (durable : S → Option Durable) (state : S → State) whe
         let x = there B old t b.0 (sym kept.many) b.1 in
         let y = there old mid t x.0 many x.1 in
         subst (λ e. length e.conts ≤ 256) b.2 ((k t x.0 y.0 x.1 y.1).few b.0 (kept.each t x.0 b.0 x.1 b.1))
+
+-- ---- what the next openings find
+
+module _ {S : Type 0} (durable : S → Option Durable) (state : S → State) (may : S → Durable → Type 0) (s : Script) (cs : List ContId) (B : List Durable) (sound : Sound B) (old : List S) (kept : AreKept durable old B) where
+  -- containers were added at some targets
+  pub adding-left : (new : List S) → length new ≡ length old → LeavesAll durable may (λ t. or_not (enlisted cs)) old new → (lasts : List Durable) → MayBeFound may new lasts → IsLeftOf s B lasts
+  adding-left new many leaves lasts found = enlisting-left s cs B lasts sound (found-parts durable may (λ t. or_not (enlisted cs)) B old new kept many leaves lasts found)
+
+  -- no call was made
+  pub none-left : ((x : S) (d g : Durable) → (state x).stopped ≡ false → durable x ≡ Some d → may x g → g ≡ d) → AllRun state old → (lasts : List Durable) → MayBeFound may old lasts → IsLeftOf s B lasts
+  none-left steady run = adding-left old refl (λ t x y at to d g told found. (0, steady x d g (run t x at) told (subst (λ z. may z g) (same-at old t y x to at) found)))
+
+  -- they were added at all
+  pub added-left : IsLeftOf s B (enlisted_family cs B)
+  added-left = enlisting-left s cs B (enlisted_family cs B) sound (record {
+    many = length-map (enlisted cs) B;
+    each = λ t d g at bt. let e = at-mapped (enlisted cs) B t g bt in (1, sym e.2 ∙ ap (enlisted cs) (same-at B t e.0 d e.1 at));
+  })
+
+  pub then-left : (lasts : List Durable) → IsLeftOf s (enlisted_family cs B) lasts → IsLeftOf s B lasts
+  then-left lasts left = left-then s B (enlisted_family cs B) lasts added-left left
+
+none-of : {T : Type 0} (xs : List T) → ((x : T) → Has x xs → ⊥) → xs ≡ []
+none-of [] none = refl
+none-of (x ∷ xs) none = absurd (none x (inl refl))
+
+-- no snapshot lasts of what is left where none lasted before
+pub left-again : (s : Script) (B G : List Durable) → IsLeftOf s B G → MayOpenAgain B G
+left-again s B G left other none = record {
+  sound = left.sound;
+  unsnapped = none-of (lasting_snaps other G) (λ x i.
+      let j = has-from_filter (keeps other) (created_snaps G) x i in
+      let k : Has x (lasting_snaps other B) = has-filter (keeps other) (created_snaps B) x (left.snaps x j.0).0 j.1 in
+      let no : Has x [] = subst (Has x) none k in no);
+}
 
 -- ---- what a run begins with
 

@@ -18,6 +18,10 @@ pub record CanOpen (s : Script) (B : List Durable) : Type 0 where
   pub sound : Sound B
   pub unsnapped : lasting_snaps s B ≡ []
 
+-- what is left of this may be opened for each script for which this might have been
+abbrev pub MayOpenAgain : List Durable → List Durable → Type 0
+MayOpenAgain B G = (s : Script) → lasting_snaps s B ≡ [] → CanOpen s G
+
 -- what all targets keep that kept this, once the script's containers are added and they are opened together
 abbrev pub begun_family : Script → List Durable → List Durable
 begun_family s B = opened_family s (enlisted_family (declared_conts s) B)

@@ -1,6 +1,8 @@
 // The containers of a script are added to the stores of all targets.
 ghost use Rattle.std.specs.Prelude.{◌≡◌, ◌≤◌, ◌<◌, length, IfErr, IfOk, OnOk};
+ghost use Rattle.daos_model.specs.Changes.{enlisted};
 ghost use Rattle.run_opening.specs.All.{AllRun, FromTo};
+ghost use Rattle.run_opening.specs.Left.{LeavesAll, LeavesAt, or_not};
 ghost use Rattle.run_starts.specs.Calls.{EnlistsAt, RunAll, WhyNotOpened, WithContainers};
 ghost use Rattle.world_whole.specs.Begins.{declared_conts};
 
@@ -27,7 +29,8 @@ fn enlist_at<S: Store>(conts: &[ContId], stores: &mut [S], t: usize) -> Result<(
     requires few { length stores.old ≤ 64 }
     requires within { t < length stores.old }
     requires running { AllRun S.state stores.old }
-    ensures { EnlistsAt S.durable S.state conts.now t result stores.old stores.new }
+    ensures enlists { EnlistsAt S.durable S.state conts.now t result stores.old stores.new }
+    ensures left { LeavesAt S.durable S.may t (or_not (enlisted conts.now)) stores.old stores.new }
 {
     match stores[t].enlist(conts) {
         Ok(()) => Ok(()),
@@ -46,6 +49,7 @@ pub fn enlist_all<S: Store>(conts: &[ContId], stores: &mut [S]) -> Result<(), St
     ensures calls { RunAll S.durable S.state result stores.old stores.new }
     ensures enlisted { OnOk result (FromTo stores.old stores.new (λ t x y. WithContainers S.durable conts.now x y)) }
     ensures why { IfErr result (WhyNotOpened S.durable conts.now stores.old) }
+    ensures left { LeavesAll S.durable S.may (λ t. or_not (enlisted conts.now)) stores.old stores.new }
 {
     for t in 0..stores.len() {
         enlist_at(conts, stores, t)?;

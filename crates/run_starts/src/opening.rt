@@ -3,9 +3,10 @@ ghost use Rattle.std.specs.Prelude.{◌≡◌, ◌≤◌, ◌<◌, ◌^◌, ℕ,
 ghost use Rattle.base_types.specs.Epochs.{restart_floor};
 ghost use Rattle.daos_model.specs.declared.durable.Durable.{Durable};
 ghost use Rattle.daos_model.specs.Sound.{Sound};
-ghost use Rattle.run_opening.specs.All.{AllRun, AreKept};
+ghost use Rattle.run_opening.specs.All.{AllRun, AreKept, MayBeFound};
+ghost use Rattle.run_opening.specs.Left.{IsLeftOf};
 ghost use Rattle.run_starts.specs.Calls.{RunAll, WhyNotOpened};
-ghost use Rattle.run_starts.specs.Starts.{AreOpened, CanOpen, IsWhole};
+ghost use Rattle.run_starts.specs.Starts.{AreOpened, CanOpen, IsWhole, MayOpenAgain};
 ghost use Rattle.world_whole.specs.Begins.{declared_conts};
 
 use crate::enlisting::{conts_of, enlist_all};
@@ -29,6 +30,7 @@ fn open_together<S: Store>(
     ensures calls { RunAll S.durable S.state result stores.old stores.new }
     ensures why { IfErr result (WhyNotOpened S.durable (declared_conts script.now) stores.old) }
     ensures opened { (B : List Durable) → AreKept S.durable stores.old B → Sound B → OnOk result (IsWhole S.durable script.now B stores.new) }
+    ensures left { (B : List Durable) → AreKept S.durable stores.old B → Sound B → (lasts : List Durable) → MayBeFound S.may stores.new lasts → IsLeftOf script.now B lasts }
 {
     let conts = conts_of(alloc, script)?;
     enlist_all(&conts, stores)?;
@@ -40,7 +42,8 @@ fn open_together<S: Store>(
 
 /// The stores of all targets are opened for a run of a script: each gets the script's containers; then they
 /// are opened together, by which nothing is left to settle. The epoch is the greatest that a lease of theirs
-/// covers.
+/// covers. Whatever the next openings of the stores find, also where this one is cut, is sound, and stands for
+/// the same; and they may be opened for any script after which no snapshot would have lasted before.
 ///
 /// # Errors
 ///
@@ -59,6 +62,8 @@ pub fn open_stores<S: Store>(
     ensures why { IfErr result (WhyNotOpened S.durable (declared_conts script.now) stores.old) }
     ensures bounded { IfOk result (λ tracker. (lease : ℕ) × (lease < 2 ^ 56) × (tracker ≡ record { 0 = restart_floor lease })) }
     ensures opened { (B : List Durable) → AreKept S.durable stores.old B → IfOk result (AreOpened S.durable S.state script.now B stores.new) }
+    ensures left { (B : List Durable) → AreKept S.durable stores.old B → (lasts : List Durable) → MayBeFound S.may stores.new lasts → IsLeftOf script.now B lasts }
+    ensures again { (B : List Durable) → AreKept S.durable stores.old B → (lasts : List Durable) → MayBeFound S.may stores.new lasts → MayOpenAgain B lasts }
 {
     open_together(alloc, script, stores)?;
     Ok(tracker_of(stores))

@@ -4,7 +4,7 @@ use Rattle.base_types.specs.declared.epoch.Epoch.{Epoch}
 use Rattle.daos_model.specs.declared.durable.Durable.{Durable}
 use Rattle.daos_model.specs.Durables.{IsInForm}
 use Rattle.run_starts.specs.Calls.{RunAll}
-use Rattle.run_starts.proofs.Whole.{all-run, are-opened, low, run-err}
+use Rattle.run_starts.proofs.Whole.{all-run, are-opened, left-again, low, run-err}
 use Rattle.run_starts.proofs.opening.open_stores.Goals as goal
 
 pub returns-in_err-open_together-clause-calls : goal.returns-in_err-open_together-clause-calls
@@ -24,3 +24,15 @@ returns-clause-opened g c B kept =
     let few = low g.S.Store.durable g.S.Store.state c.args.script.now B c.args.stores.now c.open_together.new.stores c.requires.some kept formed can whole in
     are-opened g.S.Store.durable g.S.Store.state c.args.script.now B c.args.stores.now c.open_together.new.stores c.requires.some kept formed can whole c.tracker_of.result
     (c.tracker_of.ensures.lease _ whole.kept few) (c.tracker_of.ensures.covers _ whole.kept few)
+
+pub returns-in_err-open_together-clause-left : goal.returns-in_err-open_together-clause-left
+returns-in_err-open_together-clause-left g c B kept = c.in_err-open_together.ensures.left B kept (c.requires.sound B kept).sound
+
+pub returns-clause-left : goal.returns-clause-left
+returns-clause-left g c B kept = c.in_ok-open_together.ensures.left B kept (c.requires.sound B kept).sound
+
+pub returns-in_err-open_together-clause-again : goal.returns-in_err-open_together-clause-again
+returns-in_err-open_together-clause-again g c B kept lasts found = left-again c.args.script.now B lasts (c.in_err-open_together.ensures.left B kept (c.requires.sound B kept).sound lasts found)
+
+pub returns-clause-again : goal.returns-clause-again
+returns-clause-again g c B kept lasts found = left-again c.args.script.now B lasts (c.in_ok-open_together.ensures.left B kept (c.requires.sound B kept).sound lasts found)
