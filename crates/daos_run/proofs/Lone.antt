@@ -24,7 +24,8 @@ use Rattle.model_reports.specs.Rooms.{FindsRoom, HasRoom, OnlyTransactions, is_t
 use Rattle.daos_run.proofs.Begun.{lists-run}
 use Rattle.daos_run.specs.Alone.{IsOfLoneClient}
 use Rattle.daos_run.specs.Comes.{ComesFrom}
-use Rattle.run_targets.specs.Ends.{IsLegal, IsOutside, MayBeFound, TellsOfLoneClient, given_by, some-may_be, some_lasts}
+use Rattle.run_opening.specs.All.{MayBeFound}
+use Rattle.run_targets.specs.Ends.{IsLegal, IsOutside, TellsOfLoneClient, given_by, some-may_be, some_lasts}
 use Rattle.run_shows.specs.Going.{AreAlike, AreFindable}
 use Rattle.script_runnable.specs.Runnable.{IsRunnable, is_run}
 use Rattle.vos_store.specs.Calls.{State}

@@ -7,8 +7,8 @@ use Rattle.daos_model.specs.Durables.{empty_durable}
 use Rattle.daos_model.specs.Opening.{Given, Outside}
 use Rattle.daos_model.specs.Sound.{Sound}
 use Rattle.base_types.specs.declared.script.Script.{Script}
-use Rattle.run_targets.specs.Ends.{ComesTo, FollowsOrder, IsOutside, MayBeFound}
-use Rattle.run_opening.specs.All.{AreKept, FromTo}
+use Rattle.run_targets.specs.Ends.{ComesTo, FollowsOrder, IsOutside}
+use Rattle.run_opening.specs.All.{AreKept, FromTo, MayBeFound}
 use Rattle.run_shows.specs.Accounts.{IsServed}
 use Rattle.run_starts.specs.Starts.{CanOpen, begun_family}
 use Rattle.vos_store.specs.Calls.{State}

@@ -15,6 +15,7 @@ use Rattle.daos_model.specs.Sound.{Sound}
 use Rattle.daos_model.specs.Stops.{down_targets, least, stop_numbers}
 use Rattle.dtx_base.specs.Members.{has_target}
 use Rattle.report_writer.specs.Forms.{IsReportOf}
+pub use Rattle.run_opening.specs.All.{AreKept, MayBeFound}
 use Rattle.run_steps.specs.Ended.{CanReopen}
 use Rattle.run_turns.specs.Orders.{InOrder}
 use Rattle.script_runnable.specs.Keyed.{MapHasKeys, ScriptHasKeys}
@@ -51,16 +52,6 @@ pub record IsOutside {S : Type 0} (state : S → State) (o : Outside) (xs ys : L
   pub counts : (t : ℕ) (x y : S) (k : ℕ) → slice_get xs t ≡ Some x → slice_get ys t ≡ Some y → o.rises t ≡ Some k → ((state x).tells_fuse ≡ true) × ((state y).faults < 2 ^ 64 - 1) × ((state y).faults ≤ (state x).faults + k)
 
 -- ---- the stores in the end
-
--- the next openings of the targets' stores, in the order of their numbers, may find this
-pub record MayBeFound {S : Type 0} (may : S → Durable → Type 0) (ys : List S) (lasts : List Durable) : Type 0 where
-  pub many : length lasts ≡ length ys
-  pub each : (t : ℕ) (y : S) (d : Durable) → slice_get ys t ≡ Some y → slice_get lasts t ≡ Some d → may y d
-
--- the stores of the targets keep this
-pub record AreKept {S : Type 0} (durable : S → Option Durable) (ys : List S) (lasts : List Durable) : Type 0 where
-  pub many : length lasts ≡ length ys
-  pub each : (t : ℕ) (y : S) (d : Durable) → slice_get ys t ≡ Some y → slice_get lasts t ≡ Some d → durable y ≡ Some d
 
 -- a target keeps an entry of an attempt, and has committed it
 pub record IsCommittedIn (d : Durable) (x : AttemptId) : Type 0 where
