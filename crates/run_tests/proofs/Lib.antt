@@ -1,3 +1,4 @@
+pub mod Pairs
 pub mod Places
 pub mod Runs
 pub mod Spent

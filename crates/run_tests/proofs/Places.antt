@@ -4,12 +4,9 @@ use Rattle.std.proofs.Common.{suc, zero, sym, ◌∙◌, ap, subst, arith}
 use Rattle.daos_model.specs.declared.durable.Durable.{Durable}
 use Rattle.daos_run.specs.Slots.{AreSet, EachStore, HaveStores, IsAt}
 use Rattle.run_opening.specs.All.{AreKept}
+use Rattle.run_tests.specs.Pair.{told_by}
 use Rattle.vos_plain.specs.Plain.{plain_durable}
 use Rattle.vos_plain.specs.declared.store.PlainStore.{PlainStore}
-
--- it tells what it keeps
-abbrev pub told_by : PlainStore → Option Durable
-told_by store = Some (plain_durable store)
 
 -- what its next opening may find
 abbrev pub found_in : PlainStore → Durable → Type 0

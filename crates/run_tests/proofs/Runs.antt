@@ -1,5 +1,5 @@
 -- What a run leaves in the one store, and what it is once it is opened again.
-use Rattle.std.specs.Prelude.{ℕ, ◌≡◌, ◌≤◌, ◌+◌, ◌^◌, false, List, [], ◌∷◌, filter, replicate, slice_get, slice_set, Option, Some, None, ◌*◌, ◌-◌, refl}
+use Rattle.std.specs.Prelude.{ℕ, Bool, ◌≡◌, ◌≤◌, ◌+◌, ◌^◌, false, List, [], ◌∷◌, filter, replicate, slice_get, slice_set, Option, Some, None, ◌*◌, ◌-◌, refl}
 use Rattle.std.proofs.Common.{suc, zero, sym, ◌∙◌, ap, subst, arith}
 use Rattle.base_types.specs.declared.report.Report.{Report}
 use Rattle.base_types.specs.declared.script.Script.{Script}
@@ -18,7 +18,8 @@ use Rattle.run_opening.specs.UnusedLaws.{unused-sound}
 use Rattle.run_starts.specs.Starts.{CanOpen}
 use Rattle.run_targets.specs.Ends.{MayBeFound}
 use Rattle.run_tests.specs.Lone.{CanOpenAny, IsLeft, IsOver, IsReady}
-use Rattle.run_tests.proofs.Places.{found_in, kept-is, kept-one, one-has, only, same-some, told_by}
+use Rattle.run_tests.specs.Pair.{told_by}
+use Rattle.run_tests.proofs.Places.{found_in, kept-is, kept-one, one-has, only, same-some}
 use Rattle.vos_plain.specs.Plain.{new_state, plain_durable, plain_state}
 use Rattle.vos_plain.specs.declared.store.PlainStore.{PlainStore}
 
@@ -91,9 +92,9 @@ reopened-opens d k s =
     record { sound = so.sound; unsnapped = ap (filter (keeps s)) so.created ∙ (k s).unsnapped }
 
 module _ {C : Type 0} where
-  pub new-left : (parts slots : List (Option (PlainStore × C))) (store : PlainStore) (clock : C) → parts ≡ replicate 1 None → slots ≡ slice_set parts 0 (Some (store, clock)) → plain_durable store ≡ empty_durable 1 → plain_state store ≡ record (new_state (2 * 4096 - 1264)) { may_fail = false }
+  pub new-left : (parts slots : List (Option (PlainStore × C))) (store : PlainStore) (clock : C) (fails : Bool) → parts ≡ replicate 1 None → slots ≡ slice_set parts 0 (Some (store, clock)) → plain_durable store ≡ empty_durable 1 → plain_state store ≡ record (new_state (2 * 4096 - 1264)) { may_fail = fails }
       → IsOver IsReady slots
-  new-left parts slots store clock empty set durable state = record {
+  new-left parts slots store clock fails empty set durable state = record {
     store = store;
     clock = clock;
     is = set ∙ ap (λ ys. slice_set ys 0 (Some (store, clock))) empty;

@@ -1,5 +1,5 @@
 // One target, over whose store one script after another is run.
-ghost use Rattle.std.specs.Prelude.{◌≡◌, IfOk, OnOk};
+ghost use Rattle.std.specs.Prelude.{◌≡◌, ◌≤◌, IfOk, OnOk};
 ghost use Rattle.run_tests.specs.Lone.{IsLeft, IsOver, IsReady};
 ghost use Rattle.script_runnable.specs.Runnable.{IsRunnable};
 
@@ -10,6 +10,7 @@ use base_types::job::{Job, Task};
 use base_types::script::Script;
 use daos_run::parts::Parts;
 use daos_run::run_on::run_on;
+use daos_run::stop::RunStop;
 use daos_script::script::read_script;
 use report_writer::text::report_text;
 use script_runnable::runnable::runs;
@@ -29,7 +30,7 @@ pub enum LoneNo {
     #[error("no script that runs")]
     Script,
     #[error("no report")]
-    Run,
+    Run(RunStop),
     #[error("not opened again")]
     Open,
     #[error("out of memory")]
@@ -42,12 +43,16 @@ impl From<Memory> for LoneNo {
     }
 }
 
-/// An empty store, and a clock.
-pub fn new_parts<C: Clock + Drop>(alloc: Global, clock: C) -> Result<Parts<PlainStore, C>, LoneNo>
+/// An empty store, which the outside fails at the changes of a plan, and a clock.
+pub fn new_parts<C: Clock + Drop>(
+    alloc: Global,
+    clock: C,
+    plan: &[u32],
+) -> Result<Parts<PlainStore, C>, LoneNo>
     ensures { IfOk result (IsOver IsReady) }
 {
     let mut parts = Parts::new(alloc, 1)?;
-    let store = PlainStore::new(alloc, 2, &[])?;
+    let store = PlainStore::new(alloc, 2, plan)?;
     parts.set(0, store, clock);
     Ok(parts)
 }
@@ -66,10 +71,13 @@ pub fn spent_parts<C: Clock + Drop>(alloc: Global, clock: C) -> Result<Parts<Pla
     }
 }
 
-fn script_of(alloc: Global, text: &[u8]) -> Result<Script, LoneNo>
-    ensures { IfOk result (IsRunnable 1) }
+/// The script of a text, for so many targets.
+pub fn script_of(alloc: Global, text: &[u8], targets: u8) -> Result<Script, LoneNo>
+    requires some { 1 ≤ targets }
+    requires few { targets ≤ 64 }
+    ensures { IfOk result (IsRunnable targets) }
 {
-    match read_script(alloc, text, 1) {
+    match read_script(alloc, text, targets) {
         Ok(script) if runs(&script) => Ok(script),
         _ => Err(LoneNo::Script),
     }
@@ -85,19 +93,19 @@ pub fn report_of<R: Threads + Wait + Sync, C: Clock + Send>(
     requires ready { IsOver IsReady parts.old }
     ensures left { OnOk result (IsOver IsLeft parts.new) }
 {
-    let script = script_of(alloc, text)?;
+    let script = script_of(alloc, text, 1)?;
     let job = Job {
         task: Task::Run,
         targets: 1,
         size_mib: 2,
-        attempts: 8,
+        attempts: 12,
         epsilon: 0,
         threads: false,
         order: 0,
     };
     match run_on(rt, alloc, &job, &script, parts, &FreeGate) {
         Ok(report) => Ok(report_text(alloc, &report, &script)?),
-        Err(_) => Err(LoneNo::Run),
+        Err(stop) => Err(LoneNo::Run(stop)),
     }
 }
 
