@@ -8,6 +8,7 @@ ghost use Rattle.daos_run.specs.Slots.{AreFree, AreSet, ClocksAreRead, FusesAreG
 ghost use Rattle.daos_run.specs.Stops.{IsOpeningFault, MayStop};
 ghost use Rattle.model_reports.specs.Lone.{HasOneClient};
 ghost use Rattle.model_reports.specs.Rooms.{FindsRoom, HasRoom};
+ghost use Rattle.run_shows.specs.InTurn.{AllBeginInTurn};
 ghost use Rattle.run_targets.specs.Ends.{IsReportOfLines, TellsOfLoneClient};
 ghost use Rattle.run_opening.specs.All.{AreKept};
 ghost use Rattle.run_starts.specs.Starts.{CanOpen};
@@ -35,8 +36,8 @@ use vos_store::store::Fuse;
 /// left to settle. Fuses that are set are taken away; while the script runs, a store has those of its
 /// target's stop lines, one after another; in the end it has none. The stores and the clocks are set again at
 /// every ending, each at its place; a clock is then the one that was given, after so many readings. Where the
-/// stores tell nothing of what they keep, the report isn't bound; the run is safe, and errors are told as of
-/// any others.
+/// stores tell nothing of what they keep, the report is bound by the order of each client's attempts alone;
+/// the run is safe, and errors are told as of any others.
 ///
 /// The report names the least of the targets that were given up, if one was; the store of such a one is
 /// stopped.
@@ -69,6 +70,7 @@ pub fn run_on<R: Threads + Wait + Sync, S: Fuse + Send, C: Clock + Send, G: Gate
     ensures lone { (B : List Durable) → AreKept S.durable (stores_in parts.old) B → (free : ℕ → ℕ) → AreFree S.state parts.old free
         → HasOneClient script.now → script.now.stops ≡ [] → IfOk result (λ report. stop_numbers report.lines ≡ [] → TellsOfLoneClient (given script.now job.now B free) report) }
     ensures told { IfOk result (IsReportOfLines script.now) }
+    ensures in_turn { IfOk result (λ report. AllBeginInTurn job.now.attempts script.now report.lines) }
     ensures served { StoresAreServed S.durable S.state parts.old parts.new }
     ensures unfused { FusesAreGone S.state parts.new }
     ensures clocks { ClocksAreRead C.is_read parts.old parts.new }

@@ -8,6 +8,8 @@ pub mod Due
 pub mod Turned
 pub mod Openings
 pub mod Steps
+pub mod InTurn
+pub mod InTurnLaws
 pub mod Serving
 pub mod Parts
 pub mod Leading

@@ -12,7 +12,7 @@ use Rattle.run_watch.specs.Watches.{next_fuse, opening_tried}
 use Rattle.target_core.specs.Targets.{OpensAs, TargetOf}
 use Rattle.target_parts.specs.Parts.{Runs}
 use Rattle.target_parts.specs.Readings.{IsReadOn}
-use Rattle.target_parts.specs.Stops.{stop_foreign, stop_store}
+use Rattle.target_parts.specs.Stops.{IsSilent, stop_foreign, stop_store}
 use Rattle.target_parts.specs.declared.stop.TargetStop.{TargetStop}
 use Rattle.target_resync.specs.Openings.{IsBare, Left, Reopens, TellsRestart}
 use Rattle.vos_store.specs.Calls.{State}
@@ -89,6 +89,7 @@ module _ {S C : Type 0} (durable : S → Option Durable) (state : S → State) (
       pub plan : now.plan ≡ before.plan
       pub opened : now.opened ≡ true
       pub runs : Runs stop_store result (state before.store) (state now.store) (durable before.store) (durable now.store)
+      pub silent : IsSilent result
       pub clock : IsReadOn is_read before.clock now.clock
       pub posts : IfOk result (λ did. PostsInForm before.plan.targets before.memory.leader now.memory.leader did.posts)
       pub turned : IsTurned durable state may settling t number before now a.between left result

@@ -14,7 +14,7 @@ use Rattle.run_shows.specs.Turned.{AfterCut, IsTurned, followed, swept_stage, wi
 use Rattle.target_core.specs.Targets.{TargetOf}
 use Rattle.target_parts.specs.Parts.{Runs}
 use Rattle.target_parts.specs.Readings.{IsReadOn}
-use Rattle.target_parts.specs.Stops.{stop_store}
+use Rattle.target_parts.specs.Stops.{IsSilent, stop_store}
 use Rattle.target_parts.specs.declared.stop.TargetStop.{TargetStop}
 use Rattle.vos_store.specs.Calls.{State}
 use Rattle.world_base.specs.declared.did.Did.{Did}
@@ -41,10 +41,10 @@ heard-one (Ok did) n number c d b left l awake picked only turn = HeardOne l lef
 heard-one (Err e) n number c d b left l awake picked only turn = tt
 
 module _ {S C : Type 0} (durable : S → Option Durable) (state : S → State) (may : S → Durable → Type 0) (is_read : C → C → Type 0) (settling : Bool) (t number : ℕ) (x y : TargetOf S C) (left : BetweenNow) (said : Result Did TargetStop) (a b : StageNow S C)
-    (place : IsPlace a t x Running) (plan : y.plan ≡ x.plan) (opened : y.opened ≡ true) (runs : Runs stop_store said (state x.store) (state y.store) (durable x.store) (durable y.store)) (clock : IsReadOn is_read x.clock y.clock)
+    (place : IsPlace a t x Running) (plan : y.plan ≡ x.plan) (opened : y.opened ≡ true) (runs : Runs stop_store said (state x.store) (state y.store) (durable x.store) (durable y.store)) (silent : IsSilent said) (clock : IsReadOn is_read x.clock y.clock)
     (posts : IfOk said (λ did. PostsInForm x.plan.targets x.memory.leader y.memory.leader did.posts)) (turned : IsTurned durable state may settling t number x y a.between left said) where
   abbrev has-worked : HasWorked durable state may is_read settling t number a
-  has-worked = record { before = x; now = y; left = left; result = said; place = place; plan = plan; opened = opened; runs = runs; clock = clock; posts = posts; turned = turned }
+  has-worked = record { before = x; now = y; left = left; result = said; place = place; plan = plan; opened = opened; runs = runs; silent = silent; clock = clock; posts = posts; turned = turned }
 
   worked : WorkEnds durable state may t x y left a b said → TargetWorked durable state may is_read settling t number a b
   worked ends = record { work = has-worked; ends = ends }

@@ -10,7 +10,7 @@ ghost use Rattle.run_stage.specs.Now.{stage_now};
 ghost use Rattle.target_core.specs.Targets.{TargetOf};
 ghost use Rattle.target_parts.specs.Parts.{Runs};
 ghost use Rattle.target_parts.specs.Readings.{IsReadOn};
-ghost use Rattle.target_parts.specs.Stops.{stop_foreign, stop_store};
+ghost use Rattle.target_parts.specs.Stops.{IsSilent, stop_foreign, stop_store};
 ghost use Rattle.vos_store.specs.Refusals.{says};
 ghost use Rattle.world_base.specs.declared.letter.Letter.{Letter};
 ghost use Rattle.world_base.specs.declared.target.Life.{Life};
@@ -46,6 +46,7 @@ fn hear_or_idle<S: Store, C: Clock>(
     ensures runs { Runs stop_store result (S.state host.old.store) (S.state host.new.store) (S.durable host.old.store) (S.durable host.new.store) }
     ensures clock { IsReadOn C.is_read host.old.clock host.new.clock }
     ensures native { says stop_foreign result ≡ false }
+    ensures silent { IsSilent result }
     ensures posts { IfOk result (λ did. PostsInForm host.old.plan.targets host.old.memory.leader host.new.memory.leader did.posts) }
 {
     if between.count_to(target_id(t)) > 0 {

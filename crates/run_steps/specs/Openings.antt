@@ -12,13 +12,15 @@ use Rattle.run_shows.specs.Fitting.{Fits, few-numbers, fit-after_stop, fit-given
 use Rattle.run_shows.specs.Givings.{downs_after, fault-leads}
 use Rattle.run_shows.specs.Going.{AreAlike, AreFindable}
 use Rattle.run_shows.specs.Lettered.{followed-form}
+use Rattle.run_shows.specs.InTurn.{TellInTurn}
+use Rattle.run_shows.specs.InTurnLaws.{target-tells}
 use Rattle.run_shows.specs.Openings.{HasFuse}
 use Rattle.run_shows.specs.Parts.{IsTurnSo, is-set, set-same}
 use Rattle.run_shows.specs.Reopening.{failure-leads, opening-leads, set-twice}
 use Rattle.run_shows.specs.Serving.{each-pair, served-by-fuse, served-by-opening, served-on, served-one}
 use Rattle.run_shows.specs.Shows.{Leads}
 use Rattle.run_shows.specs.Stages.{IsPlace, StageNow}
-use Rattle.run_shows.specs.Steps.{NotOpened, Opened, OpeningEnds, TargetReopened}
+use Rattle.run_shows.specs.Steps.{NotOpened, Opened, OpeningEnds, Reopened, TargetReopened}
 use Rattle.run_shows.specs.Turned.{AfterFailure, AfterStop, ByForeign, ByStop, followed, given_up_stage, swept_stage}
 use Rattle.run_steps.specs.Going.{AllTell, GoesOn}
 use Rattle.run_steps.specs.Turning.{Counts, counts-none, turn-done}
@@ -112,10 +114,10 @@ module _ {S C : Type 0} (durable : S → Option Durable) (state : S → State) (
       down = λ e. let no : ⊥ = cc in absurd no;
     }
 
-    pub opened-goes : (settling : Bool) (number : ℕ) → GoesOn durable state may is_read (λ r. TurnOf settling r (target t) number) a opened-left
-    opened-goes settling number =
-        turn-done durable state may is_read a opened-left settling (target t) number 1 None None can leads findable alike opened-served opened-fits (omega arith) refl
-        (λ u p q here there tells. each-pair durable state is_read a.targets t x z place.there (λ v w s. Counts state a opened-left None None v w s) opened-counts
+    pub opened-goes : (settling : Bool) (number : ℕ) → ((r : Rules) → TellInTurn r a → TellInTurn r opened-left) → GoesOn durable state may is_read (λ r. TurnOf settling r (target t) number) a opened-left
+    opened-goes settling number tells =
+        turn-done durable state may is_read a opened-left settling (target t) number 1 None None can leads findable alike opened-served opened-fits (omega arith) refl tells
+        (λ u p q here there told. each-pair durable state is_read a.targets t x z place.there (λ v w s. Counts state a opened-left None None v w s) opened-counts
         (λ v w apart. counts-none state a opened-left None None v w refl (λ e. let no : ⊥ = cc in no) (fewer-lines t v a.watch.stops) (λ m h. h)) u p q here there)
       where
         leads : AllTell durable → (r : Rules) → Leads durable state may (IsTurnSo settling r (target t) number 1 None None) r a opened-left
@@ -146,15 +148,15 @@ module _ {S C : Type 0} (durable : S → Option Durable) (state : S → State) (
     few-of = few-numbers state can.rules can.simple a (fits-of durable state may a can) t x place.there
 
     -- its store stopped
-    pub failed-goes : (settling : Bool) (number : ℕ) (b : StageNow S C) → Left (may x.store) (may y.store) → AfterStop t (state x.store).faults (state y.store).faults failed-left b → GoesOn durable state may is_read (λ r. TurnOf settling r (target t) number) a b
-    failed-goes settling number b left after =
+    pub failed-goes : (settling : Bool) (number : ℕ) (b : StageNow S C) → Left (may x.store) (may y.store) → AfterStop t (state x.store).faults (state y.store).faults failed-left b → ((r : Rules) → TellInTurn r a → TellInTurn r b) → GoesOn durable state may is_read (λ r. TurnOf settling r (target t) number) a b
+    failed-goes settling number b left after tells =
         turn-done durable state may is_read a b settling (target t) number 1 None downs can
         (λ tell r. fault-leads durable state r t may settling number 1 (state x.store).faults (state y.store).faults None a failed-left b y failed-place
         (failure-leads durable state may r t x y a (opening_tried a.watch) place plan left (opens.free (tell x.store)) refl refl settling number) after)
         findable alike (subst (AreServed durable state is_read a.targets) (sym (after-targets t _ _ failed-left b after)) failed-served)
         (fit-after_stop state can.rules t (state x.store).faults (state y.store).faults failed-left b can.simple few-of failed-fits after)
-        (let same = after-openings t _ _ failed-left b after in omega (arith, same)) (ap length (after-clients t _ _ failed-left b after))
-        (λ u p q here there tells. each-pair durable state is_read a.targets t x y place.there (λ v w s. Counts state a b None downs v w s) its
+        (let same = after-openings t _ _ failed-left b after in omega (arith, same)) (ap length (after-clients t _ _ failed-left b after)) tells
+        (λ u p q here there told. each-pair durable state is_read a.targets t x y place.there (λ v w s. Counts state a b None downs v w s) its
         (λ v w apart. counts-none state a b None downs v w refl (λ e. apart (after-down t _ _ failed-left b after v e)) (let same = same-lines v in omega (arith, same)) (λ m h. after-others t _ _ failed-left b after v apart m h)) u p q here
         (subst (λ xs. slice_get xs u ≡ Some q) (after-targets t _ _ failed-left b after) there))
       where
@@ -174,11 +176,11 @@ module _ {S C : Type 0} (durable : S → Option Durable) (state : S → State) (
         }
 
     -- it isn't a store that was made here: then it doesn't tell what it keeps
-    pub foreign-goes : (settling : Bool) (number : ℕ) → (IsSome (durable x.store) → stop_foreign why ≡ false) → stop_foreign why ≡ true → GoesOn durable state may is_read (λ r. TurnOf settling r (target t) number) a (swept_stage (given_up_stage t failed-left))
-    foreign-goes settling number native is =
+    pub foreign-goes : (settling : Bool) (number : ℕ) → (IsSome (durable x.store) → stop_foreign why ≡ false) → stop_foreign why ≡ true → ((r : Rules) → TellInTurn r a → TellInTurn r (swept_stage (given_up_stage t failed-left))) → GoesOn durable state may is_read (λ r. TurnOf settling r (target t) number) a (swept_stage (given_up_stage t failed-left))
+    foreign-goes settling number native is tells =
         turn-done durable state may is_read a (swept_stage (given_up_stage t failed-left)) settling (target t) number 1 None None can (λ tell r. absurd (untold (tell x.store))) findable alike failed-served
-        (fit-swept state can.rules can.simple (given_up_stage t failed-left) (fit-given_up state can.rules can.simple failed-left failed-fits t few-of)) (omega arith) refl
-        (λ u p q here there tells. absurd (untold (alike p.store x.store tells)))
+        (fit-swept state can.rules can.simple (given_up_stage t failed-left) (fit-given_up state can.rules can.simple failed-left failed-fits t few-of)) (omega arith) refl tells
+        (λ u p q here there told. absurd (untold (alike p.store x.store told)))
       where
         untold : IsSome (durable x.store) → ⊥
         untold some = let off = native some in cc (off, is)
@@ -190,21 +192,24 @@ module _ {S C : Type 0} (durable : S → Option Durable) (state : S → State) (
   pub reopening-goes : TargetReopened durable state may t a b → GoesOn durable state may is_read (λ r. TurnOf settling r (target t) number) a b
   reopening-goes k = by k.ends
     where
+      tells : (r : Rules) → TellInTurn r a → TellInTurn r b
+      tells r = target-tells durable state may r a b t is_read settling number (Reopened k)
+
       by : OpeningEnds durable state may t k.was.before k.was.now (record a { targets = slice_set a.targets t k.was.now; watch = opening_tried a.watch }) b k.was.result → GoesOn durable state may is_read (λ r. TurnOf settling r (target t) number) a b
       by (Opened did is after) =
-          subst (λ s. GoesOn durable state may is_read (λ r. TurnOf settling r (target t) number) a s)
-          (ap (λ xs. swept_stage (record a { targets = xs; watch = opened_again t (fuse_set t (opening_tried a.watch)); between = followed (target t) did a.between })) (sym (set-twice a.targets t k.was.now after.armed)) ∙ sym after.after)
+          let same = ap (λ xs. swept_stage (record a { targets = xs; watch = opened_again t (fuse_set t (opening_tried a.watch)); between = followed (target t) did a.between })) (sym (set-twice a.targets t k.was.now after.armed)) ∙ sym after.after in
+          subst (λ s. GoesOn durable state may is_read (λ r. TurnOf settling r (target t) number) a s) same
           (opened-goes durable state may is_read findable alike a can t k.was.before k.was.now k.was.place k.was.few k.was.plan k.was.clock did after.armed
           (subst (λ q. Reopens q (state k.was.before.store) (state k.was.now.store) (durable k.was.before.store) (durable k.was.now.store)) is k.was.opens)
           (λ d told. subst (λ q. IfOk q (OpensAs k.was.before.plan a.watch.restarts (may k.was.before.store) (durable k.was.now.store) (state k.was.now.store) k.was.now.memory)) is (k.was.turn d told))
-          (subst (λ q. IfOk q (λ e. posted.Follows k.was.before.plan.targets k.was.now.memory.leader e.posts)) is k.was.posts) (k.was.opened ∙ ap is_ok is) after.fuse settling number)
+          (subst (λ q. IfOk q (λ e. posted.Follows k.was.before.plan.targets k.was.now.memory.leader e.posts)) is k.was.posts) (k.was.opened ∙ ap is_ok is) after.fuse settling number (λ r told. subst (TellInTurn r) (sym same) (tells r told)))
       by (NotOpened why is after) = ends after
         where
           opens : Reopens {T = Did} (Err why) (state k.was.before.store) (state k.was.now.store) (durable k.was.before.store) (durable k.was.now.store)
           opens = subst (λ q. Reopens q (state k.was.before.store) (state k.was.now.store) (durable k.was.before.store) (durable k.was.now.store)) is k.was.opens
 
           ends : AfterFailure t (state k.was.before.store).faults (state k.was.now.store).faults why (record a { targets = slice_set a.targets t k.was.now; watch = opening_tried a.watch }) b → GoesOn durable state may is_read (λ r. TurnOf settling r (target t) number) a b
-          ends (ByStop issued lines same stopped) = failed-goes durable state may is_read findable alike a can t k.was.before k.was.now k.was.place k.was.few k.was.plan k.was.clock why opens settling number b k.was.left stopped
+          ends (ByStop issued lines same stopped) = failed-goes durable state may is_read findable alike a can t k.was.before k.was.now k.was.place k.was.few k.was.plan k.was.clock why opens settling number b k.was.left stopped tells
           ends (ByForeign at byte same given_up) =
               subst (λ s. GoesOn durable state may is_read (λ r. TurnOf settling r (target t) number) a s) (sym given_up)
-              (foreign-goes durable state may is_read findable alike a can t k.was.before k.was.now k.was.place k.was.few k.was.plan k.was.clock why opens settling number (λ some. ap (says stop_foreign) (sym is) ∙ k.was.native some) (ap stop_foreign same))
+              (foreign-goes durable state may is_read findable alike a can t k.was.before k.was.now k.was.place k.was.few k.was.plan k.was.clock why opens settling number (λ some. ap (says stop_foreign) (sym is) ∙ k.was.native some) (ap stop_foreign same) (λ r told. subst (TellInTurn r) given_up (tells r told)))

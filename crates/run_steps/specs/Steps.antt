@@ -4,6 +4,8 @@ use Rattle.std.proofs.Common.{sym, ◌∙◌, ap, subst, arith}
 use Rattle.daos_model.specs.declared.durable.Durable.{Durable}
 use Rattle.run_shows.specs.CanGo.{CanGo, CanTurn}
 use Rattle.run_shows.specs.Going.{AreAlike, AreFindable, found-with, some-found}
+use Rattle.run_shows.specs.InTurn.{TellInTurn}
+use Rattle.run_shows.specs.InTurnLaws.{client-tells, target-tells}
 use Rattle.run_shows.specs.Parts.{target-there}
 use Rattle.run_shows.specs.Reopening.{choosing, chosen}
 use Rattle.run_shows.specs.Serving.{served-by-runs}
@@ -22,6 +24,7 @@ use Rattle.target_parts.specs.Stops.{stop_store}
 use Rattle.vos_store.specs.Calls.{State}
 use Rattle.vos_store.specs.Refusals.{says}
 use Rattle.world_base.specs.declared.target.Life.TheVariants.{Stopped}
+use Rattle.world_base.specs.Events.{Rules}
 use Rattle.world_base.specs.Letters.{client, target}
 use Rattle.world_hearable.specs.Covered.{IsCovered}
 use Rattle.world_hearable.specs.Runs.{runs-are-covered}
@@ -33,27 +36,33 @@ module _ {S C : Type 0} (durable : S → Option Durable) (state : S → State) (
     pub client-turn-goes : (n number : ℕ) → ClientTurned n number a b → (settling : Bool) → GoesOn durable state may is_read (λ r. TurnOf settling r (client n) number) a b
     client-turn-goes n number k settling = subst (λ s. GoesOn durable state may is_read (λ r. TurnOf settling r (client n) number) a s) (sym k.after) (by k.works)
       where
+        tells : (r : Rules) → TellInTurn r a → TellInTurn r (swept_stage (with_between (followed (client n) k.did k.left) (with_client_at n k.now a)))
+        tells r told = subst (TellInTurn r) k.after (client-tells r n number a b k told)
+
         by : ClientWorks n number k.before k.now a.between k.left k.did → GoesOn durable state may is_read (λ r. TurnOf settling r (client n) number) a (swept_stage (with_between (followed (client n) k.did k.left) (with_client_at n k.now a)))
         by (HeardOne l rest awake picked left turn) =
-            client-heard-done durable state may is_read findable alike a can n k.before k.now k.did k.left k.here k.plan (ap (λ q. q.asked) left) (ap (λ q. q.issued) left) (ap (λ q. q.lines) left) settling number l rest awake picked (ap (λ q. q.messages) left) turn
+            client-heard-done durable state may is_read findable alike a can n k.before k.now k.did k.left k.here k.plan (ap (λ q. q.asked) left) (ap (λ q. q.issued) left) (ap (λ q. q.lines) left) settling number l rest awake picked (ap (λ q. q.messages) left) turn tells
         by (WentOn none left turn) =
-            client-went-done durable state may is_read findable alike a can n k.before k.now k.did k.left k.here k.plan (ap (λ q. q.asked) left) (ap (λ q. q.issued) left) (ap (λ q. q.lines) left) settling number none (ap (λ q. q.messages) left) turn
+            client-went-done durable state may is_read findable alike a can n k.before k.now k.did k.left k.here k.plan (ap (λ q. q.asked) left) (ap (λ q. q.issued) left) (ap (λ q. q.lines) left) settling number none (ap (λ q. q.messages) left) turn tells
 
     module _ (settling : Bool) (t number : ℕ) where
       pub worked-goes : TargetWorked durable state may is_read settling t number a b → GoesOn durable state may is_read (λ r. TurnOf settling r (target t) number) a b
       worked-goes k = by k.ends
         where
+          tells : (r : Rules) → TellInTurn r a → TellInTurn r b
+          tells r = target-tells durable state may r a b t is_read settling number (Worked k)
+
           by : WorkEnds durable state may t k.work.before k.work.now k.work.left a b k.work.result → GoesOn durable state may is_read (λ r. TurnOf settling r (target t) number) a b
           by (Whole did is after) =
               subst (λ s. GoesOn durable state may is_read (λ r. TurnOf settling r (target t) number) a s) (sym after)
               (whole-done durable state may is_read findable alike a can t k.work.before k.work.now k.work.place k.work.plan (served-by-runs stop_store k.work.result (state k.work.before.store) (state k.work.now.store) (durable k.work.before.store) (durable k.work.now.store) k.work.runs) k.work.clock did k.work.left k.work.opened
               (subst (λ q. Runs stop_store q (state k.work.before.store) (state k.work.now.store) (durable k.work.before.store) (durable k.work.now.store)) is k.work.runs)
               (subst (λ q. IfOk q (λ d. PostsInForm k.work.before.plan.targets k.work.before.memory.leader k.work.now.memory.leader d.posts)) is k.work.posts) settling number (none-prunes durable state may a can t number)
-              (subst (IsTurned durable state may settling t number k.work.before k.work.now a.between k.work.left) is k.work.turned))
+              (subst (IsTurned durable state may settling t number k.work.before k.work.now a.between k.work.left) is k.work.turned) (λ r told. subst (TellInTurn r) after (tells r told)))
           by (Cut why is after) =
               let cut = is ∙ ap Err after.cut in
               cut-done durable state may is_read findable alike a can t k.work.before k.work.now k.work.place k.work.plan (served-by-runs stop_store k.work.result (state k.work.before.store) (state k.work.now.store) (durable k.work.before.store) (durable k.work.now.store) k.work.runs) k.work.clock k.work.left after.issued after.lines k.work.runs.fuse
-              (k.work.runs.cause (ap (says stop_store) cut)) b settling number (none-prunes durable state may a can t number) (subst (IsTurned durable state may settling t number k.work.before k.work.now a.between k.work.left) cut k.work.turned) after.after
+              (k.work.runs.cause (ap (says stop_store) cut)) b settling number (none-prunes durable state may a can t number) (subst (IsTurned durable state may settling t number k.work.before k.work.now a.between k.work.left) cut k.work.turned) after.after tells
 
       -- a target's turn
       pub target-turn-goes : TargetTurned durable state may is_read settling t number a b → GoesOn durable state may is_read (λ r. TurnOf settling r (target t) number) a b

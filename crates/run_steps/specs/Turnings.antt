@@ -20,6 +20,7 @@ use Rattle.run_shows.specs.Clients.{client-goes, client-hears}
 use Rattle.run_shows.specs.Fitting.{Fits, few-numbers, fit-after_stop, fit-swept, fit-target, fits-of}
 use Rattle.run_shows.specs.Givings.{downs_after, fault-leads}
 use Rattle.run_shows.specs.Going.{AreAlike, AreFindable}
+use Rattle.run_shows.specs.InTurn.{TellInTurn}
 use Rattle.run_shows.specs.Leading.{NonePrunes, turn-leads}
 use Rattle.run_shows.specs.Lettered.{AllInForm, InForm, asked-lost, followed-form, lost-form}
 use Rattle.run_shows.specs.ListLaws.{get-set, length-set}
@@ -81,26 +82,26 @@ module _ {S C : Type 0} (durable : S → Option Durable) (state : S → State) (
           between = followed-form (target_plan can.rules) (client n) did left (record { messages = letters; asked = λ l i. f.between.asked l (subst (Has l) asked i) }) (λ q i. clients-send-letters (target_plan can.rules) n q (posts q i));
         })
 
-    client-done : (settling : Bool) (number : ℕ) → ((r : Rules) → Leads durable state may (IsTurnSo settling r (client n) number 0 None None) r a client-left) → InForm (target_plan can.rules) left.messages → ClientPosts (target_plan can.rules) did.posts
+    client-done : (settling : Bool) (number : ℕ) → ((r : Rules) → Leads durable state may (IsTurnSo settling r (client n) number 0 None None) r a client-left) → InForm (target_plan can.rules) left.messages → ClientPosts (target_plan can.rules) did.posts → ((r : Rules) → TellInTurn r a → TellInTurn r client-left)
         → GoesOn durable state may is_read (λ r. TurnOf settling r (client n) number) a client-left
-    client-done settling number leads letters posts =
-        turn-done durable state may is_read a client-left settling (client n) number 0 None None can (λ tell. leads) findable alike (served-first durable state is_read a.targets) (client-fits letters posts) (omega arith) (length-set a.clients n d)
-        (λ t x y here there tells.
+    client-done settling number leads letters posts tells =
+        turn-done durable state may is_read a client-left settling (client n) number 0 None None can (λ tell. leads) findable alike (served-first durable state is_read a.targets) (client-fits letters posts) (omega arith) (length-set a.clients n d) tells
+        (λ t x y here there told.
         let same : x ≡ y = let e : Some x ≡ Some y = sym here ∙ there in cc in
         subst (Counts state a client-left None None t x) same (counts-none state a client-left None None t x refl (λ e. let no : ⊥ = cc in no) (omega arith) (λ m h. h)))
 
     -- it heard a message
-    pub client-heard-done : (settling : Bool) (number : ℕ) (l : Letter) (rest : List Letter) → c.state.skip ≡ 0 → IsPicked a.between.messages (client n) number l rest → left.messages ≡ rest → HearTurn c.plan c.state l.message did d.state → GoesOn durable state may is_read (λ r. TurnOf settling r (client n) number) a client-left
-    client-heard-done settling number l rest awake picked messages turn =
+    pub client-heard-done : (settling : Bool) (number : ℕ) (l : Letter) (rest : List Letter) → c.state.skip ≡ 0 → IsPicked a.between.messages (client n) number l rest → left.messages ≡ rest → HearTurn c.plan c.state l.message did d.state → ((r : Rules) → TellInTurn r a → TellInTurn r client-left) → GoesOn durable state may is_read (λ r. TurnOf settling r (client n) number) a client-left
+    client-heard-done settling number l rest awake picked messages turn tells =
         client-done settling number (λ r. client-hears durable state may r n c d a did left at plan asked issued lines settling number l rest awake picked messages turn)
         (λ m i. (fits-of durable state may a can).between.messages m (rest-among a.between.messages rest (client n) number l picked m (subst (Has m) messages i)))
-        (hearers-post-in-form can.rules n c.state d.state l.message did (plain can.rules can.simple) (subst (λ p. HearTurn p c.state l.message did d.state) (can.plans n c at) turn))
+        (hearers-post-in-form can.rules n c.state d.state l.message did (plain can.rules can.simple) (subst (λ p. HearTurn p c.state l.message did d.state) (can.plans n c at) turn)) tells
 
     -- it went on without one
-    pub client-went-done : (settling : Bool) (number : ℕ) → heard_awake c.state (count_to (client n) a.between.messages) ≡ 0 → left.messages ≡ a.between.messages → NextTurn c.plan c.state did d.state → GoesOn durable state may is_read (λ r. TurnOf settling r (client n) number) a client-left
-    client-went-done settling number none messages turn =
+    pub client-went-done : (settling : Bool) (number : ℕ) → heard_awake c.state (count_to (client n) a.between.messages) ≡ 0 → left.messages ≡ a.between.messages → NextTurn c.plan c.state did d.state → ((r : Rules) → TellInTurn r a → TellInTurn r client-left) → GoesOn durable state may is_read (λ r. TurnOf settling r (client n) number) a client-left
+    client-went-done settling number none messages turn tells =
         client-done settling number (λ r. client-goes durable state may r n c d a did left at plan asked issued lines settling number none messages turn) (λ m i. (fits-of durable state may a can).between.messages m (subst (Has m) messages i))
-        (clients-post-in-form can.rules n c.state d.state did (plain can.rules can.simple) (subst (λ p. NextTurn p c.state did d.state) (can.plans n c at) turn))
+        (clients-post-in-form can.rules n c.state d.state did (plain can.rules can.simple) (subst (λ p. NextTurn p c.state did d.state) (can.plans n c at) turn)) tells
 
 -- ---- after a store stopped
 
@@ -196,11 +197,11 @@ module _ {S C : Type 0} (durable : S → Option Durable) (state : S → State) (
         (followed-form (target_plan can.rules) (target t) did left letters
         (λ q i. targets-send-letters (target_plan can.rules) can.rules.script.targets t q (λ u. refl) (subst (λ n. TargetPosts n did.posts) (ap (λ p. p.targets) (can.made t x place.there)) sent.form q i))))
 
-    pub whole-done : (settling : Bool) (number : ℕ) → NonePrunes a.between t number → IsTurned durable state may settling t number x y a.between left (Ok did) → GoesOn durable state may is_read (λ r. TurnOf settling r (target t) number) a target-left
-    whole-done settling number no_prunes turned =
+    pub whole-done : (settling : Bool) (number : ℕ) → NonePrunes a.between t number → IsTurned durable state may settling t number x y a.between left (Ok did) → ((r : Rules) → TellInTurn r a → TellInTurn r target-left) → GoesOn durable state may is_read (λ r. TurnOf settling r (target t) number) a target-left
+    whole-done settling number no_prunes turned tells =
         turn-done durable state may is_read a target-left settling (target t) number 0 None None can
-        (λ tell r. turn-leads durable state r t x y a did place plan opened runs.opening runs.stops may settling number left no_prunes turned) findable alike (served-one durable state is_read a.targets t x y place.there served read) (target-fits (left-form left (turned-left settling number left (Ok did) turned))) (omega arith) refl
-        (λ u p q here there tells. each-pair durable state is_read a.targets t x y place.there (λ v z w. Counts state a target-left None None v z w) its
+        (λ tell r. turn-leads durable state r t x y a did place plan opened runs.opening runs.stops may settling number left no_prunes turned) findable alike (served-one durable state is_read a.targets t x y place.there served read) (target-fits (left-form left (turned-left settling number left (Ok did) turned))) (omega arith) refl tells
+        (λ u p q here there told. each-pair durable state is_read a.targets t x y place.there (λ v z w. Counts state a target-left None None v z w) its
         (λ v z apart. counts-none state a target-left None None v z refl (λ e. let no : ⊥ = cc in no) (omega arith) (λ m h. h)) u p q here there)
       where
         its : Counts state a target-left None None t x y
@@ -238,16 +239,16 @@ module _ {S C : Type 0} (durable : S → Option Durable) (state : S → State) (
         let set' : one_if (state x.store).fused ≡ 1 = ap one_if z.1 in
         inl (omega (arith, one, none, set'))
 
-    pub cut-done : (settling : Bool) (number : ℕ) → NonePrunes a.between t number → IsTurned durable state may settling t number x y a.between left (Err (stop.Store issued lines)) → AfterStop t (state x.store).faults (state y.store).faults cut-left c
+    pub cut-done : (settling : Bool) (number : ℕ) → NonePrunes a.between t number → IsTurned durable state may settling t number x y a.between left (Err (stop.Store issued lines)) → AfterStop t (state x.store).faults (state y.store).faults cut-left c → ((r : Rules) → TellInTurn r a → TellInTurn r c)
         → GoesOn durable state may is_read (λ r. TurnOf settling r (target t) number) a c
-    cut-done settling number no_prunes turned after =
+    cut-done settling number no_prunes turned after tells =
         turn-done durable state may is_read a c settling (target t) number 0 (Some t) downs can
         (λ tell r. fault-leads durable state r t may settling number 0 (state x.store).faults (state y.store).faults (Some t) a cut-left c y cut-place
         (cut-leads durable state r t x y a place plan issued lines may settling number left no_prunes turned) after)
         findable alike (subst (AreServed durable state is_read a.targets) (sym (after-targets t _ _ cut-left c after)) (served-one durable state is_read a.targets t x y place.there served read))
         (fit-after_stop state can.rules t (state x.store).faults (state y.store).faults cut-left c can.simple small (cut-fits (left-form left (turned-left settling number left (Err (stop.Store issued lines)) turned))) after)
-        (let same = after-openings t _ _ cut-left c after in omega (arith, same)) (ap length (after-clients t _ _ cut-left c after))
-        (λ u p q here there tells. each-pair durable state is_read a.targets t x y place.there (λ v z w. Counts state a c (Some t) downs v z w) its others u p q here (subst (λ xs. slice_get xs u ≡ Some q) (after-targets t _ _ cut-left c after) there))
+        (let same = after-openings t _ _ cut-left c after in omega (arith, same)) (ap length (after-clients t _ _ cut-left c after)) tells
+        (λ u p q here there told. each-pair durable state is_read a.targets t x y place.there (λ v z w. Counts state a c (Some t) downs v z w) its others u p q here (subst (λ xs. slice_get xs u ≡ Some q) (after-targets t _ _ cut-left c after) there))
       where
         downs : Option ℕ
         downs = downs_after t (state x.store).faults (state y.store).faults cut-left c after

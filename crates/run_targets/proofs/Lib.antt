@@ -2,3 +2,4 @@
 mod Setting
 mod Reading
 mod Runs
+mod Telling

@@ -1,6 +1,8 @@
 use Rattle.std.proofs.Common.{arith, subst, sym}
 use Rattle.run_loop.proofs.Turns.{few-targets}
 use Rattle.run_shows.specs.Accounts.{AreAccounted}
+use Rattle.run_shows.specs.InTurn.{AllBeginInTurn}
+use Rattle.run_shows.specs.InTurnLaws.{all-begin}
 use Rattle.run_stage.specs.Now.{stage_now}
 use Rattle.run_steps.specs.Ended.{HasRunWith, can-reopen, has-run, left-accounted, left_of}
 use Rattle.run_loop.proofs.order.run_in_order.Goals as goal
@@ -19,6 +21,11 @@ returns-in-Ok-clause-accounts g c h stops k =
     let last = c.go-went.new.stage in
     subst (λ lines. AreAccounted g.S.Store.durable g.S.Store.state h stops (left_of last.targets.items last.watch lines)) (sym c.into_lines-lines.ensures)
     (left-accounted g.S.Store.durable g.S.Store.state h stops (stage_now last) (c.in-Ok.ensures.goes.accounts h stops k))
+
+pub returns-in-Ok-clause-in_turn : goal.returns-in-Ok-clause-in_turn
+returns-in-Ok-clause-in_turn g c r k =
+    let last = stage_now c.go-went.new.stage in
+    subst (AllBeginInTurn r.attempts r.script) (sym c.into_lines-lines.ensures) (all-begin r last (c.in-Ok.ensures.goes.in_turn r k))
 
 pub returns-in-Ok-clause-reopens : goal.returns-in-Ok-clause-reopens
 returns-in-Ok-clause-reopens g c = can-reopen g.S.Store.durable g.S.Store.state g.S.Store.may g.met.S.Store.steady (stage_now c.go-went.new.stage) c.in-Ok.ensures.goes.going

@@ -1,4 +1,7 @@
 use Rattle.run_targets.proofs.Runs.{all-served, breaks-early, breaks-late, comes, goes, put-served, put-unfused}
+use Rattle.run_targets.proofs.Telling.{told-last}
+use Rattle.run_ends.specs.Starts.{given_by}
+use Rattle.world_ends.specs.Ends.{rules_of}
 use Rattle.run_targets.proofs.run.run_targets.Goals as goal
 
 pub returns-in-Err-clause-served : goal.returns-in-Err-clause-served
@@ -20,6 +23,12 @@ returns-in-Ok-ran-clause-comes g c o started told =
     comes g.S.Store.durable g.S.Store.state g.S.Store.may c.args.script.now c.args.job.now c.args.clients.items c.args.targets c.deref_mut-2.result.now c.arm.new.targets c.deref_mut-2.ensures.value c.in-Ok.watch c.arm.new.watch b.result c.as_slice.result.now c.arm.ensures c.as_slice.ensures c.in-Ok.ensures b.ensures.messages b.ensures.asked b.ensures.issued b.ensures.lines
     g.C.Clock.is_read ran.result.0 ran.result.1 c.deref_mut-3.result.now c.disarm-2.new.targets c.deref_mut-3.ensures.value c.disarm-2.ensures ran.ensures.served o started told ran.result.2 c.in-Ok-ran.lines c.in-Ok-ran.is g.met.S.Store.steady g.met.S.Store.findable g.met.S.Store.alike
     ran.ensures.run ran.ensures.accounts ran.ensures.reopens c.report_of.result c.report_of.ensures.report c.report_of.ensures.typed c.requires.most
+
+pub returns-in-Ok-ran-clause-in_turn : goal.returns-in-Ok-ran-clause-in_turn
+returns-in-Ok-ran-clause-in_turn g c =
+    let given = given_by c.args.script.now c.args.job.now c.requires.started.0 in
+    let ran = c.run_in_order-targets in
+    told-last g.S.Store.durable g.S.Store.state given _ c.args.targets.items c.requires.started.1 ran.result.2 c.in-Ok-ran.lines c.report_of.result c.new-2.ensures.lines (ran.ensures.in_turn (rules_of given)) c.in-Ok-ran.is c.report_of.ensures.report
 
 pub returns-in-Ok-ran-clause-served : goal.returns-in-Ok-ran-clause-served
 returns-in-Ok-ran-clause-served g c =

@@ -1,0 +1,37 @@
+-- Before a run nothing was told of its clients, and what is told in the end begins in turn.
+use Rattle.std.specs.Prelude.{ℕ, ◌≡◌, List, [], length, slice_get, Option, Some, None, Ok, IfOk, Result}
+use Rattle.std.proofs.Common.{sym, ◌∙◌, ap, subst}
+use Rattle.base_types.specs.declared.report.Line.{Line}
+use Rattle.base_types.specs.declared.report.Report.{Report}
+use Rattle.client_core.specs.Clients.{ClientNow}
+use Rattle.daos_model.specs.FormLaws.{length-map}
+use Rattle.daos_model.specs.Opening.{Given}
+use Rattle.daos_model.specs.declared.durable.Durable.{Durable}
+use Rattle.run_ends.specs.Comes.{report_with}
+use Rattle.run_ends.specs.Places.{from-map}
+use Rattle.run_ends.specs.Starts.{AreFirst, HaveStarted}
+use Rattle.run_shows.specs.InTurn.{AllBeginInTurn, TellInTurn}
+use Rattle.run_shows.specs.InTurnLaws.{tells-first}
+use Rattle.run_shows.specs.ListLaws.{map-get}
+use Rattle.run_shows.specs.Shows.{state_of}
+use Rattle.run_shows.specs.Stages.{StageNow}
+use Rattle.target_core.specs.Targets.{TargetOf}
+use Rattle.vos_store.specs.Calls.{State}
+use Rattle.world_ends.specs.Ends.{rules_of}
+use Rattle.world_whole.specs.Begins.{first_client}
+
+module _ {S C : Type 0} (durable : S → Option Durable) (state : S → State) (g : Given) (a : StageNow S C) (xs : List (TargetOf S C)) (started : HaveStarted durable state g a.clients xs) where
+  first : (n : ℕ) (c : ClientNow) → slice_get a.clients n ≡ Some c → (c.state.place ≡ 0) × (c.state.command ≡ 0) × (c.state.present ≡ None)
+  first n c at =
+      let x = from-map (first_client g.script g.opening) g.script.clients n c.state (ap (λ cs. slice_get cs n) (sym started.those.states) ∙ map-get state_of a.clients n c at) in
+      (ap (λ z. z.place) x.is, ap (λ z. z.command) x.is, ap (λ z. z.present) x.is)
+
+  -- nothing was told of clients before their first turns
+  pub told-first : a.between.lines ≡ [] → TellInTurn (rules_of g) a
+  told-first none =
+      tells-first (rules_of g) a started.simple.some_attempt (sym (length-map state_of a.clients) ∙ ap length started.those.states ∙ length-map (first_client g.script g.opening) g.script.clients) started.those.plans first none
+
+  -- and the report of a run tells of them in turn
+  pub told-last : {E : Type 0} (ran : Result (List Line) E) (lines : List Line) (report : Report) → a.between.lines ≡ [] → (TellInTurn (rules_of g) a → IfOk ran (AllBeginInTurn g.job.attempts g.script)) → ran ≡ Ok lines → report ≡ report_with g.script lines
+      → AllBeginInTurn g.job.attempts g.script report.lines
+  told-last ran lines report none all is same = subst (λ q. AllBeginInTurn g.job.attempts g.script q.lines) (sym same) (subst (λ q. IfOk q (AllBeginInTurn g.job.attempts g.script)) is (all (told-first none)))
