@@ -3,6 +3,8 @@ ghost use Rattle.std.specs.Prelude.{◌≡◌, ◌≤◌, ◌<◌, ◌+◌, true
 ghost use Rattle.base_types.specs.Operations.{read_path};
 ghost use Rattle.base_types.specs.Paths.{record_size};
 ghost use Rattle.base_types.specs.declared.answer.Answer.TheVariants.{Names};
+ghost use Rattle.base_types.specs.declared.operation.Read.TheVariants.{Single as single_read, Extent as extent_read};
+ghost use Rattle.base_types.specs.declared.path.Path.{Path as PathOf};
 ghost use Rattle.daos_model.specs.Answers.{answer};
 ghost use Rattle.daos_model.specs.Blocks.{write_blocks};
 ghost use Rattle.daos_model.specs.Durables.{version_key};
@@ -17,6 +19,7 @@ ghost use Rattle.vos_chain.specs.declared.refusal.PiecesNo.TheVariants.{Stopped 
 ghost use Rattle.vos_path.specs.Calls.{LacksFor, SpendsAtMost, for_pair};
 ghost use Rattle.vos_path.specs.Objects.{objects_owner, objects_versions};
 ghost use Rattle.vos_path.specs.Writes.{IsNewIn, NamesAreKeys, ObjectsAreSmall, below_object_pairs, data_blocks, is_update, object_pairs};
+ghost use Rattle.vos_reads.specs.Cost.{OfNames, StepsToExtents, StepsToSingle};
 ghost use Rattle.vos_reads.specs.Ways.{IsSettled};
 ghost use Rattle.vos_object.specs.Updates.{Added, IsWritable, is_value_read, listing, most_blocks, new_version};
 
@@ -143,6 +146,8 @@ impl Objects {
         requires names { NamesAreKeys (read_path read.now) }
         requires here { HasThing P.tells objects_owner hung_root (P.blocks pages.old) self.now.tree.root (IsSettled (read_path read.now) below) }
         ensures found { IfOk result (λ a. OfThing P.tells objects_owner hung_root (P.blocks pages.old) self.now.tree.root (λ g. IsSettled (read_path read.now) below g → a ≡ answer read.now (map_below (in_order version_key (objects_versions g)) below.0))) }
+        ensures single { (p : PathOf) → read.now ≡ single_read p → OfThing P.tells objects_owner hung_root (P.blocks pages.old) self.now.tree.root (λ g. OfNames p (λ o k a. StepsToSingle o k a g steps.old steps.new)) }
+        ensures extent { (p : PathOf) (low len : ℕ) → read.now ≡ extent_read p low len → OfThing P.tells objects_owner hung_root (P.blocks pages.old) self.now.tree.root (λ g. OfNames p (λ o k a. StepsToExtents low (low + len) o k a g steps.old steps.new)) }
         ensures kept { IsTrue P.tells → P.blocks pages.new ≡ P.blocks pages.old }
         ensures budget { P.budget pages.new ≡ P.budget pages.old }
         ensures goes { Goes P.stopped P.count P.burns pages.old pages.new }
