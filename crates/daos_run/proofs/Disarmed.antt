@@ -10,6 +10,7 @@ use Rattle.daos_run.specs.declared.stop.RunStop.TheVariants as stop
 use Rattle.daos_run.specs.Stops.{MayStop}
 use Rattle.run_shows.specs.Serving.{served-same}
 use Rattle.run_starts.specs.Calls.{AreTooMany}
+use Rattle.run_targets.specs.Ends.{one-there, same-lists}
 use Rattle.daos_run.specs.Slots.{AreAsBefore, AreFree, AreSet, ClocksStay, EachStore, FromTo, FusesAreGone, HasNoFuse, IsAt, IsDisarmed, StoresAreServed, stores_in}
 use Rattle.daos_run.proofs.Places.{at-low, in-place, store-at, stores-many}
 use Rattle.run_opening.specs.All.{AreKept}
@@ -179,3 +180,8 @@ module _ {S C : Type 0} (durable : S → Option Durable) (state : S → State) (
   again-gone gone t y to =
       let x = before.each t (at-low targets new k.set t y to) in
       subst (λ z. (state z.0).tells_fuse ≡ true → (state z.0).fused ≡ false) (sym (again t x.0 y x.1 to)) (gone t x.0 x.1)
+
+  pub again-stores : stores_in new ≡ stores_in old
+  again-stores = same-lists (stores_in new) (stores_in old) (stores-many targets new k.set ∙ sym (stores-many targets old before)) (λ t y x to at.
+      let p = in-place targets old before t x at in
+      one-there (stores_in new) t y p.pair.0 to (store-at targets new k.set t p.pair (k.same t p.pair p.at)) ∙ sym p.is)

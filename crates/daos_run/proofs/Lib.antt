@@ -5,6 +5,7 @@ pub mod Opened
 pub mod Disarmed
 pub mod Started
 pub mod Faults
+pub mod Broken
 pub mod Firsts
 pub mod Begun
 pub mod Whole

@@ -4,7 +4,9 @@ use Rattle.std.proofs.Common.{sym, ◌∙◌, ap, subst, arith}
 use Rattle.std.proofs.lemmas.Option.{slice_get_within}
 use Rattle.base_types.specs.declared.epoch.Epoch.{Epoch}
 use Rattle.base_types.specs.declared.id.ContId.{ContId}
+use Rattle.base_types.specs.declared.script.Script.{Script}
 use Rattle.daos_model.specs.declared.durable.Durable.{Durable}
+use Rattle.daos_model.specs.Sound.{Sound}
 use Rattle.daos_run.specs.declared.stop.RunStop.{RunStop}
 use Rattle.daos_run.specs.declared.stop.RunStop.TheVariants.{Memory as NoMemory}
 use Rattle.daos_run.specs.Slots.{AreApart, AreSet, AreSetBack, AreTaken, ClocksStay, EachStore, FromTo, IsAt, stores_in}
@@ -13,8 +15,11 @@ use Rattle.daos_run.proofs.Places.{at-low, store-at, stores-many}
 use Rattle.daos_run.proofs.Slots.{same-pair}
 use Rattle.model_laws.specs.Lists.{at-within}
 use Rattle.run_targets.specs.Ends.{one-there, same-lists}
-use Rattle.run_opening.specs.All.{AllRun, FromTo as ListsFromTo}
+use Rattle.run_opening.specs.All.{AllRun, AreKept, FromTo as ListsFromTo, MayBeFound}
+use Rattle.run_opening.specs.Left.{IsLeftOf}
+use Rattle.run_opening.specs.LeftLaws.{left-itself}
 use Rattle.run_starts.specs.Calls.{RunAll, WhyNotOpened}
+use Rattle.run_starts.specs.Starts.{MayOpenAgain}
 use Rattle.run_starts.specs.Stops.{is_fault_of as is_start_fault}
 use Rattle.run_starts.specs.declared.stop.StartStop.{StartStop}
 use Rattle.run_starts.specs.declared.stop.StartStop.TheVariants as start
@@ -125,3 +130,22 @@ module _ {S C : Type 0} (durable : S → Option Durable) (state : S → State) (
     free = same-from (λ t a b. (state a).free ≤ (state b).free) (λ t x at. omega arith);
     still = λ t x z at to. tt;
   })
+
+module _ {S C : Type 0} (durable : S → Option Durable) (state : S → State) (may : S → Durable → Type 0) (steady : (x : S) (d g : Durable) → (state x).stopped ≡ false → durable x ≡ Some d → may x g → g ≡ d)
+    (targets : ℕ) (old : List (Option (S × C))) (before : AreSet targets old) (run : EachStore (λ t store. (state store).stopped ≡ false) old) where
+  -- the next openings find what was kept
+  none-found : (B lasts : List Durable) → AreKept durable (stores_in old) B → MayBeFound may (stores_in old) lasts → B ≡ lasts
+  none-found B lasts kept found = same-lists B lasts (kept.many ∙ sym found.many) (λ t b g at to.
+      let p = before.each t (subst (λ n. t < n) (kept.many ∙ stores-many targets old before) (slice_get_within B t b at)) in
+      let there = store-at targets old before t p.0 p.1 in
+      sym (steady p.0.0 b g (run t p.0 p.1) (kept.each t p.0.0 b there at) (found.each t p.0.0 g there to)))
+
+  module _ (new : List (Option (S × C))) (is : new ≡ old) (B : List Durable) (kept : AreKept durable (stores_in old) B) (sound : Sound B) (lasts : List Durable) (found : MayBeFound may (stores_in new) lasts) where
+    same-found : B ≡ lasts
+    same-found = none-found B lasts kept (subst (λ l. MayBeFound may (stores_in l) lasts) is found)
+
+    pub none-left : (s : Script) → IsLeftOf s B lasts
+    none-left s = subst (IsLeftOf s B) same-found (left-itself s B sound)
+
+    pub none-again : MayOpenAgain B lasts
+    none-again = subst (MayOpenAgain B) same-found (λ other none. record { sound = sound; unsnapped = none })

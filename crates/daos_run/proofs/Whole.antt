@@ -1,6 +1,6 @@
 -- A run of targets that started over stores which were opened for it, from the clients' first turns to the report.
 use Rattle.std.specs.Prelude.{ℕ, ◌≡◌, ◌≤◌, ◌<◌, ◌+◌, ◌^◌, Bool, true, false, List, filter, length, map, slice_get, Option, Some, None, is_some, Ok, refl}
-use Rattle.std.proofs.Common.{sym, ◌∙◌, ap, subst, arith}
+use Rattle.std.proofs.Common.{inr, sym, ◌∙◌, ap, subst, arith}
 use Rattle.std.proofs.lemmas.Bool.{true≢false}
 use Rattle.std.proofs.lemmas.Option.{slice_get_within}
 use Rattle.client_core.specs.Clients.{ClientNow}
@@ -15,7 +15,8 @@ use Rattle.daos_model.specs.Family.{greatest_lease}
 use Rattle.daos_model.specs.Finals.{opening_of}
 use Rattle.daos_model.specs.FormLaws.{length-map}
 use Rattle.daos_model.specs.Opening.{Opening, Outside}
-use Rattle.daos_run.specs.Comes.{ComesFrom, IsOpenedFrom}
+use Rattle.daos_model.specs.Sound.{Sound}
+use Rattle.daos_run.specs.Comes.{BreaksOff, ComesFrom, IsOpenedFrom}
 use Rattle.daos_run.specs.Opens.{AreFirst, CanStart, MayRun, given}
 use Rattle.daos_run.specs.Slots.{AreBack, AreFree, AreSet, EachStore, FromTo, HasNoFuse, HaveStores, IsAt, stores_in}
 use Rattle.daos_run.specs.Starts.{AreStarted, StartsOver}
@@ -25,8 +26,9 @@ use Rattle.daos_run.proofs.Disarmed.{kept-from, unfused-free, unfused-may_run, u
 use Rattle.daos_run.proofs.Places.{at-low, in-place, store-at, stores-back, stores-many}
 use Rattle.daos_run.proofs.Slots.{same-pair}
 use Rattle.model_laws.specs.Lists.{at-within}
+use Rattle.run_ends.specs.Comes.{BreaksOffSo}
 use Rattle.run_targets.specs.Ends.{AllTell, ComesTo, HaveStarted, IsOutside, from-map, given_by, one-there, same-lists, stores_of}
-use Rattle.run_opening.specs.All.{AreKept, FromTo as ListsFromTo}
+use Rattle.run_opening.specs.All.{AreKept, FromTo as ListsFromTo, MayBeFound}
 use Rattle.run_opening.specs.EnlistLaws.{enlisting-sound}
 use Rattle.run_opening.specs.Opened.{enlisted_family, keeps}
 use Rattle.run_opening.specs.SoundLaws.{opened-sound}
@@ -265,3 +267,16 @@ module _ {S C : Type 0} (durable : S → Option Durable) (state : S → State) (
             let again = (ends-so L free q c).sound (begun_family s F) (record { many = begun.many; each = begun.each }) (opened-sound s (enlisted_family (declared_conts s) F) (enlisting-sound (declared_conts s) F sound)) lasts found in
             record { sound = again.sound; unsnapped = ap (filter (keeps other)) again.unsnapped };
       }
+
+      -- it broke off
+      pub break-off : (L : List Durable) (free : ℕ → ℕ) → AreKept durable (stores_in old) L → Sound L → BreaksOffSo durable may (given s j L free) (stores_of xs) (stores_of ys)
+          → (lasts : List Durable) → MayBeFound may (stores_in new) lasts → BreaksOff (given s j L free) L lasts
+      break-off L free k sound b lasts found =
+          let there = subst (λ l. MayBeFound may l lasts) (sym (stores-back j.targets ys slots new after (many ∙ A.many) B)) found in
+          let begun = subst (λ l. AreKept durable l (begun_family s L)) (sym their-stores) (O L (now-kept L k)).kept in
+          let again = b.sound (begun_family s L) begun (opened-sound s (enlisted_family (declared_conts s) L) (enlisting-sound (declared_conts s) L sound)) lasts there in
+          record {
+            stand = inr (b.stand lasts there);
+            sound = again.sound;
+            opens = λ other none. record { sound = again.sound; unsnapped = ap (filter (keeps other)) again.unsnapped };
+          }

@@ -1,5 +1,5 @@
 -- What a run comes to from stores that are opened for it.
-use Rattle.std.specs.Prelude.{ℕ, ◌≡◌, ◌≤◌, slice_get, List, [], length, Option, Some}
+use Rattle.std.specs.Prelude.{ℕ, ◌≡◌, ◌≤◌, ◌⊎◌, slice_get, List, [], length, Option, Some}
 use Rattle.base_types.specs.declared.report.Report.{Report}
 use Rattle.daos_model.specs.declared.durable.Durable.{Durable}
 use Rattle.daos_model.specs.Changes.{enlisted}
@@ -9,10 +9,12 @@ use Rattle.daos_model.specs.Sound.{Sound}
 use Rattle.base_types.specs.declared.script.Script.{Script}
 use Rattle.run_targets.specs.Ends.{ComesTo, FollowsOrder, IsOutside}
 use Rattle.run_opening.specs.All.{AreKept, FromTo, MayBeFound}
+use Rattle.run_opening.specs.Left.{IsLeftOf}
 use Rattle.run_shows.specs.Accounts.{IsServed}
-use Rattle.run_starts.specs.Starts.{CanOpen, begun_family}
+use Rattle.run_starts.specs.Starts.{CanOpen, MayOpenAgain, begun_family}
 use Rattle.vos_store.specs.Calls.{State}
 use Rattle.world_base.specs.declared.target.TargetState.{TargetState}
+use Rattle.world_legal.specs.closing.Closing.{StandsForResolved}
 use Rattle.world_whole.specs.Begins.{declared_conts}
 
 -- a store once it was opened for a run: it had calls, by which it has no fewer free blocks, and as many where it kept no entries
@@ -32,6 +34,14 @@ pub record ComesFrom {S : Type 0} (durable : S → Option Durable) (state : S �
   pub since : (o : Outside) → IsOutside state o old new → IsOutside state o opened new
   pub comes : ComesTo durable state may g opened new q
   pub sound : (B : List Durable) → AreKept durable old B → Sound B → (lasts : List Durable) → MayBeFound may new lasts → (s : Script) → CanOpen s lasts
+
+-- What the next openings find, of stores that kept B, after a run that gives no report. Either its opening came to no more than a part of what an opening
+-- leaves, and that stands for what B stood for; or the run broke off, and it stands for the opening and the attempts that are resolved there. It is sound
+-- together, and may be opened for each script for which B might have been.
+pub record BreaksOff (g : Given) (B lasts : List Durable) : Type 0 where
+  pub stand : IsLeftOf g.script B lasts ⊎ StandsForResolved g.script g.opening lasts
+  pub sound : Sound lasts
+  pub opens : MayOpenAgain B lasts
 
 -- A report over regions of zeros tells of the turns in the order asked, from where each target keeps the script's containers alone and was opened once.
 pub record FollowsFromZeros (g : Given) (q : Report) : Type 0 where

@@ -6,8 +6,9 @@ ghost use Rattle.daos_model.specs.declared.durable.Durable.{Durable};
 ghost use Rattle.daos_run.specs.Opens.{AreFirst};
 ghost use Rattle.daos_run.specs.Slots.{AreSet, EachStore, stores_in};
 ghost use Rattle.daos_run.specs.Stops.{ArePartsCalled, MayStop, stopped_by};
-ghost use Rattle.run_opening.specs.All.{AreKept};
-ghost use Rattle.run_starts.specs.Starts.{AreOpened, CanOpen};
+ghost use Rattle.run_opening.specs.All.{AreKept, MayBeFound};
+ghost use Rattle.run_opening.specs.Left.{IsLeftOf};
+ghost use Rattle.run_starts.specs.Starts.{AreOpened, CanOpen, MayOpenAgain};
 ghost use Rattle.world_whole.specs.Begins.{declared_conts};
 
 use crate::apart::{set_back, take_all};
@@ -40,7 +41,9 @@ fn stop_of(stop: StartStop) -> RunStop
 }
 
 /// The stores of all targets are opened for a run of a script; each is in its place again, with its clock,
-/// at every ending. The epoch is the greatest that a lease of theirs covers.
+/// at every ending. The epoch is the greatest that a lease of theirs covers. Whatever their next openings find,
+/// also where this one is cut, is sound, and stands for the same; and they may be opened for any script after
+/// which no snapshot would have lasted before.
 ///
 /// # Errors
 ///
@@ -60,6 +63,8 @@ pub fn open_parts<S: Store, C: Clock>(
     ensures refusals { IfErr result (MayStop S.durable (declared_conts script.now) targets (stores_in parts.old)) }
     ensures bounded { IfOk result (λ tracker. (lease : ℕ) × (lease < 2 ^ 56) × (tracker ≡ record { 0 = restart_floor lease })) }
     ensures opened { (B : List Durable) → AreKept S.durable (stores_in parts.old) B → IfOk result (AreOpened S.durable S.state script.now B (stores_in parts.new)) }
+    ensures left { (B : List Durable) → AreKept S.durable (stores_in parts.old) B → (lasts : List Durable) → MayBeFound S.may (stores_in parts.new) lasts → IsLeftOf script.now B lasts }
+    ensures again { (B : List Durable) → AreKept S.durable (stores_in parts.old) B → (lasts : List Durable) → MayBeFound S.may (stores_in parts.new) lasts → MayOpenAgain B lasts }
 {
     let (mut stores, clocks) = take_all(alloc, parts, targets)?;
     let opened = open_stores(alloc, script, &mut stores);

@@ -2,7 +2,7 @@
 ghost use Rattle.std.specs.Prelude.{◌≡◌, ◌≤◌, ℕ, List, [], IfErr, IfOk};
 ghost use Rattle.daos_model.specs.declared.durable.Durable.{Durable};
 ghost use Rattle.daos_model.specs.Stops.{stop_numbers};
-ghost use Rattle.daos_run.specs.Comes.{ComesFrom};
+ghost use Rattle.daos_run.specs.Comes.{BreaksOff, ComesFrom};
 ghost use Rattle.daos_run.specs.Opens.{MayRun, given};
 ghost use Rattle.daos_run.specs.Slots.{AreFree, AreSet, ClocksAreRead, FusesAreGone, HaveStores, StoresAreServed, stores_in};
 ghost use Rattle.daos_run.specs.Stops.{IsOpeningFault, MayStop};
@@ -10,7 +10,7 @@ ghost use Rattle.model_reports.specs.Lone.{HasOneClient};
 ghost use Rattle.model_reports.specs.Rooms.{FindsRoom, HasRoom};
 ghost use Rattle.run_shows.specs.InTurn.{AllBeginInTurn};
 ghost use Rattle.run_targets.specs.Ends.{IsReportOfLines, TellsOfLoneClient};
-ghost use Rattle.run_opening.specs.All.{AreKept};
+ghost use Rattle.run_opening.specs.All.{AreKept, MayBeFound};
 ghost use Rattle.run_starts.specs.Starts.{CanOpen};
 ghost use Rattle.script_runnable.specs.Runnable.{IsRunnable};
 ghost use Rattle.world_whole.specs.Begins.{declared_conts};
@@ -47,7 +47,8 @@ use vos_store::store::Fuse;
 /// `RackFault` of a target where its store stopped while it was opened for the script, which is only
 /// where the outside failed it in this call, or, of a store that doesn't tell its fuse, where a fuse did;
 /// `Memory`; and `Shape` where a store has no place for the script's containers, which are more than 256
-/// with its own.
+/// with its own. Whatever the next openings of the stores find then is sound, and may be opened again; it stands
+/// for what the stores stood for, or for that and the attempts that are resolved there.
 pub fn run_on<R: Threads + Wait + Sync, S: Fuse + Send, C: Clock + Send, G: Gate + Sync>(
     rt: &R,
     alloc: Global,
@@ -65,6 +66,8 @@ pub fn run_on<R: Threads + Wait + Sync, S: Fuse + Send, C: Clock + Send, G: Gate
     requires sound { (B : List Durable) → AreKept S.durable (stores_in parts.old) B → CanOpen script.now B }
     ensures comes { (B : List Durable) → AreKept S.durable (stores_in parts.old) B → (free : ℕ → ℕ) → AreFree S.state parts.old free → IfOk result
         (ComesFrom S.durable S.state S.may (given script.now job.now B free) (stores_in parts.old) (stores_in parts.new)) }
+    ensures broke { (B : List Durable) → AreKept S.durable (stores_in parts.old) B → (free : ℕ → ℕ) → AreFree S.state parts.old free → IfErr result
+        (λ stop. (lasts : List Durable) → MayBeFound S.may (stores_in parts.new) lasts → BreaksOff (given script.now job.now B free) B lasts) }
     ensures room { (B : List Durable) → AreKept S.durable (stores_in parts.old) B → (free : ℕ → ℕ) → AreFree S.state parts.old free
         → HasRoom script.now job.now.attempts free → IfOk result FindsRoom }
     ensures lone { (B : List Durable) → AreKept S.durable (stores_in parts.old) B → (free : ℕ → ℕ) → AreFree S.state parts.old free

@@ -5,11 +5,14 @@ use Rattle.daos_model.specs.Finals.{opening_of}
 use Rattle.daos_run.specs.Opens.{given}
 use Rattle.daos_run.specs.Slots.{stores_in}
 use Rattle.daos_run.specs.Stops.{IsOpeningFault, MayStop}
-use Rattle.daos_run.proofs.Disarmed.{again-clocks, again-gone, again-served, all-gone, all-run-on, all-served, kept-on, may-stop-before}
+use Rattle.daos_run.proofs.Broken.{left-off, whatever-stopped}
+use Rattle.daos_run.proofs.Disarmed.{again-clocks, again-gone, again-served, again-stores, all-gone, all-run-on, all-served, kept-from, kept-on, may-stop-before}
 use Rattle.daos_run.proofs.Faults.{calls-gone, calls-served, opening-fault, read-through, served-through, stay-read}
 use Rattle.daos_run.proofs.Lone.{finds-room, tells-of-lone-client}
 use Rattle.daos_run.proofs.Started.{all-set, run-gone, run-read, run-served}
-use Rattle.daos_run.proofs.Whole.{all-tell, can-start, come-from, may-start, started, told-first}
+use Rattle.daos_run.proofs.Whole.{all-tell, break-off, can-start, come-from, may-start, started, told-first}
+use Rattle.run_ends.specs.Comes.{BreaksOffSo}
+use Rattle.run_opening.specs.All.{MayBeFound}
 use Rattle.run_targets.specs.Ends.{ComesTo, stores_of}
 use Rattle.world_whole.specs.Begins.{declared_conts}
 use Rattle.daos_run.proofs.run_on.run_on.Goals as goal
@@ -44,6 +47,12 @@ returns-in_err-tracker-clause-refusals g c =
     let is : c.from_residual.result ≡ Err c.in_err-tracker.field-0.0 = search rules in
     subst (λ r. IfErr r (MayStop g.S.Store.durable (declared_conts c.args.script.now) c.args.job.now.targets (stores_in c.args.parts.now))) (sym is) (may-stop-before g.S.Store.durable g.S.Store.state g.S.Store.may c.args.job.now.targets c.args.parts.now c.disarm.new.parts c.requires.stores.set c.disarm.ensures.set c.disarm.ensures.fuses (declared_conts c.args.script.now) c.in_err-tracker.field-0.0 c.in_err-tracker.ensures.refusals)
 
+pub returns-in_err-tracker-clause-broke : goal.returns-in_err-tracker-clause-broke
+returns-in_err-tracker-clause-broke g c B kept free room =
+    let mid = kept-from g.S.Store.durable g.S.Store.state g.S.Store.may c.args.job.now.targets c.args.parts.now c.disarm.new.parts c.requires.stores.set c.disarm.ensures.set c.disarm.ensures.fuses B kept in
+    whatever-stopped g.S.Store.may (given c.args.script.now c.args.job.now B free) B (stores_in c.open_parts.new.parts) c.from_residual.result (λ lasts found.
+    left-off (given c.args.script.now c.args.job.now B free) B lasts (c.in_err-tracker.ensures.left B mid lasts found) (c.in_err-tracker.ensures.again B mid lasts found))
+
 pub returns-in_err-clients-clause-served : goal.returns-in_err-clients-clause-served
 returns-in_err-clients-clause-served g c =
     served-through g.S.Store.durable g.S.Store.state c.args.job.now.targets c.args.parts.now c.disarm.new.parts c.open_parts.new.parts c.requires.stores.set c.disarm.ensures.set (all-served g.S.Store.durable g.S.Store.state g.S.Store.may c.args.job.now.targets c.args.parts.now c.disarm.new.parts c.requires.stores.set c.disarm.ensures.set c.disarm.ensures.fuses) (calls-served {T = Epoch} g.S.Store.durable g.S.Store.state c.args.job.now.targets c.disarm.new.parts c.open_parts.new.parts (Ok c.in_ok-tracker.tracker) c.disarm.ensures.set c.in_ok-tracker.ensures.calls.set c.in_ok-tracker.ensures.calls.runs)
@@ -55,6 +64,12 @@ returns-in_err-clients-clause-unfused g c =
 pub returns-in_err-clients-clause-clocks : goal.returns-in_err-clients-clause-clocks
 returns-in_err-clients-clause-clocks g c =
     read-through g.S.Store.durable g.S.Store.state c.args.job.now.targets c.args.parts.now c.disarm.new.parts c.open_parts.new.parts c.requires.stores.set c.disarm.ensures.set g.C.Clock.is_read c.disarm.ensures.clocks (stay-read g.C.Clock.is_read c.disarm.new.parts c.open_parts.new.parts c.in_ok-tracker.ensures.calls.clocks)
+
+pub returns-in_err-clients-clause-broke : goal.returns-in_err-clients-clause-broke
+returns-in_err-clients-clause-broke g c B kept free room =
+    let mid = kept-from g.S.Store.durable g.S.Store.state g.S.Store.may c.args.job.now.targets c.args.parts.now c.disarm.new.parts c.requires.stores.set c.disarm.ensures.set c.disarm.ensures.fuses B kept in
+    whatever-stopped g.S.Store.may (given c.args.script.now c.args.job.now B free) B (stores_in c.open_parts.new.parts) c.from_residual.result (λ lasts found.
+    left-off (given c.args.script.now c.args.job.now B free) B lasts (c.in_ok-tracker.ensures.left B mid lasts found) (c.in_ok-tracker.ensures.again B mid lasts found))
 
 pub start_all-requires-clause-stores : goal.start_all-requires-clause-stores
 start_all-requires-clause-stores g c =
@@ -72,6 +87,13 @@ returns-in_err-targets-clause-unfused g c =
 pub returns-in_err-targets-clause-clocks : goal.returns-in_err-targets-clause-clocks
 returns-in_err-targets-clause-clocks g c =
     read-through g.S.Store.durable g.S.Store.state c.args.job.now.targets c.args.parts.now c.disarm.new.parts c.start_all.new.parts c.requires.stores.set c.disarm.ensures.set g.C.Clock.is_read c.disarm.ensures.clocks (read-through g.S.Store.durable g.S.Store.state c.args.job.now.targets c.disarm.new.parts c.open_parts.new.parts c.start_all.new.parts c.disarm.ensures.set c.in_ok-tracker.ensures.calls.set g.C.Clock.is_read c.in_ok-tracker.ensures.calls.clocks (stay-read g.C.Clock.is_read c.open_parts.new.parts c.start_all.new.parts (again-clocks g.S.Store.durable g.S.Store.state c.args.job.now.targets c.open_parts.new.parts c.start_all.new.parts c.in_ok-tracker.ensures.calls.set c.in_err-targets.ensures.back)))
+
+pub returns-in_err-targets-clause-broke : goal.returns-in_err-targets-clause-broke
+returns-in_err-targets-clause-broke g c B kept free room =
+    let mid = kept-from g.S.Store.durable g.S.Store.state g.S.Store.may c.args.job.now.targets c.args.parts.now c.disarm.new.parts c.requires.stores.set c.disarm.ensures.set c.disarm.ensures.fuses B kept in
+    whatever-stopped g.S.Store.may (given c.args.script.now c.args.job.now B free) B (stores_in c.start_all.new.parts) c.from_residual.result (λ lasts found.
+    let there = subst (λ l. MayBeFound g.S.Store.may l lasts) (again-stores g.S.Store.durable g.S.Store.state c.args.job.now.targets c.open_parts.new.parts c.start_all.new.parts c.in_ok-tracker.ensures.calls.set c.in_err-targets.ensures.back) found in
+    left-off (given c.args.script.now c.args.job.now B free) B lasts (c.in_ok-tracker.ensures.left B mid lasts there) (c.in_ok-tracker.ensures.again B mid lasts there))
 
 pub run_targets-targets-requires-clause-started : goal.run_targets-targets-requires-clause-started
 run_targets-targets-requires-clause-started g c =
@@ -103,6 +125,13 @@ returns-in_err-ran-clause-unfused g c =
 pub returns-in_err-ran-clause-clocks : goal.returns-in_err-ran-clause-clocks
 returns-in_err-ran-clause-clocks g c =
     read-through g.S.Store.durable g.S.Store.state c.args.job.now.targets c.args.parts.now c.disarm.new.parts c.hand_back.new.parts c.requires.stores.set c.disarm.ensures.set g.C.Clock.is_read c.disarm.ensures.clocks (read-through g.S.Store.durable g.S.Store.state c.args.job.now.targets c.disarm.new.parts c.open_parts.new.parts c.hand_back.new.parts c.disarm.ensures.set c.in_ok-tracker.ensures.calls.set g.C.Clock.is_read c.in_ok-tracker.ensures.calls.clocks (run-read g.S.Store.durable c.args.job.now c.open_parts.new.parts c.start_all.new.parts c.hand_back.new.parts c.in_ok-targets.targets.items c.run_targets-targets.result.0.items c.in_ok-tracker.ensures.calls.set c.in_ok-targets.ensures.started c.in_ok-targets.ensures.taken c.run_targets-targets.ensures.served.many c.hand_back.ensures g.S.Store.state g.C.Clock.is_read c.run_targets-targets.ensures.served))
+
+pub returns-in_err-ran-clause-broke : goal.returns-in_err-ran-clause-broke
+returns-in_err-ran-clause-broke g c B kept free room =
+    let broke = c.run_targets-targets.ensures.broke (opening_of c.args.script.now B free) (started g.S.Store.durable g.S.Store.state g.S.Store.may c.args.script.now c.args.job.now c.args.parts.now c.disarm.new.parts c.open_parts.new.parts c.requires.script c.requires.least_targets c.requires.most_targets c.requires.least c.requires.stores.set c.disarm.ensures.set c.disarm.ensures.fuses c.requires.stores.each c.in_ok-tracker.tracker c.in_ok-tracker.ensures.calls c.in_ok-tracker.ensures.opened c.in_ok-clients.clients.items c.in_ok-targets.targets.items c.in_ok-clients.ensures c.in_ok-targets.ensures.started B kept free room) (all-tell g.S.Store.durable g.S.Store.state g.S.Store.may c.args.script.now c.args.job.now c.args.parts.now c.disarm.new.parts c.open_parts.new.parts c.requires.script c.requires.least_targets c.requires.most_targets c.requires.least c.requires.stores.set c.disarm.ensures.set c.disarm.ensures.fuses c.requires.stores.each c.in_ok-tracker.tracker c.in_ok-tracker.ensures.calls c.in_ok-tracker.ensures.opened c.in_ok-clients.clients.items c.in_ok-targets.targets.items c.in_ok-clients.ensures c.in_ok-targets.ensures.started B kept) in
+    whatever-stopped g.S.Store.may (given c.args.script.now c.args.job.now B free) B (stores_in c.hand_back.new.parts) c.from_residual.result
+    (break-off g.S.Store.durable g.S.Store.state g.S.Store.may c.args.script.now c.args.job.now c.args.parts.now c.disarm.new.parts c.open_parts.new.parts c.requires.script c.requires.least_targets c.requires.most_targets c.requires.least c.requires.stores.set c.disarm.ensures.set c.disarm.ensures.fuses c.requires.stores.each c.in_ok-tracker.tracker c.in_ok-tracker.ensures.calls c.in_ok-tracker.ensures.opened c.in_ok-clients.clients.items c.in_ok-targets.targets.items c.in_ok-clients.ensures c.in_ok-targets.ensures.started c.start_all.new.parts c.hand_back.new.parts c.run_targets-targets.result.0.items (returns-in_err-ran-clause-set g c) c.run_targets-targets.ensures.served.many c.hand_back.ensures B free kept (c.requires.sound B kept).sound
+    (subst (λ r. IfErr r (λ error. BreaksOffSo g.S.Store.durable g.S.Store.may (given c.args.script.now c.args.job.now B free) (stores_of c.in_ok-targets.targets.items) (stores_of c.run_targets-targets.result.0.items))) c.in_err-ran.was broke))
 
 pub returns-clause-set : goal.returns-clause-set
 returns-clause-set g c =
