@@ -68,7 +68,7 @@ returns-in_err-clients-clause-clocks g c =
 pub returns-in_err-clients-clause-broke : goal.returns-in_err-clients-clause-broke
 returns-in_err-clients-clause-broke g c B kept free room =
     let mid = kept-from g.S.Store.durable g.S.Store.state g.S.Store.may c.args.job.now.targets c.args.parts.now c.disarm.new.parts c.requires.stores.set c.disarm.ensures.set c.disarm.ensures.fuses B kept in
-    whatever-stopped g.S.Store.may (given c.args.script.now c.args.job.now B free) B (stores_in c.open_parts.new.parts) c.from_residual.result (λ lasts found.
+    whatever-stopped g.S.Store.may (given c.args.script.now c.args.job.now B free) B (stores_in c.open_parts.new.parts) c.from_residual-in_err-clients.result (λ lasts found.
     left-off (given c.args.script.now c.args.job.now B free) B lasts (c.in_ok-tracker.ensures.left B mid lasts found) (c.in_ok-tracker.ensures.again B mid lasts found))
 
 pub start_all-requires-clause-stores : goal.start_all-requires-clause-stores
@@ -91,7 +91,7 @@ returns-in_err-targets-clause-clocks g c =
 pub returns-in_err-targets-clause-broke : goal.returns-in_err-targets-clause-broke
 returns-in_err-targets-clause-broke g c B kept free room =
     let mid = kept-from g.S.Store.durable g.S.Store.state g.S.Store.may c.args.job.now.targets c.args.parts.now c.disarm.new.parts c.requires.stores.set c.disarm.ensures.set c.disarm.ensures.fuses B kept in
-    whatever-stopped g.S.Store.may (given c.args.script.now c.args.job.now B free) B (stores_in c.start_all.new.parts) c.from_residual.result (λ lasts found.
+    whatever-stopped g.S.Store.may (given c.args.script.now c.args.job.now B free) B (stores_in c.start_all.new.parts) c.from_residual-in_err-targets.result (λ lasts found.
     let there = subst (λ l. MayBeFound g.S.Store.may l lasts) (again-stores g.S.Store.durable g.S.Store.state c.args.job.now.targets c.open_parts.new.parts c.start_all.new.parts c.in_ok-tracker.ensures.calls.set c.in_err-targets.ensures.back) found in
     left-off (given c.args.script.now c.args.job.now B free) B lasts (c.in_ok-tracker.ensures.left B mid lasts there) (c.in_ok-tracker.ensures.again B mid lasts there))
 
@@ -129,7 +129,7 @@ returns-in_err-ran-clause-clocks g c =
 pub returns-in_err-ran-clause-broke : goal.returns-in_err-ran-clause-broke
 returns-in_err-ran-clause-broke g c B kept free room =
     let broke = c.run_targets-targets.ensures.broke (opening_of c.args.script.now B free) (started g.S.Store.durable g.S.Store.state g.S.Store.may c.args.script.now c.args.job.now c.args.parts.now c.disarm.new.parts c.open_parts.new.parts c.requires.script c.requires.least_targets c.requires.most_targets c.requires.least c.requires.stores.set c.disarm.ensures.set c.disarm.ensures.fuses c.requires.stores.each c.in_ok-tracker.tracker c.in_ok-tracker.ensures.calls c.in_ok-tracker.ensures.opened c.in_ok-clients.clients.items c.in_ok-targets.targets.items c.in_ok-clients.ensures c.in_ok-targets.ensures.started B kept free room) (all-tell g.S.Store.durable g.S.Store.state g.S.Store.may c.args.script.now c.args.job.now c.args.parts.now c.disarm.new.parts c.open_parts.new.parts c.requires.script c.requires.least_targets c.requires.most_targets c.requires.least c.requires.stores.set c.disarm.ensures.set c.disarm.ensures.fuses c.requires.stores.each c.in_ok-tracker.tracker c.in_ok-tracker.ensures.calls c.in_ok-tracker.ensures.opened c.in_ok-clients.clients.items c.in_ok-targets.targets.items c.in_ok-clients.ensures c.in_ok-targets.ensures.started B kept) in
-    whatever-stopped g.S.Store.may (given c.args.script.now c.args.job.now B free) B (stores_in c.hand_back.new.parts) c.from_residual.result
+    whatever-stopped g.S.Store.may (given c.args.script.now c.args.job.now B free) B (stores_in c.hand_back.new.parts) c.from_residual-in_err-ran.result
     (break-off g.S.Store.durable g.S.Store.state g.S.Store.may c.args.script.now c.args.job.now c.args.parts.now c.disarm.new.parts c.open_parts.new.parts c.requires.script c.requires.least_targets c.requires.most_targets c.requires.least c.requires.stores.set c.disarm.ensures.set c.disarm.ensures.fuses c.requires.stores.each c.in_ok-tracker.tracker c.in_ok-tracker.ensures.calls c.in_ok-tracker.ensures.opened c.in_ok-clients.clients.items c.in_ok-targets.targets.items c.in_ok-clients.ensures c.in_ok-targets.ensures.started c.start_all.new.parts c.hand_back.new.parts c.run_targets-targets.result.0.items (returns-in_err-ran-clause-set g c) c.run_targets-targets.ensures.served.many c.hand_back.ensures B free kept (c.requires.sound B kept).sound
     (subst (λ r. IfErr r (λ error. BreaksOffSo g.S.Store.durable g.S.Store.may (given c.args.script.now c.args.job.now B free) (stores_of c.in_ok-targets.targets.items) (stores_of c.run_targets-targets.result.0.items))) c.in_err-ran.was broke))
 
