@@ -28,8 +28,8 @@ impl<T> Boxed<T> {
         })
     }
 
-    /// What the memory is taken from.
-    pub fn allocator(&self) -> Global {
+    // What the memory is taken from.
+    pub(crate) fn allocator(&self) -> Global {
         *Box::allocator(&self.inner)
     }
 
