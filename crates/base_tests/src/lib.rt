@@ -1,30 +1,16 @@
-// Tests of the crates at the base: values, paths, classes, clocks, messages, reads of what stands,
-// words of a text, and the outside in memory.
+// Tests of the crates at the base: values that were published or computed elsewhere, limits, words, and the
+// outside in memory. Each table is walked by one function, which tells the first row that differs.
 #![tactic(auto)]
 
 #[cfg(test)]
-mod classes;
-#[cfg(test)]
 mod clocks;
 #[cfg(test)]
-mod draws;
-#[cfg(test)]
-mod hashes;
-#[cfg(test)]
-mod keys;
-#[cfg(test)]
-mod leases;
-#[cfg(test)]
-mod names;
-#[cfg(test)]
-mod numbers;
+mod limits;
 #[cfg(test)]
 mod outside;
 #[cfg(test)]
-mod parts;
-#[cfg(test)]
-mod paths;
-#[cfg(test)]
-mod places;
-#[cfg(test)]
 mod slots;
+#[cfg(test)]
+mod vectors;
+#[cfg(test)]
+mod words;

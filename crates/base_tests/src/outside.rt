@@ -1,140 +1,129 @@
-// Tables over the objects in memory, and over those that others hand in.
-use base_outside::Failed;
+// What the objects in memory give and take, and those that others hand in.
 use base_outside::adapters::{Reading, Writing};
 use base_outside::clock::Clock;
 use base_outside::mem_sink::MemSink;
 use base_outside::mem_source::MemSource;
 use base_outside::rack::Rack;
 use base_outside::region::Region;
-use base_outside::sink::{Sink, WriteNo, write_all};
+use base_outside::sink::{Sink, write_all};
 use base_outside::source::{ReadNo, Source, read_all};
 use base_outside::sure_rack::SureRack;
-use base_outside::sure_sink::SureSink;
-use base_outside::sure_source::SureSource;
-use std::test::Fail;
+use base_outside::sure_region::SureRegion;
+use std::alloc::Global;
 
-#[test]
-fn reads_three_bytes_by_two(rt: HostRuntime) -> Result<(), Fail> {
-    let rows: [(&[u32], [Option<usize>; 4], u64); 4] = [
-        (&[], [Some(2), Some(1), Some(0), Some(0)], 0),
-        (&[1], [None, Some(2), Some(1), Some(0)], 1),
-        (&[2], [Some(2), None, Some(1), Some(0)], 1),
-        (&[1, 2], [None, None, Some(2), Some(1)], 2),
+// What a call answers, or 9 where it fails.
+const FAILS: usize = 9;
+
+fn read_two(source: &mut MemSource) -> usize {
+    let mut buf = [0; 2];
+    source.read(&mut buf).unwrap_or(FAILS)
+}
+
+// What four reads of two bytes each give of a source of three, and how often it failed.
+fn reads(alloc: Global, fails: &[u32]) -> Option<([usize; 4], u64)> {
+    let mut source = MemSource::new(alloc, b"abc", fails).ok()?;
+    let given = [
+        read_two(&mut source),
+        read_two(&mut source),
+        read_two(&mut source),
+        read_two(&mut source),
     ];
-    for (fails, answers, faults) in rows {
-        let mut source = MemSource::new(rt.alloc(), b"abc", fails)?;
-        let mut buf = [0u8; 2];
-        for answer in answers {
-            assert_eq!(rt; source.read(&mut buf).ok(), answer);
-        }
-        assert_eq!(rt; source.faults(), faults);
-        assert_eq!(rt; buf, [b'c', b'b']);
-    }
-    Ok(())
+    Some((given, source.faults()))
 }
 
 #[test]
-fn takes_what_has_room(rt: HostRuntime) -> Result<(), Fail> {
-    let rows: [(&[u32], [Option<usize>; 3], &[u8]); 4] = [
-        (&[], [Some(2), Some(1), Some(0)], b"aba"),
-        (&[1], [None, Some(2), Some(1)], b"aba"),
-        (&[2], [Some(2), None, Some(1)], b"aba"),
-        (&[1, 2], [None, None, Some(2)], b"ab"),
+fn a_source_fails_by_its_list(rt: HostRuntime) {
+    let alloc = rt.alloc();
+    assert!(rt; reads(alloc, &[]) == Some(([2, 1, 0, 0], 0)));
+    assert!(rt; reads(alloc, &[2]) == Some(([2, FAILS, 1, 0], 1)));
+    assert!(rt; reads(alloc, &[1, 2]) == Some(([FAILS, FAILS, 2, 1], 2)));
+}
+
+// What three writes of two bytes each leave in a sink with room for three: what they answered, how often it failed,
+// and how much it holds.
+fn writes(alloc: Global, fails: &[u32]) -> Option<([usize; 3], u64, usize)> {
+    let mut sink = MemSink::new(alloc, 3, fails).ok()?;
+    let taken = [
+        sink.write(b"ab").unwrap_or(FAILS),
+        sink.write(b"ab").unwrap_or(FAILS),
+        sink.write(b"ab").unwrap_or(FAILS),
     ];
-    for (fails, answers, held) in rows {
-        let mut sink = MemSink::new(rt.alloc(), 3, fails)?;
-        for answer in answers {
-            assert_eq!(rt; sink.write(b"ab").ok(), answer);
-        }
-        assert_eq!(rt; sink.faults(), fails.len() as u64);
-        assert_eq!(rt; sink.bytes(), held);
-    }
-    Ok(())
+    Some((taken, sink.faults(), sink.bytes().len()))
 }
 
 #[test]
-fn reads_to_the_end_or_says_why_not(rt: HostRuntime) -> Result<(), Fail> {
-    // What fails, the limit, and whether it is too long or fails; else it is read.
-    let rows: [(&[u32], usize, bool, bool); 5] = [
-        (&[], 3, false, false),
-        (&[], 2, true, false),
-        (&[], 0, true, false),
-        (&[1], 3, false, true),
-        (&[2], 3, false, true),
-    ];
-    for (fails, limit, long, fault) in rows {
-        let mut source = MemSource::new(rt.alloc(), b"abc", fails)?;
-        let read = read_all(rt.alloc(), &mut source, limit);
-        assert_eq!(rt; matches!(read, Err(ReadNo::TooLong)), long);
-        assert_eq!(rt; matches!(read, Err(ReadNo::Fault)), fault);
-        if let Ok(bytes) = read {
-            assert_eq!(rt; bytes.as_slice(), b"abc".as_slice());
-        }
+fn a_sink_fails_by_its_list(rt: HostRuntime) {
+    let alloc = rt.alloc();
+    assert!(rt; writes(alloc, &[]) == Some(([2, 1, 0], 0, 3)));
+    assert!(rt; writes(alloc, &[2]) == Some(([2, FAILS, 1], 1, 3)));
+    assert!(rt; writes(alloc, &[1, 2]) == Some(([FAILS, FAILS, 2], 2, 2)));
+}
+
+// Whether a source is read to its end, within a limit: 0 if it is, 1 if it is too long, and else it fails.
+fn read_to_end(alloc: Global, fails: &[u32], limit: u32) -> Option<u8> {
+    let mut source = MemSource::new(alloc, b"abc", fails).ok()?;
+    match read_all(alloc, &mut source, limit as usize) {
+        Ok(_) => Some(0),
+        Err(ReadNo::TooLong) => Some(1),
+        Err(_) => Some(2),
     }
-    let mut source = SureSource::new(rt.alloc(), b"abc")?;
-    assert_eq!(rt;
-        read_all(rt.alloc(), &mut source, 3)?.as_slice(),
-        b"abc".as_slice()
-    );
-    Ok(())
 }
 
 #[test]
-fn writes_all_or_says_why_not(rt: HostRuntime) -> Result<(), Fail> {
-    // What fails, the room, whether nothing was taken or it fails, and what is held.
-    let rows: [(&[u32], u64, bool, bool, &[u8]); 4] = [
-        (&[], 3, false, false, b"abc"),
-        (&[], 2, true, false, b"ab"),
-        (&[1], 3, false, true, b""),
-        (&[2], 2, false, true, b"ab"),
-    ];
-    for (fails, room, nothing, fault, held) in rows {
-        let mut sink = MemSink::new(rt.alloc(), room, fails)?;
-        let written = write_all(&mut sink, b"abc");
-        assert_eq!(rt; matches!(written, Err(WriteNo::Nothing)), nothing);
-        assert_eq!(rt; matches!(written, Err(WriteNo::Fault)), fault);
-        assert_eq!(rt; sink.bytes(), held);
-    }
-    let mut sink = SureSink::new(rt.alloc(), 2)?;
-    let written = write_all(&mut sink, b"abc");
-    assert!(rt; matches!(written, Err(WriteNo::Nothing)));
-    assert_eq!(rt; sink.bytes(), b"ab".as_slice());
-    Ok(())
+fn a_source_is_read_to_its_end_or_it_is_told_why_not(rt: HostRuntime) {
+    let alloc = rt.alloc();
+    assert!(rt; read_to_end(alloc, &[], 3) == Some(0));
+    assert!(rt; read_to_end(alloc, &[], 2) == Some(1));
+    assert!(rt; read_to_end(alloc, &[2], 3) == Some(2));
 }
 
-// What doesn't fail.
-fn sure<T: Drop>(answer: Result<T, Failed>) -> Result<T, ReadNo> {
-    answer.map_err(|_failed| ReadNo::Fault)
-}
-
-#[test]
-fn a_rack_hands_out_what_is_at_home(rt: HostRuntime) -> Result<(), Fail> {
-    let mut rack = SureRack::new(rt.alloc(), 2, 4)?;
-    let mut region = sure(rack.region(1, 9))?;
-    let mut bytes = [7u8; 4];
-    assert_eq!(rt; region.size(), 4);
-    sure(region.read(0, &mut bytes))?;
-    assert_eq!(rt; bytes, [0; 4]);
-    sure(region.write(1, b"xy"))?;
-    for (target, faults) in [(1, 1), (2, 2)] {
-        assert!(rt; rack.region(target, 4).is_err());
-        assert_eq!(rt; rack.faults(), faults);
-    }
+// Writes into the region of target 1 and gives it back.
+fn use_region(rack: &mut SureRack) -> Option<()> {
+    let mut region = rack.region(1, 9).ok()?;
+    let written = region.size() == 4 && region.write(1, b"xy").is_ok();
     rack.take_back(1, region);
-    let mut again = sure(rack.region(1, 4))?;
-    assert_eq!(rt; again.size(), 4);
-    sure(again.read(0, &mut bytes))?;
-    assert_eq!(rt; bytes, [0, b'x', b'y', 0]);
-    assert_eq!(rt; rack.clock(0).now(), 0);
-    Ok(())
+    if written { Some(()) } else { None }
+}
+
+fn bytes_of(region: &mut SureRegion) -> Option<[u8; 4]> {
+    let mut bytes = [7; 4];
+    if region.size() != 4 || region.read(0, &mut bytes).is_err() {
+        return None;
+    }
+    Some(bytes)
+}
+
+// What then stands there, how often the rack failed, for a target that it doesn't have, and what its clock shows.
+fn rack_holds(alloc: Global) -> Option<([u8; 4], u64, u64)> {
+    let mut rack = SureRack::new(alloc, 2, 4).ok()?;
+    use_region(&mut rack)?;
+    let mut region = rack.region(1, 4).ok()?;
+    let bytes = bytes_of(&mut region)?;
+    let none = rack.region(2, 4).is_err();
+    let time = rack.clock(0).now();
+    if none {
+        Some((bytes, rack.faults(), time))
+    } else {
+        None
+    }
 }
 
 #[test]
-fn readers_and_writers_of_std(rt: HostRuntime) -> Result<(), Fail> {
+fn a_rack_hands_out_what_is_at_home(rt: HostRuntime) {
+    assert!(rt; rack_holds(rt.alloc()) == Some(([0, b'x', b'y', 0], 1, 0)));
+}
+
+// What is read by std's readers and written by its writers.
+fn passed_on(alloc: Global) -> Option<Vec<u8>> {
     let mut source = Reading::new(b"abc".as_slice());
-    let read = read_all(rt.alloc(), &mut source, 8)?;
-    let mut sink = Writing::new(Vec::new(rt.alloc()));
-    write_all(&mut sink, &read)?;
-    assert_eq!(rt; sink.into_inner().as_slice(), b"abc".as_slice());
-    Ok(())
+    let read = read_all(alloc, &mut source, 8).ok()?;
+    let mut sink = Writing::new(Vec::new(alloc));
+    write_all(&mut sink, &read).ok()?;
+    Some(sink.into_inner())
+}
+
+#[test]
+fn readers_and_writers_of_std(rt: HostRuntime) {
+    let passed = passed_on(rt.alloc());
+    assert!(rt; passed.is_some_and(|bytes| bytes.as_slice() == b"abc".as_slice()));
 }
