@@ -60,23 +60,30 @@ AreLess v w = (x : AttemptId) (r : Read) → v x r ≤ w x r
 nothing : (m n : ℕ) → m ≤ n → n ≡ 0 → m ≡ 0
 nothing m n low none = omega (arith, low, none)
 
-about-less : (v w : Loads) (x : AttemptId) (b : Bool) (q : Option Read) → AreLess v w → OneGoesAbout w x b q → OneGoesAbout v x b q
-about-less v w x true (Some r) less k = let low = less x r in omega (arith, low, k)
-about-less v w x true None less k = λ r. nothing (v x r) (w x r) (less x r) (k r)
-about-less v w x false q less k = λ r. nothing (v x r) (w x r) (less x r) (k r)
+-- and of a client's attempts
+abbrev pub AreLessOf : ℕ → Loads → Loads → Type 0
+AreLessOf client v w = (x : AttemptId) → x.client ≡ client → (r : Read) → v x r ≤ w x r
 
-to-come-less : (v w : Loads) (client command : ℕ) (present : Option ℕ) → AreLess v w → NoneToCome w client command present → NoneToCome v client command present
-to-come-less v w client command present less k = λ y own later r. nothing (v y r) (w y r) (less y r) (k y own later r)
+about-less : (v w : Loads) (x : AttemptId) (b : Bool) (q : Option Read) → ((r : Read) → v x r ≤ w x r) → OneGoesAbout w x b q → OneGoesAbout v x b q
+about-less v w x true (Some r) less k = let low = less r in omega (arith, low, k)
+about-less v w x true None less k = λ r. nothing (v x r) (w x r) (less r) (k r)
+about-less v w x false q less k = λ r. nothing (v x r) (w x r) (less r) (k r)
 
-present-less : (ops : List Op) (x : AttemptId) (v w : Loads) (a : Present) → AreLess v w → IsPresentFitting ops x w a → IsPresentFitting ops x v a
+to-come-less : (v w : Loads) (client command : ℕ) (present : Option ℕ) → AreLessOf client v w → NoneToCome w client command present → NoneToCome v client command present
+to-come-less v w client command present less k = λ y own later r. nothing (v y r) (w y r) (less y own r) (k y own later r)
+
+present-less : (ops : List Op) (x : AttemptId) (v w : Loads) (a : Present) → ((r : Read) → v x r ≤ w x r) → IsPresentFitting ops x w a → IsPresentFitting ops x v a
 present-less ops x v w a less k = record { about = about-less v w x a.waits (asked_at a.stage (slice_get ops a.op)) less k.about; part = k.part; told = k.told }
 
-pub fitting-less : (p : ClientPlan) (c : ClientState) (v w : Loads) → AreLess v w → IsFittingClient p c w → IsFittingClient p c v
-fitting-less p c v w less k = record { here = by c.present k.here; to_come = to-come-less v w p.number c.command (number_of c.present) less k.to_come }
+pub fitting-less-of : (p : ClientPlan) (c : ClientState) (v w : Loads) → AreLessOf p.number v w → IsFittingClient p c w → IsFittingClient p c v
+fitting-less-of p c v w less k = record { here = by c.present k.here; to_come = to-come-less v w p.number c.command (number_of c.present) less k.to_come }
   where
     by : (o : Option Present) → IsFittingHere p c.place c.command w o → IsFittingHere p c.place c.command v o
     by None h = tt
-    by (Some a) h = present-less (ops_at p c.place) (id_of p c.command a) v w a less h
+    by (Some a) h = present-less (ops_at p c.place) (id_of p c.command a) v w a (less (id_of p c.command a) refl) h
+
+pub fitting-less : (p : ClientPlan) (c : ClientState) (v w : Loads) → AreLess v w → IsFittingClient p c w → IsFittingClient p c v
+fitting-less p c v w less = fitting-less-of p c v w (λ x own r. less x r)
 
 -- posts that carry nothing
 none-posted : (w : Loads) → AreLess (with_posts [] w) w
@@ -525,7 +532,7 @@ module _ (p : ClientPlan) (c : ClientState) (d : Command) (a : Present) (w v : L
   unfolding load
   again target =
       posting p v (asks_again p c quieted target) (record { to = record { client = false; number = target }; message = message.Ask (attempt_id p c a) }) refl (λ x r. refl) refl
-      (stays p c d a (record a { waits = true }) v k.at refl (record { about = about-less v w (attempt_id p c a) true (asked_at a.stage (slice_get (ops_of d) a.op)) (less-heard w v m k.heard) k.about; part = k.part; told = k.at.told }))
+      (stays p c d a (record a { waits = true }) v k.at refl (record { about = about-less v w (attempt_id p c a) true (asked_at a.stage (slice_get (ops_of d) a.op)) (less-heard w v m k.heard (attempt_id p c a)) k.about; part = k.part; told = k.at.told }))
 
   lost-heard : (how : Outcome) → MovesFitting p v (ends p c quieted how)
   lost-heard how = ends-fitting p c d quieted how v (at-more p c d a quieted v refl refl refl k.at)

@@ -2,5 +2,6 @@
 pub mod Loads
 pub mod LoadLaws
 pub mod PostLaws
+pub mod TurnLaws
 pub mod Fitting
 pub mod FittingLaws

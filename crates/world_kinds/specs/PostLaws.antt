@@ -27,6 +27,7 @@ use Rattle.dtx_base.specs.Leading as leading
 use Rattle.dtx_base.specs.Leading.{LeaderOf, abort_to, ack_heard, answer_heard, answer_if_awaited, batched, begun, begun_alone, begun_with_others, commit_mark, down_told, ended, entry_led, first_down, mark_reset, mark_with, marks_for, ok_heard, owed, prepare_reset, prepare_to, quietly, refusal_heard, reset_of, status_asked, to_target, undecided_of}
 use Rattle.dtx_base.specs.Members.{all_targets, are_all_counted, is_other_member, other_members, with_target}
 use Rattle.dtx_base.specs.Rows.{is_among, is_empty}
+use Rattle.world_base.specs.Statuses.{status_to, statuses_for, statuses_of}
 use Rattle.world_kinds.specs.Loads.{load, parked_load, post_load, total}
 use Rattle.world_kinds.specs.LoadLaws.{end-carries, total-append, total-map, total-none, total-parts}
 
@@ -145,6 +146,12 @@ resets-carry t down (message.Prepare e first ws inc) l = prepare-resets-carry t 
 resets-carry t down (message.Status a inc) l = prepare-resets-carry t down a inc l
 resets-carry t down (message.Mark inc marks) l = mark-resets-carry t down inc marks l
 resets-carry t down m l = none-carried
+
+-- what a leader asks that opens again
+pub statuses-carry : (inc : ℕ) (es : List Entry) → CarryNone (statuses_for inc es)
+unfolding load
+statuses-carry inc [] = none-carried
+statuses-carry inc (e ∷ es) = both-carry (statuses_of inc e) (statuses_for inc es) (each-carries (status_to inc e.attempt) (other_members e) (λ t x r. refl)) (statuses-carry inc es)
 
 -- ---- members
 
