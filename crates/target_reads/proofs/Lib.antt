@@ -6,3 +6,4 @@ pub mod FetchTurns
 pub mod Parking
 pub mod Verdicts
 mod Posting
+pub mod Carrying

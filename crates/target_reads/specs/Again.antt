@@ -1,8 +1,11 @@
 -- What a target does that hears a Verdict.
-use Rattle.std.specs.Prelude.{ℕ, ◌≡◌, List, true, is_some, Option, Some, None, Result}
+use Rattle.std.specs.Prelude.{ℕ, ◌≡◌, ◌≤◌, ◌+◌, List, true, is_some, Option, Some, None, Result}
 use Rattle.base_types.specs.declared.id.AttemptId.{AttemptId}
 use Rattle.model_laws.specs.Members.{Has}
+use Rattle.base_types.specs.declared.operation.Read.{Read}
 use Rattle.base_messages.specs.declared.message.Message.{Message}
+use Rattle.base_messages.specs.declared.message.Post.{Post}
+use Rattle.dtx_base.specs.declared.member.MemberMemory.{MemberMemory}
 use Rattle.daos_model.specs.declared.durable.Durable.{Durable}
 use Rattle.vos_store.specs.Calls.{State}
 use Rattle.vos_store.specs.declared.refusal.Stopped.{Stopped}
@@ -23,6 +26,7 @@ use Rattle.target_parts.specs.Parts.{kept}
 use Rattle.target_parts.specs.Stops.{Turn, never}
 use Rattle.target_reads.specs.Fetches.{FetchTurn}
 use Rattle.world_base.specs.Requests.{fetch_message}
+use Rattle.world_kinds.specs.Loads.{load, parked_load, post_load, total}
 
 -- these Fetches may have waited
 abbrev pub AreParkable : List Message → Type 0
@@ -48,3 +52,9 @@ MadeSome (Some c) d h new k finds result = MadeOrCut c d h new k finds result
 abbrev pub VerdictTurn : TargetPlan → TargetMemory → ℕ → AttemptId → Option AttemptId → Verdict → VerdictStage → Durable → State → Option Durable → State → (Durable → Type 0) → TargetMemory → Result Did TargetStop → Type 0
 VerdictTurn t m reading a ask v start d h new k finds left result =
     Turn (VerdictNext is_prepared t m reading a ask v) never start (kept d h) (λ did l. Whole (VerdictNext is_prepared t m reading a ask v) VerdictEnds start (kept d h) l (left, did)) new k finds result
+
+-- Fetches that waited are tried again, once other messages are posted: what waits on and what is posted then carries no more of any read than
+-- all of these.
+abbrev pub TriesOnce : List Message → List Post → MemberMemory → MemberMemory → List Post → Type 0
+TriesOnce asks first before after posts =
+    (x : AttemptId) (r : Read) → total (post_load x r) posts + total (parked_load x r) after.parked ≤ total (parked_load x r) before.parked + total (load x r) asks + total (post_load x r) first

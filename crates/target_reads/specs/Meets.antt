@@ -1,12 +1,14 @@
 -- What a read meets, and what it comes to.
-use Rattle.std.specs.Prelude.{ℕ, ◌≡◌, List, Option, Some, None, Ok, Err, Contains}
+use Rattle.std.specs.Prelude.{ℕ, ◌≡◌, true, List, Option, Some, None, Ok, Err, Contains}
 use Rattle.base_types.specs.declared.epoch.Epoch.{Epoch}
 use Rattle.base_types.specs.declared.id.AttemptId.{AttemptId}
+use Rattle.base_types.specs.declared.operation.Read.{Read}
 use Rattle.base_types.specs.declared.outcome.Cause.TheVariants as cause
 use Rattle.base_types.specs.declared.outcome.Outcome.TheVariants as outcome
 use Rattle.base_messages.specs.declared.actor.ActorId.{ActorId}
 use Rattle.base_messages.specs.declared.message.Reply.TheVariants as reply
 use Rattle.daos_model.specs.declared.durable.Durable.{Durable}
+use Rattle.daos_model.specs.Kinds.{is_of_kind}
 use Rattle.dtx_base.specs.Joining.{parking}
 use Rattle.vos_store.specs.Answers.{fetched}
 use Rattle.vos_store.specs.declared.refusal.FetchNo.TheVariants.{Unsettled}
@@ -28,6 +30,15 @@ abbrev pub Meets : TargetPlan → FetchRequest → Epoch → Durable → Met →
 Meets t q e d (met.Refused c) = fetch_cause t q e d ≡ Some c
 Meets t q e d (met.Unsettled a) = (fetch_cause t q e d ≡ None) × (fetched q.read e d ≡ Err (Unsettled a))
 Meets t q e d (met.Answer b) = (fetch_cause t q e d ≡ None) × (fetched q.read e d ≡ Ok b)
+
+-- an answer is of the kind of its read, whatever the store keeps
+abbrev pub MeetsKind : Read → Met → Type 0
+MeetsKind r (met.Answer b) = is_of_kind r b ≡ true
+MeetsKind r m = Unit {0}
+
+abbrev pub ServesKind : Read → Served → Type 0
+ServesKind r (served.Answer b) = is_of_kind r b ≡ true
+ServesKind r s = Unit {0}
 
 -- what a read comes to, while these decided attempts aren't settled: it is answered; it is refused; it meets an attempt that this
 -- target leads and hasn't decided; or one that another target leads

@@ -1,5 +1,5 @@
 // A target hears a Verdict, and tries those Fetches again that waited for it.
-ghost use Rattle.std.specs.Prelude.{◌≡◌, ℕ, [], IfOk, OnOk, Option, Some, is_some, true, false};
+ghost use Rattle.std.specs.Prelude.{◌≡◌, ◌∷◌, ℕ, [], IfOk, OnOk, Option, Some, is_some, true, false};
 ghost use Rattle.std.specs.Option.{ForSome};
 ghost use Rattle.base_types.specs.declared.entry.Verdict.{Verdict as VerdictOf};
 ghost use Rattle.base_types.specs.declared.id.AttemptId.{AttemptId as Attempt};
@@ -11,7 +11,8 @@ ghost use Rattle.world_base.specs.Roles.{is_prepared, told_by};
 ghost use Rattle.world_base.specs.Verdicts.{VerdictStage, fetcher, settles_by, settling_change};
 ghost use Rattle.world_posts.specs.Forms.{PostsInForm, TargetPosts};
 ghost use Rattle.target_parts.specs.Knowing.{IsAskHere, IsParkable, LeadsWell, memory_of};
-ghost use Rattle.target_reads.specs.Again.{AreHere, AreParkable, MadeSome, TriedTurn, VerdictTurn};
+ghost use Rattle.target_reads.specs.Again.{AreHere, AreParkable, MadeSome, TriedTurn, TriesOnce, VerdictTurn};
+ghost use Rattle.world_kinds.specs.Loads.{AnswersOnce};
 ghost use Rattle.target_parts.specs.Standing.{IsTarget, Keeps, TurnRuns};
 
 use crate::fetches::hear_known;
@@ -88,6 +89,7 @@ fn hear_again<S: Store>(
         → TriedTurn plan (memory_of knows.old) reading ask d (S.state store.old)
         (S.durable store.new) (S.state store.new) (S.may store.new) (memory_of knows.new) result }
     ensures posts { IfOk result (λ did. PostsInForm plan.targets knows.old.leader knows.new.leader did.posts) }
+    ensures reads { IfOk result (λ did. AnswersOnce (ask ∷ []) knows.old.member.memory knows.new.member.memory did.posts) }
     ensures target { IsTarget plan (S.state store.new) (S.durable store.new) knows.new }
     ensures stopped { TurnRuns result (S.state store.old) (S.state store.new) (S.durable store.old) (S.durable store.new) }
 {
@@ -115,6 +117,7 @@ fn try_again<S: Store>(
         → VerdictTurn plan m reading a ask v (VerdictStage.Freed asks (memory_of knows.old) posts) d (S.state store.old)
         (S.durable store.new) (S.state store.new) (S.may store.new) (memory_of knows.new) result }
     ensures posts { IfOk result (λ did. PostsInForm plan.targets knows.old.leader knows.new.leader did.posts) }
+    ensures reads { IfOk result (λ did. TriesOnce asks posts knows.old.member.memory knows.new.member.memory did.posts) }
     ensures target { IsTarget plan (S.state store.new) (S.durable store.new) knows.new }
     ensures stopped { TurnRuns result (S.state store.old) (S.state store.new) (S.durable store.old) (S.durable store.new) }
 {
@@ -170,6 +173,7 @@ pub fn hear_verdict<S: Store>(
         → VerdictTurn plan (told_by verdict attempt (memory_of knows.old)) reading attempt ask verdict VerdictStage.Heard d (S.state store.old)
         (S.durable store.new) (S.state store.new) (S.may store.new) (memory_of knows.new) result }
     ensures posts { IfOk result (λ did. PostsInForm plan.targets knows.old.leader knows.new.leader did.posts) }
+    ensures reads { IfOk result (λ did. AnswersOnce [] knows.old.member.memory knows.new.member.memory did.posts) }
     ensures target { IsTarget plan (S.state store.new) (S.durable store.new) knows.new }
     ensures stopped { TurnRuns result (S.state store.old) (S.state store.new) (S.durable store.old) (S.durable store.new) }
 {

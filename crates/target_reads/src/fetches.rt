@@ -1,5 +1,5 @@
 // A target hears a Fetch: whole turns.
-ghost use Rattle.std.specs.Prelude.{◌≡◌, ◌/◌, ◌≤◌, ℕ, IfOk, IfErr, IfSome, OnOk, Some, None, is_some, true, false};
+ghost use Rattle.std.specs.Prelude.{◌≡◌, ◌/◌, ◌≤◌, ◌∷◌, ℕ, [], IfOk, IfErr, IfSome, OnOk, Some, None, is_some, true, false};
 ghost use Rattle.std.specs.Option.{ForSome};
 ghost use Rattle.base_types.specs.Operations.{read_path};
 ghost use Rattle.daos_model.specs.declared.durable.Durable.{Durable};
@@ -9,6 +9,8 @@ ghost use Rattle.vos_store.specs.Refusals.{says};
 ghost use Rattle.world_base.specs.declared.target.TargetMemory.{TargetMemory};
 ghost use Rattle.world_base.specs.Reads.{FetchStage, fetch_at, fetched_message, stamps_with, ticks_known};
 ghost use Rattle.world_base.specs.Requests as asked;
+ghost use Rattle.world_base.specs.Requests.{fetch_message};
+ghost use Rattle.world_kinds.specs.Loads.{AnswersOnce};
 ghost use Rattle.world_posts.specs.Forms.{PostsInForm};
 ghost use Rattle.target_parts.specs.Knowing.{IsOwn, IsReadAsked, LeadsWell, memory_of};
 ghost use Rattle.target_parts.specs.Stops.{IsSilent, stop_memory};
@@ -134,6 +136,7 @@ fn read_at<S: Store>(
         → FetchTurn plan m reading request.now from (FetchStage.Reading epoch knows.old.leader.decided) d (S.state store.old)
         (S.durable store.new) (S.state store.new) (S.may store.new) (memory_of knows.new) result }
     ensures posts { from.client ≡ true → IfOk result (λ did. PostsInForm plan.targets knows.old.leader knows.new.leader did.posts) }
+    ensures reads { IfOk result (λ did. AnswersOnce (fetch_message request.now ∷ []) knows.old.member.memory knows.new.member.memory did.posts) }
     ensures target { IsTarget plan (S.state store.new) (S.durable store.new) knows.new }
     ensures stopped { TurnRuns result (S.state store.old) (S.state store.new) (S.durable store.old) (S.durable store.new) }
 {
@@ -170,6 +173,7 @@ pub fn hear_known<S: Store>(
         → FetchTurn plan (memory_of knows.old) reading request.now from FetchStage.Asked d (S.state store.old)
         (S.durable store.new) (S.state store.new) (S.may store.new) (memory_of knows.new) result }
     ensures posts { from.client ≡ true → IfOk result (λ did. PostsInForm plan.targets knows.old.leader knows.new.leader did.posts) }
+    ensures reads { IfOk result (λ did. AnswersOnce (fetch_message request.now ∷ []) knows.old.member.memory knows.new.member.memory did.posts) }
     ensures target { IsTarget plan (S.state store.new) (S.durable store.new) knows.new }
     ensures stopped { TurnRuns result (S.state store.old) (S.state store.new) (S.durable store.old) (S.durable store.new) }
 {
@@ -201,6 +205,7 @@ fn hear_new<S: Store, C: Clock>(
         → FetchTurn plan (memory_of knows.old) reading request.now from FetchStage.Asked d (S.state store.old)
         (S.durable store.new) (S.state store.new) (S.may store.new) (memory_of knows.new) result) }
     ensures posts { from.client ≡ true → IfOk result (λ did. PostsInForm plan.targets knows.old.leader knows.new.leader did.posts) }
+    ensures reads { IfOk result (λ did. AnswersOnce (fetch_message request.now ∷ []) knows.old.member.memory knows.new.member.memory did.posts) }
     ensures target { IsTarget plan (S.state store.new) (S.durable store.new) knows.new }
     ensures stopped { TurnRuns result (S.state store.old) (S.state store.new) (S.durable store.old) (S.durable store.new) }
     ensures clock { IsReadUpTo C.is_read (most_readings (is_some request.now.ep)) clock.old clock.new }
@@ -237,6 +242,7 @@ pub fn hear_fetch<S: Store, C: Clock>(
         → FetchTurn plan (memory_of knows.old) reading request.now from FetchStage.Asked d (S.state store.old)
         (S.durable store.new) (S.state store.new) (S.may store.new) (memory_of knows.new) result) }
     ensures posts { from.client ≡ true → IfOk result (λ did. PostsInForm plan.targets knows.old.leader knows.new.leader did.posts) }
+    ensures reads { IfOk result (λ did. AnswersOnce (fetch_message request.now ∷ []) knows.old.member.memory knows.new.member.memory did.posts) }
     ensures target { IsTarget plan (S.state store.new) (S.durable store.new) knows.new }
     ensures stopped { TurnRuns result (S.state store.old) (S.state store.new) (S.durable store.old) (S.durable store.new) }
     ensures clock { IsReadUpTo C.is_read (most_readings (is_some request.now.ep)) clock.old clock.new }

@@ -13,7 +13,7 @@ ghost use Rattle.target_parts.specs.Knowing.{HasEpochs, LeadsWell, memory_of};
 ghost use Rattle.target_parts.specs.Parts.{Asks, Part, Runs, kept};
 ghost use Rattle.dtx_table.specs.Tables.{entry_in};
 ghost use Rattle.world_base.specs.Roles.{other_leader_of};
-ghost use Rattle.target_reads.specs.Meets.{Meets, Serves, beside_of};
+ghost use Rattle.target_reads.specs.Meets.{Meets, MeetsKind, Serves, ServesKind, beside_of};
 ghost use Rattle.target_parts.specs.Standing.{Keeps};
 
 use base_types::answer::Answer;
@@ -55,6 +55,7 @@ fn fetch<S: Store>(
     ensures runs { Runs halt_stop result (S.state store.old) (S.state store.new) (S.durable store.old) (S.durable store.new) }
     ensures met { (d : Durable) → S.durable store.old ≡ Some d
         → Asks (Meets plan request.now epoch d) d (S.state store.old) (S.durable store.new) (S.state store.new) (S.may store.new) result }
+    ensures kind { IfOk result (MeetsKind request.now.read) }
 {
     match store.fetch(&request.read, epoch) {
         Ok(answer) => match check_read(epoch, None, plan.me, later)? {
@@ -88,6 +89,7 @@ fn meet<S: Store>(
     ensures runs { Runs halt_stop result (S.state store.old) (S.state store.new) (S.durable store.old) (S.durable store.new) }
     ensures met { (d : Durable) → S.durable store.old ≡ Some d
         → Asks (Meets plan request.now epoch d) d (S.state store.old) (S.durable store.new) (S.state store.new) (S.may store.new) result }
+    ensures kind { IfOk result (MeetsKind request.now.read) }
 {
     let later = if request.snapshot {
         None
@@ -144,6 +146,7 @@ pub fn serve<S: Store>(
         → Part (FetchNext plan m reading request.now) (FetchStage.Reading epoch knows.old.leader.decided) (kept d (S.state store.old))
         (Serves plan m reading request.now epoch knows.old.leader.decided knows.new.leader.decided (kept d (S.state store.old)))
         (S.durable store.new) (S.state store.new) (S.may store.new) result }
+    ensures kind { IfOk result (ServesKind request.now.read) }
     ensures leader { says halt_stop result ≡ false → knows.new.leader ≡ record knows.old.leader { decided = knows.new.leader.decided } }
     ensures keeps { Keeps plan halt_stop result (S.state store.old) (S.state store.new) (S.durable store.old) (S.durable store.new) knows.old knows.new }
 {

@@ -17,6 +17,7 @@ use Rattle.target_reads.specs.Again.{AreHere}
 use Rattle.target_reads.proofs.Parking.{own-as_before}
 use Rattle.target_reads.proofs.Verdicts.{freed-is, frees-here, frees-parkable, leads-frees, own-frees, settled-here, told-joins, told-member, verdict-cut, verdict-settles, with_member}
 use Rattle.target_reads.proofs.Posting.{freed-posts}
+use Rattle.target_reads.proofs.Carrying.{verdict-reads}
 use Rattle.target_reads.proofs.again.hear_verdict.Goals as goal
 
 pub returns-in_err-posts-clause-turn : goal.returns-in_err-posts-clause-turn
@@ -94,3 +95,8 @@ pub returns-in-Ok-clause-posts : goal.returns-in-Ok-clause-posts
 returns-in-Ok-clause-posts g c =
     fewer-posts c.args.plan.targets c.args.knows.now.leader c.settle_by.new.knows.leader c.try_again.new.knows.leader c.try_again.result
     (judged-fewer c.args.verdict c.args.attempt (memory_of (with_member c.hear_verdict.new.self c.args.knows.now)) c.settle_by.new.knows.leader c.in-Ok.ensures.leader) c.try_again.ensures.posts
+
+pub returns-in-Ok-clause-reads : goal.returns-in-Ok-clause-reads
+returns-in-Ok-clause-reads g c =
+    verdict-reads c.args.attempt c.args.ask c.args.verdict c.args.knows.now.member c.hear_verdict.new.self c.in_ok-posts.field-0 c.settle_by.new.knows.member.memory c.try_again.new.knows.member.memory c.try_again.result c.in_ok-posts.ensures.ok
+    (ap (λ m. m.memory) c.in-Ok.ensures.keeps.beside.member) c.try_again.ensures.reads

@@ -1,4 +1,4 @@
-use Rattle.std.proofs.Common.{◌≡◌, ◌<◌, Err, arith, inl, inr, length, refl, rules, subst, sym}
+use Rattle.std.proofs.Common.{◌≡◌, ◌<◌, Err, ap, arith, inl, inr, length, refl, rules, subst, sym}
 use Rattle.model_laws.specs.Members.{Has}
 use Rattle.world_base.specs.Roles.{is_prepared}
 use Rattle.world_base.specs.Turns.{Reached, Whole}
@@ -12,6 +12,7 @@ use Rattle.target_reads.specs.Again.{AreHere, AreParkable}
 use Rattle.target_reads.proofs.Verdicts.{first-removed, partway-from, tried-all, tried-here, tried-stops, tried-whole}
 use Rattle.world_posts.specs.Forms.{PostsInForm}
 use Rattle.world_posts.specs.Posting.{then-posts, waits-on}
+use Rattle.target_reads.proofs.Carrying.{tried-each, tried-none, tried-one}
 use Rattle.target_reads.proofs.again.try_again.Goals as goal
 use Rattle.world_base.specs.PathLaws.{reached-here}
 
@@ -21,6 +22,7 @@ loop-plan-init g c = record {
   target = c.requires.target;
   parkable = subst AreParkable (sym c.into_vec-rest.ensures) c.requires.parkable;
   here = λ d at. subst (λ xs. AreHere xs d) (sym c.into_vec-rest.ensures) (c.requires.here d at);
+  once = tried-none c.args.asks c.args.posts c.args.knows.now.member.memory c.into_vec-rest.result.items c.into_vec-rest.ensures;
   posts = waits-on c.args.plan.targets c.args.knows.now.leader c.args.knows.now.leader c.args.posts refl c.requires.sent;
   reached = λ d at m reading a ask v. record {
     durable = d;
@@ -82,6 +84,8 @@ loop-plan-preserved g c =
       here = for_some_on (g.S.Store.durable c.loop-plan.store) _ (AreHere c.remove.new.self.items) one.stopped.runs.told (λ d at.
           tried-here c.args.plan (memory_of c.loop-plan.knows) 0 c.remove.result c.loop-plan.rest.items c.remove.new.self.items d (g.S.Store.state c.loop-plan.store) (g.S.Store.state c.hear_again.new.store) (g.S.Store.durable c.hear_again.new.store)
           (g.S.Store.may c.hear_again.new.store) (memory_of c.hear_again.new.knows) c.in_ok-did.did removed (one.turn d at 0) (inv.here d at));
+      once = tried-one c.args.asks c.args.posts c.args.knows.now.member.memory c.loop-plan.knows.member.memory c.hear_again.new.knows.member.memory c.remove.result c.loop-plan.rest.items c.remove.new.self.items c.loop-plan.posts c.in_ok-did.did.posts c.push_all.new.posts removed
+          inv.once one.reads c.in_ok-push_all.ensures;
       posts = subst (PostsInForm c.args.plan.targets c.args.knows.now.leader c.hear_again.new.knows.leader) (sym c.in_ok-push_all.ensures)
           (then-posts c.args.plan.targets c.args.knows.now.leader c.loop-plan.knows.leader c.hear_again.new.knows.leader c.loop-plan.posts c.in_ok-did.did.posts inv.posts one.posts);
       reached = λ d at m reading a ask v.
@@ -99,3 +103,7 @@ returns-clause-turn g c d at m reading a ask v =
     let none : length c.loop-plan.rest.items ≡ 0 = search rules in
     tried-all c.args.plan m reading a ask v _ _ (memory_of c.loop-plan.knows) c.loop-plan.rest.items c.loop-plan.posts (g.S.Store.state c.loop-plan.store) (g.S.Store.durable c.loop-plan.store) c.sends.result none c.sends.ensures
     (c.loop-plan.invariant.reached d at m reading a ask v)
+
+pub returns-clause-reads : goal.returns-clause-reads
+returns-clause-reads g c =
+    tried-each c.args.asks c.args.posts c.args.knows.now.member.memory c.loop-plan.knows.member.memory c.loop-plan.rest.items c.loop-plan.posts c.sends.result.posts (ap (λ x. x.posts) c.sends.ensures) c.loop-plan.invariant.once

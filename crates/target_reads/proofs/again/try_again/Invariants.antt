@@ -12,6 +12,7 @@ use Rattle.target_parts.specs.Parts.{Now, StillRuns, kept}
 use Rattle.target_parts.specs.Standing.{IsTarget}
 use Rattle.world_posts.specs.Forms.{PostsInForm}
 use Rattle.target_reads.specs.Again.{AreHere, AreParkable}
+use Rattle.target_reads.proofs.Carrying.{TriedSoFar}
 use Rattle.target_reads.proofs.again.try_again.Given as goal
 
 abbrev pub invariant-loop-plan : goal.invariant-loop-plan
@@ -20,6 +21,7 @@ invariant-loop-plan g l = record {
   target : IsTarget l.plan (g.S.Store.state l.store) (g.S.Store.durable l.store) l.knows;
   parkable : AreParkable l.rest.items;
   here : ForSome (g.S.Store.durable l.store) (AreHere l.rest.items);
+  once : TriedSoFar l.fn.asks l.fn.posts l.fn.knows.member.memory l.knows.member.memory l.rest.items l.posts;
   posts : PostsInForm l.plan.targets l.fn.knows.leader l.knows.leader l.posts;
   reached : (d : Durable) → g.S.Store.durable l.fn.store ≡ Some d → (m : TargetMemory) (reading : ℕ) (a : AttemptId) (ask : Option AttemptId) (v : Verdict)
       → Now (g.S.Store.durable l.store) (g.S.Store.state l.store) (λ k. Reached (VerdictNext is_prepared l.plan m reading a ask v) (Freed l.fn.asks (memory_of l.fn.knows) l.fn.posts) (kept d (g.S.Store.state l.fn.store)) (Freed l.rest.items (memory_of l.knows) l.posts) k);

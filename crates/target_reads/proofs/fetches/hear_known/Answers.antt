@@ -1,4 +1,4 @@
-use Rattle.std.proofs.Common.{◌≡◌, ◌∙◌, ◌/◌, ap, false, subst, sym, true}
+use Rattle.std.proofs.Common.{◌≡◌, ◌∙◌, ◌/◌, ap, false, refl, subst, sym, true, ◌∷◌, []}
 use Rattle.base_types.specs.Operations.{read_path}
 use Rattle.daos_model.specs.Changes.{leased}
 use Rattle.daos_model.specs.Durables.{is_enlisted}
@@ -10,6 +10,8 @@ use Rattle.target_parts.specs.Readying.{leases}
 use Rattle.target_parts.specs.Running.{for_some_on}
 use Rattle.target_reads.specs.Fetches.{FetchTurn}
 use Rattle.target_reads.proofs.FetchTurns.{fetch-at_snapshot, fetch-cut, fetch-on, own-epoch, ticks-at_snapshot, ticks-heard}
+use Rattle.target_reads.proofs.Carrying.{reads-on}
+use Rattle.world_base.specs.Requests.{fetch_message}
 use Rattle.target_reads.proofs.fetches.hear_known.Goals as goal
 
 pub returns-then-request-clause-turn : goal.returns-then-request-clause-turn
@@ -43,3 +45,7 @@ returns-in-Err-clause-turn g c d at reading =
 pub returns-in-Ok-clause-posts : goal.returns-in-Ok-clause-posts
 returns-in-Ok-clause-posts g c client =
     later-posts c.args.plan.targets c.args.knows.now.leader c.hear.new.knows.leader c.read_at-in-Ok.new.knows.leader c.read_at-in-Ok.result (ap (λ k. k.leader) c.in-Ok.ensures.heard) (c.read_at-in-Ok.ensures.posts client)
+
+pub returns-in-Ok-clause-reads : goal.returns-in-Ok-clause-reads
+returns-in-Ok-clause-reads g c =
+    reads-on (fetch_message c.args.request.now ∷ []) (fetch_message c.args.request.now ∷ []) c.args.knows.now.member.memory c.hear.new.knows.member.memory c.read_at-in-Ok.new.knows.member.memory c.read_at-in-Ok.result (ap (λ k. k.member.memory) c.in-Ok.ensures.heard) refl c.read_at-in-Ok.ensures.reads

@@ -1,4 +1,4 @@
-use Rattle.std.proofs.Common.{◌≡◌, ◌∙◌, ◌/◌, None, Some, ap, false, subst, sym, true}
+use Rattle.std.proofs.Common.{◌≡◌, ◌∙◌, ◌/◌, None, Some, ap, false, refl, subst, sym, true, ◌∷◌, []}
 use Rattle.base_types.specs.Operations.{read_path}
 use Rattle.daos_model.specs.Changes.{leased}
 use Rattle.daos_model.specs.Durables.{is_enlisted}
@@ -14,6 +14,9 @@ use Rattle.target_parts.specs.Readying.{leases}
 use Rattle.target_parts.specs.Running.{for_some_on}
 use Rattle.target_reads.specs.Fetches.{FetchTurn}
 use Rattle.target_reads.proofs.FetchTurns.{fetch-cut, fetch-on, fetch-spent, new-known, new-unfrozen, readied, ticks-heard}
+use Rattle.target_reads.proofs.Carrying.{reads-on, spent-reads}
+use Rattle.base_types.specs.declared.outcome.Outcome.TheVariants as outcome
+use Rattle.world_base.specs.Requests.{fetch_message}
 use Rattle.target_reads.proofs.fetches.hear_new.Goals as goal
 
 pub read_at-requires-clause-enlisted : goal.read_at-requires-clause-enlisted
@@ -77,3 +80,11 @@ pub returns-in-Ok-None-clause-posts : goal.returns-in-Ok-None-clause-posts
 returns-in-Ok-None-clause-posts g c client =
     let heard : c.ready.new.knows ≡ with_clock c.args.knows.now.hlc c.args.knows.now = c.in-Ok-None.ensures.heard ∙ ap (λ o. with_clock (heard_of o c.args.knows.now.hlc) c.args.knows.now) c.in-Ok-None.field-0-is in
     client-posts c.args.plan.targets c.args.knows.now.leader c.ready.new.knows.leader c.args.from c.fetched.result None c.says.result client (ap is_told c.fetched.ensures) (ap (λ k. k.leader) heard) c.says.ensures.did
+
+pub returns-in-Ok-Some-clause-reads : goal.returns-in-Ok-Some-clause-reads
+returns-in-Ok-Some-clause-reads g c =
+    reads-on (fetch_message c.args.request.now ∷ []) (fetch_message c.args.request.now ∷ []) c.args.knows.now.member.memory c.ready.new.knows.member.memory c.read_at.new.knows.member.memory c.read_at.result (ap (λ k. k.member.memory) c.in-Ok-Some.ensures.heard) refl c.read_at.ensures.reads
+
+pub returns-in-Ok-None-clause-reads : goal.returns-in-Ok-None-clause-reads
+returns-in-Ok-None-clause-reads g c =
+    spent-reads c.args.request.now c.args.from c.fetched.result outcome.EpochsSpent c.args.knows.now.member.memory c.ready.new.knows.member.memory c.says.result c.fetched.ensures (ap (λ k. k.member.memory) c.in-Ok-None.ensures.heard) c.says.ensures.did

@@ -15,6 +15,7 @@ use Rattle.target_reads.specs.Meets.{Serves}
 use Rattle.target_reads.proofs.FetchTurns.{fetch-told, reading-issued, then-known}
 use Rattle.target_reads.proofs.Retrying.{path-enlisted}
 use Rattle.target_reads.proofs.Posting.{served-posts}
+use Rattle.target_reads.proofs.Carrying.{served-reads}
 use Rattle.target_reads.proofs.fetches.read_at.Goals as goal
 
 pub tell-requires-clause-own : goal.tell-requires-clause-own
@@ -57,3 +58,8 @@ pub returns-in-Ok-clause-posts : goal.returns-in-Ok-clause-posts
 returns-in-Ok-clause-posts g c client =
     served-posts c.args.plan c.args.request.now c.args.from c.args.epoch c.in-Ok.served c.args.knows.now.leader (memory_of c.serve.new.knows) (memory_of c.tell.new.knows) c.tell.result client
     (ap (λ m. m.undecided) (c.in-Ok.ensures.leader refl)) c.tell.ensures.told
+
+pub returns-in-Ok-clause-reads : goal.returns-in-Ok-clause-reads
+returns-in-Ok-clause-reads g c =
+    served-reads c.args.plan c.args.request.now c.args.from c.args.epoch c.in-Ok.served c.args.knows.now.member.memory (memory_of c.serve.new.knows) (memory_of c.tell.new.knows) c.tell.result c.in-Ok.ensures.kind
+    (ap (λ m. m.memory) c.in-Ok.ensures.keeps.beside.member) c.tell.ensures.told

@@ -22,6 +22,7 @@ use Rattle.target_parts.specs.KnowsLaws.{decided-on}
 use Rattle.world_base.specs.Roles.{other_leader_of}
 use Rattle.target_reads.specs.Meets.{Meets, beside_of}
 use Rattle.target_reads.proofs.Serving.{other-known, serves_answer, serves_beside, serves_cut, serves_on, serves_refusal}
+use Rattle.target_reads.proofs.Carrying.{beside-kind}
 use Rattle.target_reads.proofs.reads.serve.Goals as goal
 use Rattle.world_base.specs.LoopLaws.{one-fewer}
 use Rattle.world_base.specs.PathLaws.{reached-here}
@@ -113,3 +114,6 @@ loop-answer-preserved g c =
           subst (λ l. Now (g.S.Store.durable c.settle_decided.new.store) (g.S.Store.state c.settle_decided.new.store) (λ k. Reached (FetchNext c.args.plan m reading c.args.request.now) (Reading c.args.epoch c.args.knows.now.leader.decided) (kept d (g.S.Store.state c.args.store.now)) (Reading c.args.epoch l.decided) k)) (sym settles.leader)
           (serves_on c.args.plan m reading c.args.request.now c.args.epoch _ _ c.loop-answer.knows.leader.decided c.in-Unsettled.other _ now.durable _ _ _ _ _ now.holds answered c.in-Unsettled.is among did.kept_is did.free);
     }
+
+pub returns-then-not-is_one-clause-kind : goal.returns-then-not-is_one-clause-kind
+returns-then-not-is_one-clause-kind g c = beside-kind c.args.request.now.read c.in-Unsettled.other _ c.served_beside.result c.served_beside.ensures
