@@ -6,6 +6,8 @@ use Rattle.target_parts.specs.Knowing.{AreRowsOpen, IsApart, IsOpenHere, memory_
 use Rattle.target_parts.specs.Standing.{target-on}
 use Rattle.target_writes.proofs.Beginning.{begun-here, begun-rows, begun-told}
 use Rattle.target_writes.proofs.Posting.{begun-posts}
+use Rattle.world_kinds.specs.TurnLaws.{sent-by, unread-answers}
+use Rattle.world_kinds.specs.PostLaws.{beginnings-carry}
 use Rattle.target_writes.proofs.commits.begin.Goals as goal
 
 pub returns-clause-begun : goal.returns-clause-begun
@@ -37,3 +39,10 @@ returns-clause-posts g c placed client =
     let leader = leader_of c.seat_of-seat.result [] c.args.knows.now.leader in
     begun-posts c.args.plan c.args.request.now c.args.from c.args.entry.now.epoch c.args.entry.now leader c.begin.new.self c.in_ok-posts.posts c.sends.result.posts c.requires.entry c.seat_of-seat.ensures.targets c.requires.writes placed client
     (c.in_ok-posts.ensures.ok ∙ ap (λ ws. came (begun c.args.entry.now c.args.request.now.first c.args.from ws leader)) c.as_slice.ensures) (ap (λ did. did.posts) c.sends.ensures)
+
+pub returns-clause-reads : goal.returns-clause-reads
+returns-clause-reads g c =
+    let leader = leader_of c.seat_of-seat.result [] c.args.knows.now.leader in
+    unread-answers [] c.args.knows.now.member.memory c.args.knows.now.member.memory c.sends.result.posts refl
+    (sent-by (begun c.args.entry.now c.args.request.now.first c.args.from c.as_slice.result.now leader) c.begin.new.self c.in_ok-posts.posts c.sends.result.posts (beginnings-carry c.args.entry.now c.args.request.now.first c.args.from c.as_slice.result.now leader)
+    c.in_ok-posts.ensures.ok (ap (λ did. did.posts) c.sends.ensures))

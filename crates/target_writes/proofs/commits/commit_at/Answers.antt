@@ -1,4 +1,4 @@
-use Rattle.std.proofs.Common.{◌≡◌, ◌∙◌, Err, None, Ok, Some, ap, refl, rules, subst, sym}
+use Rattle.std.proofs.Common.{◌≡◌, ◌∙◌, Err, None, Ok, Some, ap, refl, rules, subst, sym, []}
 use Rattle.std.specs.Prelude.{IfOk}
 use Rattle.base_messages.specs.declared.message.Message.TheVariants as message
 use Rattle.daos_model.specs.Changes.{prepared}
@@ -24,6 +24,7 @@ use Rattle.target_writes.proofs.Beginning.{writes-own}
 use Rattle.target_writes.proofs.CommitTurns.{commit-goes, commit-halted, commit-told, prepares-as}
 use Rattle.target_writes.proofs.Owning.{led-preparable}
 use Rattle.world_posts.specs.Forms.{is_told}
+use Rattle.world_kinds.specs.TurnLaws.{is_of_read, says-none, turn-carries, turn-on}
 use Rattle.target_writes.proofs.commits.commit_at.Goals as goal
 
 pub returns-in_err-entry-clause-turn : goal.returns-in_err-entry-clause-turn
@@ -132,3 +133,12 @@ returns-in-Ok-None-clause-posts g c client =
 pub returns-in-Ok-Some-clause-posts : goal.returns-in-Ok-Some-clause-posts
 returns-in-Ok-Some-clause-posts g c client =
     client-posts c.args.plan.targets c.args.knows.now.leader c.prepare.new.knows.leader c.args.from c.ended.result c.issued_for-issued.result c.says.result client (ap is_told c.ended.ensures) c.in-Ok-Some.ensures.leader c.says.ensures.did
+
+pub returns-in-Ok-None-clause-reads : goal.returns-in-Ok-None-clause-reads
+returns-in-Ok-None-clause-reads g c =
+    turn-on c.begin.result [] c.args.knows.now.member.memory c.prepare.new.knows.member.memory c.begin.new.knows.member.memory (ap (λ m. m.memory.parked) c.in-Ok-None.ensures.keeps.beside.member) c.begin.ensures.reads
+
+pub returns-in-Ok-Some-clause-reads : goal.returns-in-Ok-Some-clause-reads
+returns-in-Ok-Some-clause-reads g c =
+    turn-carries c.says.result [] c.args.knows.now.member.memory c.prepare.new.knows.member.memory (ap (λ m. m.memory.parked) c.in-Ok-Some.ensures.keeps.beside.member)
+    (says-none c.says.result c.args.from c.ended.result c.issued_for-issued.result (ap is_of_read c.ended.ensures) c.says.ensures.did)

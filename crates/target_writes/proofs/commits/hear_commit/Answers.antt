@@ -1,4 +1,4 @@
-use Rattle.std.proofs.Common.{◌≡◌, ◌∙◌, ◌/◌, ◌<◌, None, Some, ap, arith, refl, sym}
+use Rattle.std.proofs.Common.{◌≡◌, ◌∙◌, ◌/◌, ◌<◌, None, Some, ap, arith, refl, sym, []}
 use Rattle.daos_model.specs.Changes.{leased}
 use Rattle.world_base.specs.Commits.{led_entry, own_writes}
 use Rattle.world_base.specs.Requests as asked
@@ -13,6 +13,7 @@ use Rattle.target_parts.specs.Running.{for_some_on}
 use Rattle.target_writes.specs.Checks.{CanStore}
 use Rattle.target_writes.proofs.CommitTurns.{can-leased, commit-cut, commit-on, commit-spent, readied, request-new}
 use Rattle.target_writes.proofs.Owning.{own-enlisted}
+use Rattle.world_kinds.specs.TurnLaws.{is_of_read, says-none, turn-carries, turn-on}
 use Rattle.target_writes.proofs.commits.hear_commit.Goals as goal
 
 pub commit_at-requires-clause-can : goal.commit_at-requires-clause-can
@@ -81,3 +82,12 @@ pub returns-in-Ok-None-clause-posts : goal.returns-in-Ok-None-clause-posts
 returns-in-Ok-None-clause-posts g c client =
     let heard : c.ready.new.knows ≡ with_clock c.args.knows.now.hlc c.args.knows.now = c.in-Ok-None.ensures.heard ∙ ap (λ o. with_clock (heard_of o c.args.knows.now.hlc) c.args.knows.now) c.in-Ok-None.field-0-is in
     client-posts c.args.plan.targets c.args.knows.now.leader c.ready.new.knows.leader c.args.from c.ended-message.result None c.says.result client (ap is_told c.ended-message.ensures) (ap (λ k. k.leader) heard) c.says.ensures.did
+
+pub returns-in-Ok-Some-clause-reads : goal.returns-in-Ok-Some-clause-reads
+returns-in-Ok-Some-clause-reads g c =
+    turn-on c.commit_at.result [] c.args.knows.now.member.memory c.ready.new.knows.member.memory c.commit_at.new.knows.member.memory (ap (λ k. k.member.memory.parked) c.in-Ok-Some.ensures.heard) c.commit_at.ensures.reads
+
+pub returns-in-Ok-None-clause-reads : goal.returns-in-Ok-None-clause-reads
+returns-in-Ok-None-clause-reads g c =
+    turn-carries c.says.result [] c.args.knows.now.member.memory c.ready.new.knows.member.memory (ap (λ k. k.member.memory.parked) c.in-Ok-None.ensures.heard)
+    (says-none c.says.result c.args.from c.ended-message.result None (ap is_of_read c.ended-message.ensures) c.says.ensures.did)

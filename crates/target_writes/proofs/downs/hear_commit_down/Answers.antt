@@ -1,4 +1,4 @@
-use Rattle.std.proofs.Common.{◌≡◌, ◌∙◌, None, Some, ap, refl}
+use Rattle.std.proofs.Common.{◌≡◌, ◌∙◌, None, Some, ap, refl, []}
 use Rattle.base_messages.specs.declared.message.Message.TheVariants as message
 use Rattle.base_types.specs.declared.outcome.Outcome.TheVariants.{Unknown}
 use Rattle.world_base.specs.Requests as asked
@@ -10,6 +10,7 @@ use Rattle.target_parts.specs.KnowsLaws.{with_clock}
 use Rattle.target_parts.specs.Posting.{client-posts}
 use Rattle.target_writes.proofs.CommitTurns.{readied}
 use Rattle.target_writes.proofs.DownTurns.{down-cut, down-spent, down-told}
+use Rattle.world_kinds.specs.TurnLaws.{is_of_read, says-none, turn-carries}
 use Rattle.target_writes.proofs.downs.hear_commit_down.Goals as goal
 
 pub returns-in-Ok-Some-clause-turn : goal.returns-in-Ok-Some-clause-turn
@@ -61,3 +62,13 @@ returns-in-Err-clause-turn g c =
           (memory_of c.ready.new.knows) said.0 _
           (epoch-known c.args.plan (memory_of c.args.knows.now) c.args.knows.now.hlc ready.0 c.args.request.now.tracker c.args.request.now.ep c.requires.target.own.clock refl ∙ said.1) said.2 c.stop_of.ensures,
     )
+
+pub returns-in-Ok-Some-clause-reads : goal.returns-in-Ok-Some-clause-reads
+returns-in-Ok-Some-clause-reads g c =
+    turn-carries c.says.result [] c.args.knows.now.member.memory c.ready.new.knows.member.memory (ap (λ k. k.member.memory.parked) c.in-Ok-Some.ensures.heard)
+    (says-none c.says.result c.args.from c.ended-message.result c.issued_for.result (ap is_of_read c.ended-message.ensures) c.says.ensures.did)
+
+pub returns-in-Ok-None-clause-reads : goal.returns-in-Ok-None-clause-reads
+returns-in-Ok-None-clause-reads g c =
+    turn-carries c.says-in-Ok-None.result [] c.args.knows.now.member.memory c.ready.new.knows.member.memory (ap (λ k. k.member.memory.parked) c.in-Ok-None.ensures.heard)
+    (says-none c.says-in-Ok-None.result c.args.from c.ended-message-in-Ok-None.result None (ap is_of_read c.ended-message-in-Ok-None.ensures) c.says-in-Ok-None.ensures.did)

@@ -1,4 +1,4 @@
-use Rattle.std.proofs.Common.{◌/◌, ap, sym}
+use Rattle.std.proofs.Common.{◌/◌, ap, sym, []}
 use Rattle.daos_model.specs.Changes.{leased}
 use Rattle.target_parts.specs.Knowing.{memory_of}
 use Rattle.target_parts.specs.Posting.{later-posts}
@@ -7,6 +7,7 @@ use Rattle.target_parts.specs.Running.{for_some_on}
 use Rattle.target_writes.specs.Checks.{CanStore}
 use Rattle.target_writes.proofs.CommitTurns.{can-leased}
 use Rattle.target_writes.proofs.PrepareTurns.{prepare-cut, prepare-on}
+use Rattle.world_kinds.specs.TurnLaws.{turn-on}
 use Rattle.target_writes.proofs.prepares.hear_prepare.Goals as goal
 
 pub prepare_at-requires-clause-can : goal.prepare_at-requires-clause-can
@@ -29,3 +30,6 @@ returns-in-Err-clause-turn g c d at =
 
 pub returns-in-Ok-clause-posts : goal.returns-in-Ok-clause-posts
 returns-in-Ok-clause-posts g c = later-posts c.args.plan.targets c.args.knows.now.leader c.hear.new.knows.leader c.prepare_at.new.knows.leader c.prepare_at.result (ap (λ k. k.leader) c.in-Ok.ensures.heard) c.prepare_at.ensures.posts
+
+pub returns-in-Ok-clause-reads : goal.returns-in-Ok-clause-reads
+returns-in-Ok-clause-reads g c = turn-on c.prepare_at.result [] c.args.knows.now.member.memory c.hear.new.knows.member.memory c.prepare_at.new.knows.member.memory (ap (λ k. k.member.memory.parked) c.in-Ok.ensures.heard) c.prepare_at.ensures.reads

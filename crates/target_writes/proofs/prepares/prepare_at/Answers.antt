@@ -1,4 +1,4 @@
-use Rattle.std.proofs.Common.{◌∙◌, Err, Ok, ap, refl, subst, sym}
+use Rattle.std.proofs.Common.{false, ◌∙◌, Err, Ok, ap, refl, subst, sym, [], None}
 use Rattle.vos_store.specs.Conditions.{IsPreparable}
 use Rattle.world_base.specs.Prepares.{acks}
 use Rattle.target_parts.specs.Halts.{halt_stop}
@@ -9,6 +9,8 @@ use Rattle.target_writes.specs.Checks.{CanStore}
 use Rattle.target_writes.proofs.CommitTurns.{prepares-as}
 use Rattle.target_writes.proofs.PrepareTurns.{asked-preparable, prepare-halted, prepare-told}
 use Rattle.target_writes.proofs.Posting.{ack-posts}
+use Rattle.world_kinds.specs.TurnLaws.{says-none, turn-carries}
+use Rattle.base_messages.specs.declared.message.Message.TheVariants.{Ack}
 use Rattle.target_writes.proofs.prepares.prepare_at.Goals as goal
 
 pub prepare-requires-clause-form : goal.prepare-requires-clause-form
@@ -45,3 +47,9 @@ returns-in-Err-clause-target g c =
 pub returns-in-Ok-clause-posts : goal.returns-in-Ok-clause-posts
 returns-in-Ok-clause-posts g c =
     ack-posts c.args.plan.targets c.args.knows.now.leader c.prepare.new.knows.leader c.args.request.now c.in-Ok.refusal c.acks.result c.in-Ok.ensures.leader c.acks.ensures.did
+
+pub returns-in-Ok-clause-reads : goal.returns-in-Ok-clause-reads
+returns-in-Ok-clause-reads g c =
+    let q = c.args.request.now in
+    turn-carries c.acks.result [] c.args.knows.now.member.memory c.prepare.new.knows.member.memory (ap (λ m. m.memory.parked) c.in-Ok.ensures.keeps.beside.member)
+    (says-none c.acks.result (record { client = false; number = q.entry.leader }) (Ack q.entry.attempt q.inc c.in-Ok.refusal) None refl c.acks.ensures.did)
