@@ -1,0 +1,5 @@
+pub mod Order
+pub mod Places
+pub mod Found
+pub mod Changed
+pub mod Kept
