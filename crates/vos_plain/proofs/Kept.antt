@@ -20,7 +20,7 @@ use Rattle.daos_model.specs.OrderLaws.{in_order-puts, rising-put}
 use Rattle.daos_model.specs.Ordered.{put, puts}
 use Rattle.daos_model.specs.Prunes.{is_going, is_staying}
 use Rattle.daos_model.specs.Versions.{done_by, is_not_pending}
-use Rattle.daos_model.specs.BoolLaws.{and_left, and_right}
+use Rattle.daos_model.specs.BoolLaws.{and_left, and_right, both}
 use Rattle.vos_plain.specs.Costs.{taken_blocks, version_blocks, versions_blocks}
 use Rattle.vos_plain.specs.Steps.{with_entry}
 use Rattle.vos_plain.specs.Sweeps.{unmarked}
@@ -158,6 +158,18 @@ with_entry-in_form vs e d absent form k = record {
 
 pub fewer : (vs ws : List Version) (t : Version → Bool) → ws ≡ filter t vs → versions_blocks ws ≤ versions_blocks vs
 fewer vs ws t e = subst (λ x. versions_blocks x ≤ versions_blocks vs) (sym e) (blocks-filter t vs)
+
+-- what all rows pass, those that are left pass
+pub all_left : (p t : Version → Bool) (vs ws : List Version) → ws ≡ filter t vs → list_all p vs ≡ true → list_all p ws ≡ true
+all_left p t vs ws e h = ap (list_all p) e ∙ left vs h
+  where
+    left : (us : List Version) → list_all p us ≡ true → list_all p (filter t us) ≡ true
+    left [] k = refl
+    left (u ∷ us) k =
+        elim (t u) as (λ (b : Bool). list_all p (if b then u ∷ filter t us else filter t us) ≡ true) [
+          | true ↦ both (p u) (list_all p (filter t us)) (and_left (p u) (list_all p us) k) (left us (and_right (p u) (list_all p us) k))
+          | false ↦ left us (and_right (p u) (list_all p us) k)
+        ]
 
 pub fewer_entries : (es fs : List Entry) (t : Entry → Bool) → fs ≡ filter t es → length fs ≤ length es
 fewer_entries es fs t e = subst (λ x. length x ≤ length es) (sym e) (length-filter t es)

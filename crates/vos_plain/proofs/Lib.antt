@@ -6,3 +6,4 @@ pub mod Turning
 pub mod Newest
 pub mod Stretches
 pub mod Marking
+pub mod Naming

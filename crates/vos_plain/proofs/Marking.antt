@@ -1,7 +1,7 @@
 -- Marks answer for the names of cells what the cells do.
 use Rattle.std.proofs.Common.{◌≡◌, ℕ, suc, zero, ◌+◌, ◌*◌, ◌/◌, ◌%◌, ◌<◌, ◌≤◌, ◌^◌, Bool, true, false, ◌&&◌, ◌||◌, List, [], ◌∷◌, ◌++◌, Option, Some, None, length, drop, take, refl, sym, ◌∙◌, ap, subst, arith}
 use Rattle.std.specs.Prelude.{◌==◌, nat_le, nat_lt, filter, if◌then◌else◌}
-use Rattle.std.specs.List.{list_all}
+use Rattle.std.specs.List.{list_all, list_any}
 use Rattle.std.proofs.lemmas.Bool.Decides.{nat_tests}
 use Rattle.base_types.specs.declared.answer.Answer.TheVariants.{Names}
 use Rattle.base_types.specs.declared.operation.Read.{Read}
@@ -19,7 +19,10 @@ use Rattle.daos_model.specs.Effect.{cut_records, effect, effects, record_cells, 
 use Rattle.daos_model.specs.Forms.{ends_at_akey, fits_array, fits_records, is_length, is_unit, is_write_in_form}
 use Rattle.daos_model.specs.OrderLaws.{before-itself}
 use Rattle.daos_model.specs.Versions.{map_below, sees, writes_in}
+use Rattle.daos_model.proofs.NameOrder.{dkeys_none}
 use Rattle.vos_plain.specs.Marks.{asks_names, mark_at, marked, marked_under, marks_by}
+use Rattle.vos_plain.specs.Names.{is_seen_punch, names_from}
+use Rattle.vos_plain.proofs.Naming.{names-marked}
 
 -- Cells and their marks under a path: each mark stands for one or more cells of its path in a row; cells that aren't
 -- under the path have none.
@@ -212,3 +215,8 @@ answer-marks (read.Extent p low len) vs e a h = absurd (let n : ⊥ = cc in n)
 answer-marks (read.Dkeys p) vs e a h = ap (λ ns. Names ns) (sym (dkeys-marked p (map_below vs e) (marks_by p (writes_in (filter (sees e) vs)) []) (marked-below p vs e h)))
 answer-marks (read.Akeys p) vs e a h = ap (λ ns. Names ns) (sym (akeys-marked p (map_below vs e) (marks_by p (writes_in (filter (sees e) vs)) []) (marked-below p vs e h)))
 answer-marks (read.Exists p) vs e a h = ap yes_or_no (sym (has-marked p (map_below vs e) (marks_by p (writes_in (filter (sees e) vs)) []) (marked-below p vs e h)))
+
+-- where no punch is seen, a read of dkeys is answered by those of the updates
+pub answer-dkeys : (p : Path) (vs : List Version) (e : ℕ) → list_any (is_seen_punch e) vs ≡ false → list_all is_version_in_form vs ≡ true → Names (names_from p e vs []) ≡ answer (read.Dkeys p) (map_below vs e)
+answer-dkeys p vs e g h =
+    ap (λ ns. Names ns) (ap (names_from p e vs) (sym (dkeys_none p)) ∙ names-marked p e vs [] g) ∙ answer-marks (read.Dkeys p) vs e refl h

@@ -8,3 +8,4 @@ pub mod Plain
 pub mod Laws
 pub mod Layers
 pub mod Marks
+pub mod Names

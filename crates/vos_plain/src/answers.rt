@@ -1,5 +1,5 @@
 // What a store over lists answers, without stops.
-ghost use Rattle.std.specs.Prelude.{◌≡◌, ◌*◌, ◌≤◌, true, IfErr, IfOk, length};
+ghost use Rattle.std.specs.Prelude.{◌≡◌, true, IfErr, IfOk, length};
 ghost use Rattle.std.specs.Option.{option_copied};
 ghost use Rattle.daos_model.specs.Answers.{answer};
 ghost use Rattle.std.specs.List.{list_all};
@@ -10,10 +10,10 @@ ghost use Rattle.vos_store.specs.Answers.{shown_or_none};
 use crate::contents::Contents;
 use crate::objects::objects_of;
 use crate::reads::answer_below;
-use crate::rows::{blocks_of, first_between, first_blocking, first_open_in};
+use crate::rows::{first_between, first_blocking, first_open_in};
 use crate::tables::{conts_of, copied, has_snap, new_row, row_of};
 use base_types::answer::Answer;
-use base_types::entry::{Entries, Entry};
+use base_types::entry::Entries;
 use base_types::epoch::Epoch;
 use base_types::id::ContId;
 use base_types::items::{Items, Memory};
@@ -38,14 +38,6 @@ fn shown(version: Option<&Version>) -> Result<Option<Shown>, Memory>
         })),
         None => Ok(None),
     }
-}
-
-// The blocks that entries take.
-fn entries_blocks(entries: &[Entry], limit: u32) -> u32
-    requires { 2 * length entries.now ≤ limit }
-    ensures { result ≡ 2 * length entries.now }
-{
-    2 * entries.len() as u32
 }
 
 // The row of a container, or a new one.
@@ -201,8 +193,6 @@ impl Contents {
     pub fn free(&self) -> u32
         ensures { result ≡ free_of self.now }
     {
-        let taken = blocks_of(&self.rows, self.capacity)
-            + entries_blocks(&self.entries, self.capacity);
-        self.capacity - taken
+        self.capacity - self.taken
     }
 }

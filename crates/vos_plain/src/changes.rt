@@ -1,7 +1,7 @@
 // The changes of what a store over lists keeps.
 use crate::contents::Contents;
 use crate::keyed::{put_in, put_late};
-use crate::rows::{put_all, settle_all, versions_in_form};
+use crate::rows::{blocks_more, blocks_taken, put_all, settle_all, versions_in_form};
 use crate::sweeps::{mark_going, remove_entry, remove_pending, remove_range, remove_snap, sweep};
 use crate::tables::{commit, confirm, create, has_snap, mark, raise, with_conts};
 use base_types::entry::{Entry, Settle};
@@ -48,6 +48,7 @@ impl Contents {
             lease: 0,
             incarnation: 1,
             capacity,
+            taken: 0,
         })
     }
 
@@ -112,6 +113,7 @@ impl Contents {
         ensures free { free_of self.new + versions_blocks rows.items + 2 ≡ free_of self.old }
         ensures lease { self.new.lease ≡ self.old.lease }
     {
+        self.taken += blocks_more(&rows, self.capacity);
         put_all(&mut self.rows, rows);
         put_late(&mut self.entries, entry);
     }
@@ -134,6 +136,7 @@ impl Contents {
     {
         remove_pending(&mut self.rows, attempt);
         remove_entry(&mut self.entries, attempt);
+        self.taken = blocks_taken(&self.rows, &self.entries, self.capacity);
     }
 
     // Adds a confirmed member.
@@ -153,6 +156,7 @@ impl Contents {
         ensures lease { self.new.lease ≡ self.old.lease }
     {
         remove_entry(&mut self.entries, attempt);
+        self.taken = blocks_taken(&self.rows, &self.entries, self.capacity);
     }
 
     /// A step of an attempt.
@@ -234,6 +238,7 @@ impl Contents {
         };
         mark_going(&mut self.marks, &plan);
         sweep(&mut self.rows, &self.marks);
+        self.taken = blocks_taken(&self.rows, &self.entries, self.capacity);
     }
 
     /// Removes the versions of a container in a range.
@@ -243,6 +248,7 @@ impl Contents {
         ensures lease { self.new.lease ≡ self.old.lease }
     {
         remove_range(&mut self.rows, cont, lo, hi);
+        self.taken = blocks_taken(&self.rows, &self.entries, self.capacity);
     }
 
     /// Opens them again.

@@ -9,7 +9,8 @@ use daos_model::durable::{ContRow, Version};
 use std::alloc::Global;
 
 /// What a store over lists keeps: its parts in order, marks for the versions that a prune removes,
-/// with room for all of them, and places for 256 snapshots. Its capacity is in blocks.
+/// with room for all of them, and places for 256 snapshots. Its capacity is in blocks, and the blocks
+/// that are taken are counted as they change.
 #[derive(Drop)]
 pub struct Contents {
     pub alloc: Global,
@@ -21,8 +22,10 @@ pub struct Contents {
     pub lease: u64,
     pub incarnation: u64,
     pub capacity: u32,
+    pub taken: u32,
     ghost formed: { IsInForm (record { versions = rows.items; entries = entries.items; conts = conts.items; snaps = snaps.items; lease = lease; incarnation = incarnation }) },
     ghost marked: { vec_len rows ≤ vec_capacity marks },
     ghost places: { 256 ≤ vec_capacity snaps },
+    ghost counted: { taken ≡ taken_blocks rows.items entries.items },
     ghost room: { taken_blocks rows.items entries.items ≤ capacity },
 }

@@ -7,6 +7,7 @@ mod contents;
 pub mod keyed;
 mod layers;
 mod marks;
+mod names;
 mod objects;
 mod pieces;
 mod plain;

@@ -1,15 +1,19 @@
 // What reads are answered on versions in a row.
-ghost use Rattle.std.specs.Prelude.{◌≡◌, true, find, reverse, IfOk};
-ghost use Rattle.std.specs.List.{list_all};
+ghost use Rattle.std.specs.Prelude.{◌≡◌, true, false, find, reverse, IfOk};
+ghost use Rattle.std.specs.List.{list_all, list_any};
 ghost use Rattle.std.specs.Option.{option_copied};
+ghost use Rattle.base_types.specs.declared.operation.Read.TheVariants.{Dkeys};
 ghost use Rattle.daos_model.specs.Answers.{answer, value_answer};
 ghost use Rattle.daos_model.specs.Cells.{single_cell};
 ghost use Rattle.daos_model.specs.Durables.{is_version_in_form};
 ghost use Rattle.daos_model.specs.Versions.{map_below};
+ghost use Rattle.vos_plain.specs.Marks.{asks_names};
+ghost use Rattle.vos_plain.specs.Names.{is_seen_punch};
 ghost use Rattle.vos_plain.specs.Newest.{says_at, single_of};
 
 use crate::layers::pieces_below;
 use crate::marks::marks_below;
+use crate::names::{dkeys_by, is_punched};
 use base_types::answer::Answer;
 use base_types::epoch::Epoch;
 use base_types::items::{Items, Memory};
@@ -47,9 +51,61 @@ fn single_answer(newest: Option<&Version>) -> Result<Answer, Memory>
     }
 }
 
+// What a read of names, or of whether there is a cell, is answered: names go by one mark for each update.
+fn answer_by_marks(
+    alloc: Global,
+    rows: &[Version],
+    read: &Read,
+    below: Epoch,
+) -> Result<Answer, Memory>
+    requires form { list_all is_version_in_form rows.now ≡ true }
+    requires names { asks_names read.now ≡ true }
+    ensures { IfOk result (λ a. a ≡ answer read.now (map_below rows.now below.0)) }
+{
+    let marks = marks_below(alloc, rows, read.path(), below)?;
+    answer_of(alloc, &marks, read)
+}
+
+// What a read of dkeys is answered where no punch is seen: they are those of the updates.
+fn answer_unpunched(
+    alloc: Global,
+    rows: &[Version],
+    read: &Read,
+    path: &Path,
+    below: Epoch,
+) -> Result<Answer, Memory>
+    requires form { list_all is_version_in_form rows.now ≡ true }
+    requires dkeys { read.now ≡ Dkeys path.now }
+    requires unpunched { list_any (is_seen_punch below.0) rows.now ≡ false }
+    ensures { IfOk result (λ a. a ≡ answer read.now (map_below rows.now below.0)) }
+{
+    let _read = read;
+    let names = dkeys_by(alloc, rows, path, below)?;
+    Ok(Answer::Names(Items::from_vec(names)))
+}
+
+// What a read of dkeys is answered.
+fn answer_dkeys(
+    alloc: Global,
+    rows: &[Version],
+    read: &Read,
+    path: &Path,
+    below: Epoch,
+) -> Result<Answer, Memory>
+    requires form { list_all is_version_in_form rows.now ≡ true }
+    requires dkeys { read.now ≡ Dkeys path.now }
+    ensures { IfOk result (λ a. a ≡ answer read.now (map_below rows.now below.0)) }
+{
+    if is_punched(rows, below) {
+        answer_by_marks(alloc, rows, read, below)
+    } else {
+        answer_unpunched(alloc, rows, read, path, below)
+    }
+}
+
 /// What a read is answered on the map below an epoch. No map is made of its cells: a single value
 /// is that of the newest version that says it, an array's pieces are those of its extents, and names
-/// go by one mark for each update.
+/// go by one mark for each update, or, where no punch is seen, are put in order as they come.
 pub fn answer_below(
     alloc: Global,
     rows: &[Version],
@@ -65,9 +121,7 @@ pub fn answer_below(
             let pieces = pieces_below(alloc, rows, path, *low, *len, below)?;
             Ok(Answer::Parts(Items::from_vec(pieces)))
         }
-        Read::Dkeys(_) | Read::Akeys(_) | Read::Exists(_) => {
-            let marks = marks_below(alloc, rows, read.path(), below)?;
-            answer_of(alloc, &marks, read)
-        }
+        Read::Dkeys(path) => answer_dkeys(alloc, rows, read, path, below),
+        Read::Akeys(_) | Read::Exists(_) => answer_by_marks(alloc, rows, read, below),
     }
 }

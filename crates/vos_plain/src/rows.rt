@@ -1,5 +1,5 @@
 // Versions in a row: what they are kept as, found and read.
-ghost use Rattle.std.specs.Prelude.{◌≡◌, ◌+◌, ◌≤◌, true, find, map, IfOk, vec_len, vec_capacity};
+ghost use Rattle.std.specs.Prelude.{◌≡◌, ◌+◌, ◌*◌, ◌≤◌, true, find, length, map, IfOk, vec_len, vec_capacity};
 ghost use Rattle.std.specs.List.{list_all};
 ghost use Rattle.std.specs.Option.{option_copied};
 ghost use Rattle.daos_model.specs.Blocks.{blocks};
@@ -9,7 +9,7 @@ ghost use Rattle.daos_model.specs.Forms.{AreWritesInForm};
 ghost use Rattle.daos_model.specs.Ordered.{is_in_order, puts};
 ghost use Rattle.daos_model.specs.Versions.{blocks_read, done_by, first_between, first_blocking, is_between, is_pending, version_of, versions_of};
 ghost use Rattle.vos_store.specs.Answers.{is_open_in};
-ghost use Rattle.vos_plain.specs.Costs.{version_blocks, versions_blocks};
+ghost use Rattle.vos_plain.specs.Costs.{taken_blocks, version_blocks, versions_blocks};
 
 use crate::keyed::put_late;
 use base_types::entry::Entry;
@@ -156,8 +156,8 @@ pub fn settle_all(rows: &mut Vec<Version>, attempt: AttemptId)
     settle_among(rows, attempt)
 }
 
-/// The blocks that versions take.
-pub fn blocks_of(rows: &[Version], limit: u32) -> u32
+// The blocks that versions take.
+fn blocks_of(rows: &[Version], limit: u32) -> u32
     requires form { list_all is_version_in_form rows.now ≡ true }
     requires few { versions_blocks rows.now ≤ limit }
     ensures { result ≡ versions_blocks rows.now }
@@ -167,4 +167,30 @@ pub fn blocks_of(rows: &[Version], limit: u32) -> u32
         sum += write_blocks(&row.write);
     }
     sum
+}
+
+// The blocks that entries take.
+fn entries_blocks(entries: &[Entry], limit: u32) -> u32
+    requires { 2 * length entries.now ≤ limit }
+    ensures { result ≡ 2 * length entries.now }
+{
+    2 * entries.len() as u32
+}
+
+/// The blocks that versions and entries take.
+pub fn blocks_taken(rows: &[Version], entries: &[Entry], limit: u32) -> u32
+    requires form { list_all is_version_in_form rows.now ≡ true }
+    requires few { taken_blocks rows.now entries.now ≤ limit }
+    ensures { result ≡ taken_blocks rows.now entries.now }
+{
+    blocks_of(rows, limit) + entries_blocks(entries, limit)
+}
+
+/// The blocks that an entry and its versions take.
+pub fn blocks_more(rows: &[Version], limit: u32) -> u32
+    requires form { list_all is_version_in_form rows.now ≡ true }
+    requires few { versions_blocks rows.now + 2 ≤ limit }
+    ensures { result ≡ versions_blocks rows.now + 2 }
+{
+    blocks_of(rows, limit) + 2
 }

@@ -1,11 +1,12 @@
 use Rattle.daos_model.specs.Changes.{is_other}
 use Rattle.daos_model.specs.Versions.{is_not_pending}
-use Rattle.std.proofs.Common.{◌≤◌, sym, subst, length, arith}
-use Rattle.daos_model.specs.Durables.{IsInForm}
+use Rattle.std.proofs.Common.{◌≡◌, ◌≤◌, ◌∙◌, ap, sym, subst, length, arith}
+use Rattle.std.specs.List.{list_all}
+use Rattle.daos_model.specs.Durables.{IsInForm, is_version_in_form}
 use Rattle.daos_model.specs.FormLaws.{settled-in_form}
 use Rattle.vos_plain.specs.Contents.{contents_of}
 use Rattle.vos_plain.specs.Costs.{versions_blocks}
-use Rattle.vos_plain.proofs.Kept.{aborted_is, fewer, fewer_entries}
+use Rattle.vos_plain.proofs.Kept.{aborted_is, all_left, fewer, fewer_entries}
 use Rattle.base_types.specs.declared.entry.Settle.TheVariants.{Abort}
 use Rattle.vos_plain.proofs.contents.Contents.abort.Goals as goal
 
@@ -28,3 +29,22 @@ returns-clause-free c =
     let few : versions_blocks c.remove_pending.new.rows.items ≤ versions_blocks c.args.self.now.rows.items = fewer c.args.self.now.rows.items c.remove_pending.new.rows.items (is_not_pending c.args.attempt) c.remove_pending.ensures.items in
     let few_entries : length c.remove_entry.new.rows.items ≤ length c.args.self.now.entries.items = fewer_entries c.args.self.now.entries.items c.remove_entry.new.rows.items (is_other c.args.attempt) c.remove_entry.ensures in
     omega (arith, few, few_entries)
+
+pub blocks_taken-self-requires-clause-form : goal.blocks_taken-self-requires-clause-form
+blocks_taken-self-requires-clause-form c =
+    ap (list_all is_version_in_form) c.deref.ensures.value
+    ∙ all_left is_version_in_form (is_not_pending c.args.attempt) c.args.self.now.rows.items c.remove_pending.new.rows.items c.remove_pending.ensures.items c.args.self.now.formed.writes
+
+pub blocks_taken-self-requires-clause-few : goal.blocks_taken-self-requires-clause-few
+blocks_taken-self-requires-clause-few c =
+    let few : versions_blocks c.remove_pending.new.rows.items ≤ versions_blocks c.args.self.now.rows.items = fewer c.args.self.now.rows.items c.remove_pending.new.rows.items (is_not_pending c.args.attempt) c.remove_pending.ensures.items in
+    let few_entries : length c.remove_entry.new.rows.items ≤ length c.args.self.now.entries.items = fewer_entries c.args.self.now.entries.items c.remove_entry.new.rows.items (is_other c.args.attempt) c.remove_entry.ensures in
+    let rows : versions_blocks c.deref.result.now ≡ versions_blocks c.remove_pending.new.rows.items = ap versions_blocks c.deref.ensures.value in
+    let entries : length c.deref-2.result.now ≡ length c.remove_entry.new.rows.items = ap (λ x. length x) c.deref-2.ensures.value in
+    omega (arith, c.args.self.now.room, few, few_entries, rows, entries)
+
+pub invariant_of-self-clause-counted : goal.invariant_of-self-clause-counted
+invariant_of-self-clause-counted c =
+    let rows : versions_blocks c.deref.result.now ≡ versions_blocks c.remove_pending.new.rows.items = ap versions_blocks c.deref.ensures.value in
+    let entries : length c.deref-2.result.now ≡ length c.remove_entry.new.rows.items = ap (λ x. length x) c.deref-2.ensures.value in
+    omega (arith, c.blocks_taken-self.ensures, rows, entries)

@@ -1,4 +1,4 @@
-use Rattle.std.proofs.Common.{◌≤◌, ◌-◌, ap, sym, subst}
+use Rattle.std.proofs.Common.{◌≤◌, ◌-◌, ap, sym, subst, ◌∙◌}
 use Rattle.daos_model.specs.Durables.{IsInForm}
 use Rattle.daos_model.specs.FormLaws.{settled-in_form}
 use Rattle.vos_plain.specs.Contents.{contents_of}
@@ -19,3 +19,6 @@ returns-clause-kept c = committed_is c.args.attempt (contents_of c.args.self.now
 
 pub returns-clause-free : goal.returns-clause-free
 returns-clause-free c = ap (λ n. c.args.self.now.capacity - n) (same_taken _ _ _ _ _ c.settle_all.ensures.items c.commit.ensures)
+
+pub invariant_of-self-clause-counted : goal.invariant_of-self-clause-counted
+invariant_of-self-clause-counted c = c.args.self.now.counted ∙ sym (same_taken _ _ _ _ _ c.settle_all.ensures.items c.commit.ensures)

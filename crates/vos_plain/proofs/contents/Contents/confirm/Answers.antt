@@ -24,3 +24,8 @@ pub returns-clause-free : goal.returns-clause-free
 returns-clause-free c =
     let same : length c.confirm.new.rows.items ≡ length c.args.self.now.entries.items = same_entries c.args.self.now.entries.items c.confirm.new.rows.items (confirmed_at c.args.attempt c.args.member) c.confirm.ensures in
     omega (arith, same)
+
+pub invariant_of-self-clause-counted : goal.invariant_of-self-clause-counted
+invariant_of-self-clause-counted c =
+    let same : length c.confirm.new.rows.items ≡ length c.args.self.now.entries.items = same_entries c.args.self.now.entries.items c.confirm.new.rows.items (confirmed_at c.args.attempt c.args.member) c.confirm.ensures in
+    omega (arith, c.args.self.now.counted, same)

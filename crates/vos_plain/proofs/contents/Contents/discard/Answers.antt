@@ -1,10 +1,11 @@
 use Rattle.daos_model.specs.Changes.{is_out_of_range}
-use Rattle.std.proofs.Common.{◌≤◌, sym, subst, arith}
-use Rattle.daos_model.specs.Durables.{IsInForm}
+use Rattle.std.proofs.Common.{◌≡◌, ◌≤◌, ◌∙◌, ap, sym, subst, length, arith}
+use Rattle.std.specs.List.{list_all}
+use Rattle.daos_model.specs.Durables.{IsInForm, is_version_in_form}
 use Rattle.daos_model.specs.FormLaws.{discarded-in_form}
 use Rattle.vos_plain.specs.Contents.{contents_of}
 use Rattle.vos_plain.specs.Costs.{versions_blocks}
-use Rattle.vos_plain.proofs.Kept.{discarded_is, fewer}
+use Rattle.vos_plain.proofs.Kept.{all_left, discarded_is, fewer}
 use Rattle.vos_plain.proofs.contents.Contents.discard.Goals as goal
 
 pub invariant_of-self-clause-formed : goal.invariant_of-self-clause-formed
@@ -24,3 +25,21 @@ pub returns-clause-free : goal.returns-clause-free
 returns-clause-free c =
     let few : versions_blocks c.remove_range.new.rows.items ≤ versions_blocks c.args.self.now.rows.items = fewer c.args.self.now.rows.items c.remove_range.new.rows.items (is_out_of_range c.args.cont c.args.lo c.args.hi) c.remove_range.ensures.items in
     omega (arith, few)
+
+pub blocks_taken-self-requires-clause-form : goal.blocks_taken-self-requires-clause-form
+blocks_taken-self-requires-clause-form c =
+    ap (list_all is_version_in_form) c.deref.ensures.value
+    ∙ all_left is_version_in_form (is_out_of_range c.args.cont c.args.lo c.args.hi) c.args.self.now.rows.items c.remove_range.new.rows.items c.remove_range.ensures.items c.args.self.now.formed.writes
+
+pub blocks_taken-self-requires-clause-few : goal.blocks_taken-self-requires-clause-few
+blocks_taken-self-requires-clause-few c =
+    let few : versions_blocks c.remove_range.new.rows.items ≤ versions_blocks c.args.self.now.rows.items = fewer c.args.self.now.rows.items c.remove_range.new.rows.items (is_out_of_range c.args.cont c.args.lo c.args.hi) c.remove_range.ensures.items in
+    let rows : versions_blocks c.deref.result.now ≡ versions_blocks c.remove_range.new.rows.items = ap versions_blocks c.deref.ensures.value in
+    let entries : length c.deref-2.result.now ≡ length c.args.self.now.entries.items = ap (λ x. length x) c.deref-2.ensures.value in
+    omega (arith, c.args.self.now.room, few, rows, entries)
+
+pub invariant_of-self-clause-counted : goal.invariant_of-self-clause-counted
+invariant_of-self-clause-counted c =
+    let rows : versions_blocks c.deref.result.now ≡ versions_blocks c.remove_range.new.rows.items = ap versions_blocks c.deref.ensures.value in
+    let entries : length c.deref-2.result.now ≡ length c.args.self.now.entries.items = ap (λ x. length x) c.deref-2.ensures.value in
+    omega (arith, c.blocks_taken-self.ensures, rows, entries)

@@ -1,8 +1,9 @@
 use Rattle.daos_model.specs.Changes.{is_other}
-use Rattle.std.proofs.Common.{◌≤◌, sym, subst, length, arith}
+use Rattle.std.proofs.Common.{◌≡◌, ◌≤◌, ap, sym, subst, length, arith}
 use Rattle.daos_model.specs.Durables.{IsInForm}
 use Rattle.daos_model.specs.FormLaws.{settled-in_form}
 use Rattle.vos_plain.specs.Contents.{contents_of}
+use Rattle.vos_plain.specs.Costs.{versions_blocks}
 use Rattle.vos_plain.proofs.Kept.{forgotten_is, fewer_entries}
 use Rattle.base_types.specs.declared.entry.Settle.TheVariants.{Forget}
 use Rattle.vos_plain.proofs.contents.Contents.forget.Goals as goal
@@ -24,3 +25,10 @@ pub returns-clause-free : goal.returns-clause-free
 returns-clause-free c =
     let few_entries : length c.remove_entry.new.rows.items ≤ length c.args.self.now.entries.items = fewer_entries c.args.self.now.entries.items c.remove_entry.new.rows.items (is_other c.args.attempt) c.remove_entry.ensures in
     omega (arith, few_entries)
+
+pub blocks_taken-self-requires-clause-few : goal.blocks_taken-self-requires-clause-few
+blocks_taken-self-requires-clause-few c =
+    let few_entries : length c.remove_entry.new.rows.items ≤ length c.args.self.now.entries.items = fewer_entries c.args.self.now.entries.items c.remove_entry.new.rows.items (is_other c.args.attempt) c.remove_entry.ensures in
+    let rows : versions_blocks c.deref.result.now ≡ versions_blocks c.args.self.now.rows.items = ap versions_blocks c.deref.ensures.value in
+    let entries : length c.deref-2.result.now ≡ length c.remove_entry.new.rows.items = ap (λ x. length x) c.deref-2.ensures.value in
+    omega (arith, c.args.self.now.room, few_entries, rows, entries)

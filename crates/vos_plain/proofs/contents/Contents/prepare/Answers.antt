@@ -1,4 +1,4 @@
-use Rattle.std.proofs.Common.{◌≡◌, ◌+◌, sym, subst, arith}
+use Rattle.std.proofs.Common.{◌≡◌, ◌+◌, ap, sym, subst, arith}
 use Rattle.daos_model.specs.Durables.{IsInForm, entry_key}
 use Rattle.vos_plain.specs.Contents.{contents_of}
 use Rattle.vos_plain.specs.Costs.{taken_blocks, versions_blocks}
@@ -23,3 +23,9 @@ pub returns-clause-free : goal.returns-clause-free
 returns-clause-free c =
     let more : taken_blocks c.put_all.new.rows.items c.put_late.new.rows.items ≡ taken_blocks c.args.self.now.rows.items c.args.self.now.entries.items + versions_blocks c.args.rows.items + 2 = more_taken c.args.rows.items c.args.self.now.rows.items c.put_all.new.rows.items c.args.entry c.args.self.now.entries.items c.put_late.new.rows.items c.put_all.ensures.items c.put_late.ensures.items in
     omega (arith, c.args.self.now.room, c.requires.free, more)
+
+pub invariant_of-self-clause-counted : goal.invariant_of-self-clause-counted
+invariant_of-self-clause-counted c =
+    let more : taken_blocks c.put_all.new.rows.items c.put_late.new.rows.items ≡ taken_blocks c.args.self.now.rows.items c.args.self.now.entries.items + versions_blocks c.args.rows.items + 2 = more_taken c.args.rows.items c.args.self.now.rows.items c.put_all.new.rows.items c.args.entry c.args.self.now.entries.items c.put_late.new.rows.items c.put_all.ensures.items c.put_late.ensures.items in
+    let read : versions_blocks c.deref.result.now ≡ versions_blocks c.args.rows.items = ap versions_blocks c.deref.ensures.value in
+    omega (arith, c.args.self.now.counted, c.blocks_more.ensures, more, read)

@@ -1,11 +1,12 @@
 use Rattle.std.proofs.Common.{◌≡◌, ◌≤◌, ◌+◌, ap, sym, ◌∙◌, subst, filter, length, vec_len, arith, rules}
-use Rattle.daos_model.specs.Durables.{IsInForm}
+use Rattle.std.specs.List.{list_all}
+use Rattle.daos_model.specs.Durables.{IsInForm, is_version_in_form}
 use Rattle.daos_model.specs.FormLaws.{length-map, pruned-in_form}
 use Rattle.daos_model.specs.Prunes.{is_going, is_staying}
 use Rattle.vos_store.specs.Calls.{going_count}
 use Rattle.vos_plain.specs.Contents.{contents_of}
 use Rattle.vos_plain.specs.Costs.{versions_blocks}
-use Rattle.vos_plain.proofs.Kept.{freed, pruned_is, swept_by}
+use Rattle.vos_plain.proofs.Kept.{all_left, freed, pruned_is, swept_by}
 use Rattle.vos_plain.proofs.contents.Contents.prune.Goals as goal
 
 pub sweep-requires : goal.sweep-requires
@@ -35,3 +36,23 @@ returns-clause-free c =
     let rows : c.sweep.new.rows.items ≡ filter (is_staying c.args.cont c.args.upto (contents_of c.args.self.now)) c.args.self.now.rows.items = swept_by c.args.cont c.args.upto (contents_of c.args.self.now) c.deref.result.now c.deref-2.result.now c.mark_going.new.marks.items c.deref-3.result.now c.sweep.new.rows.items c.mark_going.ensures.items c.deref.ensures.value c.deref-2.ensures.value c.deref-3.ensures.value c.sweep.ensures.items in
     let given : versions_blocks c.sweep.new.rows.items + going_count c.args.cont c.args.upto (contents_of c.args.self.now) ≤ versions_blocks c.args.self.now.rows.items = freed c.args.cont c.args.upto (contents_of c.args.self.now) c.sweep.new.rows.items rows in
     omega (arith, c.args.self.now.room, given)
+
+pub blocks_taken-self-requires-clause-form : goal.blocks_taken-self-requires-clause-form
+blocks_taken-self-requires-clause-form c =
+    let rows : c.sweep.new.rows.items ≡ filter (is_staying c.args.cont c.args.upto (contents_of c.args.self.now)) c.args.self.now.rows.items = swept_by c.args.cont c.args.upto (contents_of c.args.self.now) c.deref.result.now c.deref-2.result.now c.mark_going.new.marks.items c.deref-3.result.now c.sweep.new.rows.items c.mark_going.ensures.items c.deref.ensures.value c.deref-2.ensures.value c.deref-3.ensures.value c.sweep.ensures.items in
+    ap (list_all is_version_in_form) c.deref-4.ensures.value
+    ∙ all_left is_version_in_form (is_staying c.args.cont c.args.upto (contents_of c.args.self.now)) c.args.self.now.rows.items c.sweep.new.rows.items rows c.args.self.now.formed.writes
+
+pub blocks_taken-self-requires-clause-few : goal.blocks_taken-self-requires-clause-few
+blocks_taken-self-requires-clause-few c =
+    let rows : c.sweep.new.rows.items ≡ filter (is_staying c.args.cont c.args.upto (contents_of c.args.self.now)) c.args.self.now.rows.items = swept_by c.args.cont c.args.upto (contents_of c.args.self.now) c.deref.result.now c.deref-2.result.now c.mark_going.new.marks.items c.deref-3.result.now c.sweep.new.rows.items c.mark_going.ensures.items c.deref.ensures.value c.deref-2.ensures.value c.deref-3.ensures.value c.sweep.ensures.items in
+    let given : versions_blocks c.sweep.new.rows.items + going_count c.args.cont c.args.upto (contents_of c.args.self.now) ≤ versions_blocks c.args.self.now.rows.items = freed c.args.cont c.args.upto (contents_of c.args.self.now) c.sweep.new.rows.items rows in
+    let read : versions_blocks c.deref-4.result.now ≡ versions_blocks c.sweep.new.rows.items = ap versions_blocks c.deref-4.ensures.value in
+    let entries : length c.deref-5.result.now ≡ length c.args.self.now.entries.items = ap (λ x. length x) c.deref-5.ensures.value in
+    omega (arith, c.args.self.now.room, given, read, entries)
+
+pub invariant_of-self-clause-counted : goal.invariant_of-self-clause-counted
+invariant_of-self-clause-counted c =
+    let read : versions_blocks c.deref-4.result.now ≡ versions_blocks c.sweep.new.rows.items = ap versions_blocks c.deref-4.ensures.value in
+    let entries : length c.deref-5.result.now ≡ length c.args.self.now.entries.items = ap (λ x. length x) c.deref-5.ensures.value in
+    omega (arith, c.blocks_taken-self.ensures, read, entries)
