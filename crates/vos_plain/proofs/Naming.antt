@@ -12,7 +12,7 @@ use Rattle.daos_model.specs.Answers.{dkey_under, dkeys_below, in_byte_order, opt
 use Rattle.daos_model.specs.Prunes.{is_punch}
 use Rattle.daos_model.specs.Versions.{sees, writes_in}
 use Rattle.vos_plain.specs.Marks.{mark_at, marked, marked_under, marks_by}
-use Rattle.vos_plain.specs.Names.{dkey_by, dkey_in, is_seen_punch, names_from}
+use Rattle.vos_plain.specs.Names.{dkey_in, is_seen_punch, names_from}
 
 neither : (a b : Bool) → (a || b) ≡ false → (a ≡ false) × (b ≡ false)
 neither true b e = absurd (let n : ⊥ = cc in n)

@@ -1,4 +1,4 @@
-use Rattle.std.proofs.Common.{◌≡◌, ◌∙◌, ap, sym}
+use Rattle.std.proofs.Common.{◌∙◌, ap, sym}
 use Rattle.base_types.specs.declared.answer.Answer.TheVariants.{Names}
 use Rattle.daos_model.specs.Answers.{answer}
 use Rattle.daos_model.specs.Versions.{map_below}
