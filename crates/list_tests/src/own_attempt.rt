@@ -1,35 +1,61 @@
 // A leader that is told what became of its own attempt. Client 0 writes an akey that two targets hold; target 0
 // leads, has stored the write, and waits for the Ack of target 1. Then it hears a Mark or a Verdict of it. Two
 // targets, one turn.
-use crate::names::{RowNo, target};
-use crate::parts::{client_state, decided, durable, letter, memory, no_member, target_state};
-use crate::two_targets::{WRITER, entry, row_script, the_write, undecided, versions, waits};
+use crate::parts::{add_client, client_state, empty_world, enlist, put, target_state};
+use crate::worlds::no_events;
+use base_messages::actor::ActorId;
 use base_messages::message::Message;
-use base_types::entry::Verdict;
+use base_types::entry::{Entry, Verdict};
 use base_types::epoch::Epoch;
+use base_types::id::{AttemptId, Class};
 use base_types::items::Items;
-use daos_model::durable::Durable;
-use dtx_base::leading::LeaderMemory;
+use base_types::operation::{Act, Cond, Op};
+use base_types::script::ClientLists;
+use daos_model::durable::Version;
+use dtx_base::leading::Undecided;
 use std::alloc::Global;
-use world_base::letter::{Letter, Letters};
+use world_base::client::{Present, Stage};
+use world_base::letter::Letter;
 use world_base::target::TargetState;
-use world_base::world::{Numbers, World};
-use world_list::events::{Event, EventKind, EventList, Events};
+use world_base::world::World;
+use world_check::check::check_list;
+use world_list::events::{Event, EventKind, Events};
 
 /// What is told of the turn: whether a Mark is heard or else a Verdict, whether it tells of a commit or else of
 /// an abort, whether the attempt is then settled, and whether the leader then waits for it no more.
 #[derive(Clone, Copy)]
-pub struct Told {
+pub(crate) struct Told {
     pub marks: bool,
     pub commits: bool,
     pub settles: bool,
     pub forgets: bool,
 }
 
-fn mark(alloc: Global, commits: bool) -> Result<Message, RowNo> {
+const WRITER: AttemptId = AttemptId {
+    client: 0,
+    command: 0,
+    attempt: 0,
+};
+
+const CLIENT: ActorId = ActorId {
+    client: true,
+    number: 0,
+};
+
+const LEADER: ActorId = ActorId {
+    client: false,
+    number: 0,
+};
+
+const MEMBER: ActorId = ActorId {
+    client: false,
+    number: 1,
+};
+
+fn mark(alloc: Global, commits: bool) -> Option<Message> {
     let mut marks = Items::new(alloc);
-    marks.push((WRITER, commits))?;
-    Ok(Message::Mark { inc: 1, marks })
+    marks.push((WRITER, commits)).ok()?;
+    Some(Message::Mark { inc: 1, marks })
 }
 
 fn verdict(commits: bool) -> Message {
@@ -46,127 +72,150 @@ fn verdict(commits: bool) -> Message {
 }
 
 // What target 1 tells target 0.
-fn what_it_hears(alloc: Global, told: Told) -> Result<Letter, RowNo> {
+fn heard(alloc: Global, told: &Told) -> Option<Letter> {
     let message = if told.marks {
         mark(alloc, told.commits)?
     } else {
         verdict(told.commits)
     };
-    Ok(letter(target(1), target(0), message))
+    Some(Letter {
+        from: MEMBER,
+        to: LEADER,
+        message,
+    })
 }
 
 // The answer to a Mark.
-fn marked(alloc: Global) -> Result<Letter, RowNo> {
-    let attempts = the_write(alloc)?;
-    let message = Message::Marked { inc: 1, attempts };
-    Ok(letter(target(0), target(1), message))
+fn marked(alloc: Global) -> Option<Letter> {
+    let mut attempts = Items::new(alloc);
+    attempts.push(WRITER).ok()?;
+    Some(Letter {
+        from: LEADER,
+        to: MEMBER,
+        message: Message::Marked { inc: 1, attempts },
+    })
 }
 
-// What target 0 keeps once the attempt is committed, or else while it is prepared.
-fn holds(alloc: Global, done: bool) -> Result<Durable, RowNo> {
-    let versions = versions(alloc, true, done)?;
-    durable(alloc, versions, Some(entry(done, 0)), 1)
-}
-
-// What it keeps once the attempt is aborted.
-fn holds_nothing(alloc: Global) -> Result<Durable, RowNo> {
-    let versions = versions(alloc, false, false)?;
-    durable(alloc, versions, None, 1)
-}
-
-// What it keeps before the attempt is settled, and after that.
-fn kept(alloc: Global, settled: bool, commits: bool) -> Result<Durable, RowNo> {
-    if !settled {
-        holds(alloc, false)
-    } else if commits {
-        holds(alloc, true)
-    } else {
-        holds_nothing(alloc)
-    }
-}
-
-// What it remembers as a leader, while it waits for the Ack and after that.
-fn leading(alloc: Global, waits: bool) -> Result<LeaderMemory, RowNo> {
-    if waits {
-        undecided(alloc)
-    } else {
-        Ok(decided(alloc, Items::new(alloc)))
-    }
+// The write as the leader stores it, and its entry.
+fn store(alloc: Global, target: &mut TargetState, done: bool) -> Option<()> {
+    let write = put(alloc, Class::RP2G1)?;
+    let version = Version {
+        epoch: Epoch(256),
+        minor: 0,
+        by: WRITER,
+        done,
+        write,
+    };
+    target.durable.versions.push(version).ok()?;
+    let entry = Entry {
+        attempt: WRITER,
+        epoch: Epoch(256),
+        leader: 0,
+        members: 3,
+        confirmed: 0,
+        committed: done,
+    };
+    target.durable.entries.push(entry).ok()
 }
 
 // Target 0 before the turn and after it.
-fn leader_state(alloc: Global, over: bool, told: Told) -> Result<TargetState, RowNo> {
-    let kept = kept(alloc, over && told.settles, told.commits)?;
-    let leader = leading(alloc, !over || !told.forgets)?;
-    let memory = memory(alloc, 1, Items::new(alloc), leader, no_member(alloc));
-    Ok(target_state(kept, 15_109, memory))
-}
-
-// Target 1, which holds nothing.
-fn other_state(alloc: Global) -> Result<TargetState, RowNo> {
-    let versions = versions(alloc, false, false)?;
-    let kept = durable(alloc, versions, None, 0)?;
-    let leader = decided(alloc, Items::new(alloc));
-    let memory = memory(alloc, 0, Items::new(alloc), leader, no_member(alloc));
-    Ok(target_state(kept, 15_120, memory))
-}
-
-fn letters(alloc: Global, over: bool, told: Told) -> Result<Letters, RowNo> {
-    let mut letters = Items::new(alloc);
-    if !over {
-        letters.push(what_it_hears(alloc, told)?)?;
-    } else if told.marks {
-        letters.push(marked(alloc)?)?;
+fn fill_leader(alloc: Global, told: &Told, target: &mut TargetState, over: bool) -> Option<()> {
+    enlist(target)?;
+    target.free = 15_109;
+    target.durable.lease = 65_536;
+    target.memory.ticks = 1;
+    let settled = over && told.settles;
+    if !settled || told.commits {
+        store(alloc, target, settled)?;
     }
-    Ok(letters)
+    if !over || !told.forgets {
+        let waits = Undecided {
+            attempt: WRITER,
+            client: Some(CLIENT),
+            counted: 0,
+        };
+        target.memory.leader.undecided.push(waits).ok()?;
+    }
+    Some(())
+}
+
+fn add_targets(alloc: Global, told: &Told, world: &mut World, over: bool) -> Option<()> {
+    let mut target = target_state(alloc);
+    fill_leader(alloc, told, &mut target, over)?;
+    world.targets.push(target).ok()?;
+    let mut target = target_state(alloc);
+    enlist(&mut target)?;
+    world.targets.push(target).ok()
+}
+
+// The client waits for the end of its attempt.
+fn add_waiting(alloc: Global, world: &mut World) -> Option<()> {
+    let mut client = client_state(alloc);
+    client.present = Some(Present {
+        attempt: 0,
+        first: None,
+        epoch: None,
+        op: 1,
+        stage: Stage::Cond,
+        group: 0,
+        found: None,
+        conds: Items::new(alloc),
+        gots: Items::new(alloc),
+        waits: true,
+    });
+    world.clients.push(client).ok()
 }
 
 // A Mark is without an answer before the turn; a Verdict has none.
-fn asked(alloc: Global, over: bool, told: Told) -> Result<Letters, RowNo> {
-    let mut letters = Items::new(alloc);
-    if told.marks && !over {
-        letters.push(what_it_hears(alloc, told)?)?;
+fn add_letters(alloc: Global, told: &Told, world: &mut World, over: bool) -> Option<()> {
+    if !over {
+        world.messages.push(heard(alloc, told)?).ok()?;
     }
-    Ok(letters)
+    if told.marks && over {
+        world.messages.push(marked(alloc)?).ok()?;
+    }
+    if told.marks && !over {
+        world.asked.push(heard(alloc, told)?).ok()?;
+    }
+    Some(())
 }
 
 // The world before the turn and after it.
-fn world(alloc: Global, over: bool, told: Told) -> Result<World, RowNo> {
-    let mut targets = Items::new(alloc);
-    targets.push(leader_state(alloc, over, told)?)?;
-    targets.push(other_state(alloc)?)?;
-    let mut clients = Items::new(alloc);
-    clients.push(client_state(alloc, waits(0, 0, false))?)?;
-    let mut issued = Items::new(alloc);
-    issued.push((WRITER, Epoch(256)))?;
-    Ok(World {
-        targets,
-        clients,
-        messages: letters(alloc, over, told)?,
-        asked: asked(alloc, over, told)?,
-        issued,
-        numbers: Numbers {
-            restarts: 0,
-            aggregates: 0,
-        },
-        lines: Items::new(alloc),
-    })
+fn fill(alloc: Global, told: &Told, world: &mut World, over: bool) -> Option<()> {
+    add_targets(alloc, told, world, over)?;
+    add_waiting(alloc, world)?;
+    world.issued.push((WRITER, Epoch(256))).ok()?;
+    add_letters(alloc, told, world, over)
 }
 
-/// The turn, as it is told.
-pub(crate) fn events(alloc: Global, told: Told) -> Result<Events, RowNo> {
-    let mut list: EventList = Items::new(alloc);
-    list.push(Event {
-        kind: EventKind::Hear,
-        actor: target(0),
-        heard: Some(what_it_hears(alloc, told)?),
-        after: world(alloc, true, told)?,
-    })?;
-    Ok(Events {
-        script: row_script(alloc)?,
-        attempts: 8,
-        epsilon: 0,
-        start: world(alloc, false, told)?,
-        list,
+fn add_put(alloc: Global, clients: &mut ClientLists) -> Option<()> {
+    let mut ops = Items::new(alloc);
+    let act = Act::Change(put(alloc, Class::RP2G1)?);
+    ops.push(Op {
+        act,
+        cond: Cond::Free,
     })
+    .ok()?;
+    add_client(alloc, clients, ops)
+}
+
+// The turn, as it is told.
+fn tell(alloc: Global, told: &Told, events: &mut Events) -> Option<()> {
+    add_put(alloc, &mut events.script.clients)?;
+    fill(alloc, told, &mut events.start, false)?;
+    let mut event = Event {
+        kind: EventKind::Hear,
+        actor: LEADER,
+        heard: Some(heard(alloc, told)?),
+        after: empty_world(alloc),
+    };
+    fill(alloc, told, &mut event.after, true)?;
+    events.list.push(event).ok()
+}
+
+/// Whether that is a turn.
+pub(crate) fn is_turn(alloc: Global, told: &Told) -> Option<bool> {
+    let mut events = no_events(alloc, 2);
+    tell(alloc, told, &mut events)?;
+    check_list(alloc, &events).ok()
 }

@@ -1,189 +1,121 @@
-// Runs that are told truly are accepted, and none where one thing is changed.
-use crate::{below_read, own_attempt, two_targets};
+// A run that is told truly is accepted; where one thing is changed, it is refused at the first event that tells it.
+use crate::own_attempt;
+use crate::tables::{TURNS, Told};
+use crate::worlds::{begin, go_on, no_events};
 use std::alloc::Global;
 use std::test::Fail;
 use world_check::check::check_list;
+use world_list::events::Events;
 
-const BELOW: below_read::Told = below_read::Told {
-    read: 512,
-    yes: false,
-    cause: 512,
-    free: 15_109,
-};
-
-const TWO: two_targets::Told = two_targets::Told {
-    read: 513,
-    absent: false,
-    inc: 1,
-    confirmed: 2,
-    stays: false,
-};
-
-// Whether the run on one target is accepted, as it is told, but for one turn that is left out.
-fn accepts_below(alloc: Global, told: below_read::Told, without: u8) -> Result<bool, Fail> {
-    let events = below_read::events_without(alloc, told, without)?;
-    Ok(check_list(alloc, &events)?)
+// The first turn at which the list so far is no run, or 0.
+fn refused_in(alloc: Global, told: &Told, events: &mut Events) -> Option<usize> {
+    begin(alloc, told, events)?;
+    for turn in 1..=TURNS {
+        go_on(alloc, told, events, turn)?;
+        if !check_list(alloc, events).ok()? {
+            return Some(turn);
+        }
+    }
+    Some(0)
 }
 
-// Whether the run on two targets is.
-fn accepts_two(alloc: Global, told: two_targets::Told, without: u8) -> Result<bool, Fail> {
-    let events = two_targets::events_without(alloc, told, without)?;
-    Ok(check_list(alloc, &events)?)
-}
-
-// Whether the turn of a leader is.
-fn accepts_own(alloc: Global, told: own_attempt::Told) -> Result<bool, Fail> {
-    let events = own_attempt::events(alloc, told)?;
-    Ok(check_list(alloc, &events)?)
+// The first turn at which a run is refused that is told so, or 0.
+fn refused_at(alloc: Global, told: &Told) -> Option<usize> {
+    let mut events = no_events(alloc, 1);
+    refused_in(alloc, told, &mut events)
 }
 
 #[test]
 fn a_write_below_a_later_read(rt: HostRuntime) -> Result<(), Fail> {
     let alloc = rt.alloc();
-    let told = |read, yes, cause, free| below_read::Told {
-        read,
-        yes,
-        cause,
-        free,
-    };
+    // What is told, and the turn at which it is refused, or 0.
     let rows = [
-        (true, BELOW, "as it was"),
+        (512, false, 512, 15_109, 0, "as it was"),
         (
-            true,
-            told(1_280, false, 1_280, 15_109),
+            1_280,
+            false,
+            1_280,
+            15_109,
+            0,
             "a later reading of the clock",
         ),
-        (true, told(512, false, 512, 15_115), "fewer blocks taken"),
+        (512, false, 512, 15_115, 0, "fewer blocks taken"),
+        (513, false, 513, 15_109, 5, "an epoch of another target"),
         (
+            256,
             false,
-            told(513, false, 513, 15_109),
-            "an epoch of another target",
-        ),
-        (
-            false,
-            told(256, false, 256, 15_109),
+            256,
+            15_109,
+            5,
             "an epoch that was issued before",
         ),
-        (false, told(512, true, 512, 15_109), "another answer"),
-        (false, told(512, false, 256, 15_109), "another cause"),
-        (false, told(512, false, 512, 15_108), "more blocks taken"),
+        (512, true, 512, 15_109, 5, "another answer"),
+        (512, false, 256, 15_109, 7, "another cause"),
+        (512, false, 512, 15_108, 11, "more blocks taken"),
     ];
-    for (accepted, told, what) in rows {
-        assert_eq!(rt; accepts_below(alloc, told, 0)?, accepted, "{what}");
+    for (read, yes, cause, free, turn, what) in rows {
+        let told = Told {
+            read,
+            yes,
+            cause,
+            free,
+            without: 0,
+        };
+        assert_eq!(rt; refused_at(alloc, &told), Some(turn), "{what}");
     }
     Ok(())
 }
 
-#[test]
-fn replicas_and_a_read_that_waits(rt: HostRuntime) -> Result<(), Fail> {
-    let alloc = rt.alloc();
-    let told = |read, absent, inc, confirmed, stays| two_targets::Told {
-        read,
-        absent,
-        inc,
-        confirmed,
-        stays,
-    };
-    let rows = [
-        (true, TWO, "as it was"),
-        (
-            true,
-            told(1_281, false, 1, 2, false),
-            "a later reading of the clock",
-        ),
-        (
-            false,
-            told(512, false, 1, 2, false),
-            "an epoch of another target",
-        ),
-        (false, told(513, true, 1, 2, false), "another answer"),
-        (false, told(513, false, 2, 2, false), "another incarnation"),
-        (false, told(513, false, 1, 0, false), "no member confirmed"),
-        (
-            false,
-            told(513, false, 1, 2, true),
-            "an Ack that stays in flight",
-        ),
-    ];
-    for (accepted, told, what) in rows {
-        assert_eq!(rt; accepts_two(alloc, told, 0)?, accepted, "{what}");
+// The first turn that may be left out, or 0: where one is, the one after it is refused.
+fn left_out(alloc: Global) -> Option<usize> {
+    for without in 1..TURNS {
+        let told = Told {
+            read: 512,
+            yes: false,
+            cause: 512,
+            free: 15_109,
+            without,
+        };
+        if refused_at(alloc, &told)? != without + 1 {
+            return Some(without);
+        }
     }
+    Some(0)
+}
+
+#[test]
+fn no_turn_is_left_out(rt: HostRuntime) -> Result<(), Fail> {
+    assert_eq!(rt; left_out(rt.alloc()), Some(0));
     Ok(())
 }
 
 #[test]
 fn a_leader_settles_what_it_is_told_of_its_own_attempt(rt: HostRuntime) -> Result<(), Fail> {
     let alloc = rt.alloc();
-    let told = |marks, commits, settles, forgets| own_attempt::Told {
-        marks,
-        commits,
-        settles,
-        forgets,
-    };
+    // Whether a Mark is heard or else a Verdict, whether it tells of a commit or else of an abort, whether the
+    // attempt is then settled, whether the leader then waits for it no more; and whether that is a turn.
     let rows = [
-        (true, told(true, true, true, true), "a Mark of a commit"),
-        (true, told(true, false, true, true), "a Mark of an abort"),
-        (true, told(false, true, true, true), "a Verdict of a commit"),
-        (
-            true,
-            told(false, false, true, true),
-            "a Verdict of an abort",
-        ),
-        (
-            false,
-            told(true, true, false, true),
-            "a Mark that settles nothing",
-        ),
-        (
-            false,
-            told(false, false, false, true),
-            "a Verdict that settles nothing",
-        ),
-        (
-            false,
-            told(true, true, true, false),
-            "a leader that goes on waiting",
-        ),
-        (
-            false,
-            told(false, false, false, false),
-            "a leader that passes it by",
-        ),
+        (true, true, true, true, true),
+        (true, false, true, true, true),
+        (false, true, true, true, true),
+        (false, false, true, true, true),
+        (true, true, false, true, false),
+        (false, false, false, true, false),
+        (true, true, true, false, false),
+        (false, false, false, false, false),
     ];
-    for (accepted, told, what) in rows {
-        assert_eq!(rt; accepts_own(alloc, told)?, accepted, "{what}");
+    for (marks, commits, settles, forgets, accepted) in rows {
+        let told = own_attempt::Told {
+            marks,
+            commits,
+            settles,
+            forgets,
+        };
+        assert_eq!(rt;
+            own_attempt::is_turn(alloc, &told),
+            Some(accepted),
+            "{marks} {commits}"
+        );
     }
-    Ok(())
-}
-
-// The first turn on one target that may be left out, if one may.
-fn left_out_below(alloc: Global) -> Result<Option<u8>, Fail> {
-    for turn in 1..below_read::TURNS {
-        if accepts_below(alloc, BELOW, turn)? {
-            return Ok(Some(turn));
-        }
-    }
-    Ok(None)
-}
-
-#[test]
-fn a_turn_on_one_target_is_not_left_out(rt: HostRuntime) -> Result<(), Fail> {
-    assert_eq!(rt; left_out_below(rt.alloc())?, None);
-    Ok(())
-}
-
-// The first turn on two targets that may be left out, if one may.
-fn left_out_two(alloc: Global) -> Result<Option<u8>, Fail> {
-    for turn in 1..two_targets::TURNS {
-        if accepts_two(alloc, TWO, turn)? {
-            return Ok(Some(turn));
-        }
-    }
-    Ok(None)
-}
-
-#[test]
-fn a_turn_on_two_targets_is_not_left_out(rt: HostRuntime) -> Result<(), Fail> {
-    assert_eq!(rt; left_out_two(rt.alloc())?, None);
     Ok(())
 }
