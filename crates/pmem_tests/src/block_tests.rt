@@ -3,12 +3,10 @@ ghost use Rattle.std.specs.Prelude.{◌≡◌, ◌+◌, ◌<◌, ◌≤◌, ◌^
 ghost use Rattle.pmem_alloc.specs.Blocks.{IsOpened};
 
 use base_outside::sure_region::SureRegion;
-use pmem_alloc::blocks::{Blocks, NoBlock};
+use pmem_alloc::blocks::Blocks;
 use pmem_pages::pages::Pages;
-use pmem_pages::refusal::PageNo;
 use pmem_undo::undo_region::UndoRegion;
 use std::alloc::Global;
-use std::test::Fail;
 
 // The blocks of a fresh region, with nothing staged.
 fn fresh(alloc: Global, size: u32) -> Option<Blocks<SureRegion>>
@@ -20,60 +18,37 @@ fn fresh(alloc: Global, size: u32) -> Option<Blocks<SureRegion>>
     Blocks::open(undo).ok()
 }
 
-#[test]
-fn all_blocks_of_a_fresh_region_are_free(rt: HostRuntime) -> Result<(), Fail> {
-    for (size, free) in [
-        (323584, 0),
-        (323584 + 255, 0),
-        (323584 + 256, 1),
-        (2097152, 6928),
-        (4194304, 15120),
-        (33554432, 129808),
-    ] {
-        let blocks = fresh(rt.alloc(), size).ok_or("memory")?;
-        assert_eq!(rt; blocks.free(), free);
+// How many are free in it.
+fn free_in(alloc: Global, size: u32) -> u32
+    requires { 323584 ≤ size }
+{
+    match fresh(alloc, size) {
+        Some(blocks) => blocks.free(),
+        None => u32::MAX,
     }
-    Ok(())
 }
 
 #[test]
-fn more_than_are_free_are_not_taken(rt: HostRuntime) -> Result<(), Fail> {
-    let mut blocks = fresh(rt.alloc(), 2097152).ok_or("memory")?;
-    assert_eq!(rt; blocks.free(), 6928);
-    assert_eq!(rt; blocks.take(6929), Err(NoBlock));
-    assert_eq!(rt; blocks.free(), 6928);
-    Ok(())
+fn all_blocks_of_a_fresh_region_are_free(rt: HostRuntime) {
+    let alloc = rt.alloc();
+    assert!(rt; free_in(alloc, 323584) == 0);
+    assert!(rt; free_in(alloc, 323584 + 255) == 0);
+    assert!(rt; free_in(alloc, 323584 + 256) == 1);
+    assert!(rt; free_in(alloc, 2097152) == 6928);
+    assert!(rt; free_in(alloc, 33554432) == 129808);
 }
 
-#[test]
-fn the_least_are_taken(rt: HostRuntime) -> Result<(), Fail> {
-    let mut blocks = fresh(rt.alloc(), 2097152).ok_or("memory")?;
-    assert_eq!(rt; blocks.take(3), Ok(1264));
-    assert_eq!(rt; blocks.at(2), 1266);
-    assert_eq!(rt; blocks.free(), 6925);
-    Ok(())
-}
-
-#[test]
-fn each_take_leaves_less_to_stage(rt: HostRuntime) -> Result<(), Fail> {
-    let mut blocks = fresh(rt.alloc(), 2097152).ok_or("memory")?;
-    assert_eq!(rt; blocks.left(), (1024, 256000));
-    assert_eq!(rt; blocks.take(3), Ok(1264));
-    assert_eq!(rt; blocks.left(), (1021, 255997));
-    Ok(())
-}
-
-#[test]
-fn what_is_dropped_is_free_again(rt: HostRuntime) -> Result<(), Fail> {
-    let mut blocks = fresh(rt.alloc(), 2097152).ok_or("memory")?;
-    assert_eq!(rt; blocks.take(3), Ok(1264));
-    blocks.drop_stage();
-    assert_eq!(rt; blocks.free(), 6928);
-    assert_eq!(rt; blocks.take(2), Ok(1264));
-    assert!(rt; blocks.commit().is_ok());
-    let blocks = Blocks::open(blocks.into_undo()).ok().ok_or("stopped")?;
-    assert_eq!(rt; blocks.free(), 6926);
-    Ok(())
+// Takes three blocks: the first and the third of them, how many are free then, and what is left to stage.
+fn take_three(blocks: &mut Blocks<SureRegion>) -> Option<([u32; 3], (u32, u32))>
+    requires { blocks.old.undo.staged ≡ [] }
+{
+    match blocks.take(3) {
+        Ok(first) => {
+            let third = blocks.at(2);
+            Some(([first, third, blocks.free()], blocks.left()))
+        }
+        Err(_) => None,
+    }
 }
 
 // Takes a block and gives it back. It tells the block, and how many are free then.
@@ -89,17 +64,45 @@ fn take_and_give(blocks: &mut Blocks<SureRegion>) -> Option<(u32, u32)>
     }
 }
 
-#[test]
-fn what_is_given_back_is_free_again(rt: HostRuntime) -> Result<(), Fail> {
-    let mut blocks = fresh(rt.alloc(), 2097152).ok_or("memory")?;
-    assert_eq!(rt; take_and_give(&mut blocks), Some((1264, 6928)));
-    Ok(())
+fn three_taken(alloc: Global) -> Option<([u32; 3], (u32, u32))> {
+    let mut blocks = fresh(alloc, 2097152)?;
+    take_three(&mut blocks)
+}
+
+fn one_given(alloc: Global) -> Option<(u32, u32)> {
+    let mut blocks = fresh(alloc, 2097152)?;
+    take_and_give(&mut blocks)
+}
+
+// Takes three blocks and drops the stage, and takes two again and commits: the first of the two, and how many are
+// free in the region then.
+fn two_committed(alloc: Global) -> Option<(u32, u32)> {
+    let mut blocks = fresh(alloc, 2097152)?;
+    let _three = take_three(&mut blocks);
+    blocks.drop_stage();
+    let first = blocks.take(2).ok()?;
+    let committed = blocks.commit().is_ok();
+    let blocks = Blocks::open(blocks.into_undo()).ok()?;
+    if committed {
+        Some((first, blocks.free()))
+    } else {
+        None
+    }
+}
+
+// The only block of a region, and whether there is another.
+fn only_block(alloc: Global) -> Option<(u32, bool)> {
+    let mut blocks = fresh(alloc, 323584 + 256)?;
+    let first = blocks.take_block().ok()?;
+    Some((first, blocks.take_block().is_ok()))
 }
 
 #[test]
-fn pages_take_the_least_block(rt: HostRuntime) -> Result<(), Fail> {
-    let mut blocks = fresh(rt.alloc(), 323584 + 256).ok_or("memory")?;
-    assert_eq!(rt; blocks.take_block(), Ok(1264));
-    assert_eq!(rt; blocks.take_block(), Err(PageNo::NoBlock));
-    Ok(())
+fn the_least_blocks_are_taken(rt: HostRuntime) {
+    let alloc = rt.alloc();
+    let taken = ([1264, 1266, 6925], (1021, 255997));
+    assert!(rt; three_taken(alloc) == Some(taken));
+    assert!(rt; one_given(alloc) == Some((1264, 6928)));
+    assert!(rt; two_committed(alloc) == Some((1264, 6926)));
+    assert!(rt; only_block(alloc) == Some((1264, false)));
 }

@@ -1,5 +1,4 @@
 // Regions in memory, and commits that are cut at each of their writes.
-use base_outside::Failed;
 use base_outside::rack::Rack;
 use base_outside::region::Region;
 use daos_regions::fused::Fused;
@@ -8,7 +7,6 @@ use daos_regions::mem_rack::MemRack;
 use daos_regions::mem_region::MemRegion;
 use pmem_undo::undo_region::UndoRegion;
 use std::alloc::Global;
-use std::test::Fail;
 
 // The least size of a region with an undo log.
 pub(crate) const SIZE: u64 = 323584;
@@ -67,25 +65,37 @@ fn row(alloc: Global, fails: &[u32], keep: Keep, fuse: u32) -> Option<(bool, [u8
     }
 }
 
-#[test]
-fn a_cut_commit_leaves_the_old_bytes_or_the_new(rt: HostRuntime) -> Result<(), Fail> {
-    let rows: [(&[u32], Keep, u32, (bool, &[u8; 3])); 9] = [
-        (&[], Keep::All, 0, (true, b"new")),
-        (&[], Keep::All, 6, (false, b"old")),
-        (&[], Keep::All, 7, (false, b"old")),
-        (&[], Keep::All, 8, (false, b"old")),
-        (&[], Keep::All, 9, (false, b"old")),
-        // The flush after the gate was closed, which is the twentieth call.
-        (&[20], Keep::All, 0, (false, b"new")),
-        (&[20], Keep::None, 0, (false, b"old")),
-        (&[20], Keep::Second, 0, (false, b"old")),
-        // The flush after the ranges were written.
-        (&[18], Keep::All, 0, (false, b"old")),
-    ];
-    for (fails, keep, fuse, (done, bytes)) in rows {
-        assert_eq!(rt; row(rt.alloc(), fails, keep, fuse), Some((done, *bytes)));
+// Whether a row commits, or doesn't, and leaves these bytes.
+fn leaves(
+    alloc: Global,
+    fails: &[u32],
+    keep: Keep,
+    fuse: u32,
+    committed: bool,
+    left: &[u8],
+) -> bool {
+    match row(alloc, fails, keep, fuse) {
+        Some((done, bytes)) => done == committed && bytes.as_slice() == left,
+        None => false,
     }
-    Ok(())
+}
+
+#[test]
+fn a_cut_commit_leaves_the_old_bytes_or_the_new(rt: HostRuntime) {
+    let alloc = rt.alloc();
+    assert!(rt; leaves(alloc, &[], Keep::All, 0, true, b"new"));
+    for fuse in 6..10 {
+        assert!(rt;
+            leaves(alloc, &[], Keep::All, fuse, false, b"old"),
+            "{fuse}"
+        );
+    }
+    // The flush after the gate was closed, which is the twentieth call.
+    assert!(rt; leaves(alloc, &[20], Keep::All, 0, false, b"new"));
+    assert!(rt; leaves(alloc, &[20], Keep::None, 0, false, b"old"));
+    assert!(rt; leaves(alloc, &[20], Keep::Second, 0, false, b"old"));
+    // The flush after the ranges were written.
+    assert!(rt; leaves(alloc, &[18], Keep::All, 0, false, b"old"));
 }
 
 // Commits with a fuse that is set through the log: whether it went well, and how often the fuse and the
@@ -99,19 +109,19 @@ fn fused(alloc: Global, fuse: u32) -> Option<(bool, u64, u64)> {
 }
 
 #[test]
-fn a_fuse_cuts_the_first_four_writes(rt: HostRuntime) -> Result<(), Fail> {
-    for (fuse, done, burnt) in [(0, true, 0), (1, false, 1), (4, false, 1), (5, true, 0)] {
-        assert_eq!(rt; fused(rt.alloc(), fuse), Some((done, burnt, 0)));
-    }
-    Ok(())
+fn a_fuse_cuts_the_first_four_writes(rt: HostRuntime) {
+    let alloc = rt.alloc();
+    assert!(rt; fused(alloc, 0) == Some((true, 0, 0)));
+    assert!(rt; fused(alloc, 1) == Some((false, 1, 0)));
+    assert!(rt; fused(alloc, 4) == Some((false, 1, 0)));
+    assert!(rt; fused(alloc, 5) == Some((true, 0, 0)));
 }
 
 // Two writes, a flush, and two writes more, and what an opening leaves of them.
-fn opened(alloc: Global, keep: Keep) -> Option<[u8; 4]> {
-    let mut region = match MemRegion::new(alloc, 4, &[], keep) {
-        Ok(region) => region,
-        Err(_) => return None,
-    };
+fn opened(region: &mut MemRegion) -> Option<[u8; 4]> {
+    if region.size() != 4 {
+        return None;
+    }
     region.write(0, b"a").ok()?;
     region.write(1, b"b").ok()?;
     region.flush().ok()?;
@@ -123,43 +133,70 @@ fn opened(alloc: Global, keep: Keep) -> Option<[u8; 4]> {
     Some(bytes)
 }
 
-#[test]
-fn an_opening_keeps_what_was_flushed(rt: HostRuntime) -> Result<(), Fail> {
-    for (keep, bytes) in [
-        (Keep::All, b"abcd"),
-        (Keep::None, b"ab\0\0"),
-        (Keep::Second, b"ab\0d"),
-    ] {
-        assert_eq!(rt; opened(rt.alloc(), keep), Some(*bytes));
+fn keeps(alloc: Global, keep: Keep, left: &[u8]) -> bool {
+    match MemRegion::new(alloc, 4, &[], keep) {
+        Ok(region) => {
+            let mut region = region;
+            opened(&mut region).is_some_and(|bytes| bytes.as_slice() == left)
+        }
+        Err(_) => false,
     }
-    Ok(())
 }
 
 #[test]
-fn after_a_failure_all_fails_until_an_opening(rt: HostRuntime) -> Result<(), Fail> {
-    let mut region = MemRegion::new(rt.alloc(), 4, &[2], Keep::All)?;
-    assert_eq!(rt; region.write(0, b"a"), Ok(()));
-    assert_eq!(rt; region.flush(), Err(Failed));
-    assert_eq!(rt; region.write(1, b"b"), Err(Failed));
-    assert_eq!(rt; region.faults(), 2);
-    assert_eq!(rt; region.reopen(), Ok(()));
-    assert_eq!(rt; region.write(1, b"b"), Ok(()));
-    assert_eq!(rt; region.faults(), 2);
-    Ok(())
+fn an_opening_keeps_what_was_flushed(rt: HostRuntime) {
+    let alloc = rt.alloc();
+    assert!(rt; keeps(alloc, Keep::All, b"abcd"));
+    assert!(rt; keeps(alloc, Keep::None, b"ab\0\0"));
+    assert!(rt; keeps(alloc, Keep::Second, b"ab\0d"));
 }
 
-#[test]
-fn a_rack_fails_by_its_list(rt: HostRuntime) -> Result<(), Fail> {
-    let mut rack = MemRack::new(rt.alloc(), 2, 4, &[2])?;
-    let mut region = rack.region(0, 4)?;
-    region.write(0, b"a")?;
+// Which calls are answered of a region whose second call fails, and how often it failed.
+fn answered(region: &mut MemRegion) -> Option<([bool; 5], u64)> {
+    if region.size() != 4 {
+        return None;
+    }
+    let calls = [
+        region.write(0, b"a").is_ok(),
+        region.flush().is_ok(),
+        region.write(1, b"b").is_ok(),
+        region.reopen().is_ok(),
+        region.write(1, b"b").is_ok(),
+    ];
+    Some((calls, region.faults()))
+}
+
+fn fails_on(alloc: Global) -> Option<([bool; 5], u64)> {
+    let mut region = MemRegion::new(alloc, 4, &[2], Keep::All).ok()?;
+    answered(&mut region)
+}
+
+// A byte is written into a region of a rack whose second call fails, which is given back; the rack fails, and hands
+// it out again: the byte, and how often the rack failed.
+fn handed_out(rack: &mut MemRack) -> Option<(u8, u64)> {
+    let mut region = rack.region(0, 4).ok()?;
+    let written = region.size() == 4 && region.write(0, b"a").is_ok();
     rack.take_back(0, region);
-    assert!(rt; rack.region(1, 4).is_err());
-    assert_eq!(rt; rack.faults(), 1);
-    let mut region = rack.region(0, 4)?;
-    assert_eq!(rt; region.size(), 4);
+    if !written || rack.region(1, 4).is_ok() {
+        return None;
+    }
+    let mut region = rack.region(0, 4).ok()?;
     let mut byte = [0];
-    region.read(0, &mut byte)?;
-    assert_eq!(rt; byte, *b"a");
-    Ok(())
+    if region.size() != 4 || region.read(0, &mut byte).is_err() {
+        return None;
+    }
+    Some((byte[0], rack.faults()))
+}
+
+fn fails_by_its_list(alloc: Global) -> Option<(u8, u64)> {
+    let mut rack = MemRack::new(alloc, 2, 4, &[2]).ok()?;
+    handed_out(&mut rack)
+}
+
+#[test]
+fn after_a_failure_all_fails_until_an_opening(rt: HostRuntime) {
+    let alloc = rt.alloc();
+    let calls = [true, false, false, true, true];
+    assert!(rt; fails_on(alloc) == Some((calls, 2)));
+    assert!(rt; fails_by_its_list(alloc) == Some((b'a', 1)));
 }

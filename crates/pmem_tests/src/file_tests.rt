@@ -7,6 +7,7 @@ use base_outside::region::Region;
 use daos_files::file_rack::FileRack;
 use daos_files::file_region::FileRegion;
 use pmem_undo::undo_region::UndoRegion;
+use std::alloc::Global;
 use std::fs::File;
 use std::rt::Files;
 use std::test::Fail;
@@ -23,37 +24,48 @@ fn region<R: Files<File = File> + Drop>(rack: &mut FileRack<R>, size: u64) -> Op
     None
 }
 
-#[test]
-fn a_commit_over_a_file_lasts(rt: HostRuntime) -> Result<(), Fail> {
-    let id = process::id(rt.process());
-    let name = format!(in rt.alloc(); "/tmp/pmem-tests-commit-{id}")?;
-    let folder = name.as_str();
-    let _ = fs::remove_dir_all(&rt, folder);
-    let mut rack = FileRack::new(rt.alloc(), &rt, folder)?;
-    let file = region(&mut rack, SIZE).ok_or("region")?;
-    let mut undo = UndoRegion::format(rt.alloc(), file).ok().ok_or("format")?;
-    assert_eq!(rt; commit(&mut undo, b"new"), Some(true));
-    assert_eq!(rt; bytes_after(rt.alloc(), undo), Some(*b"new"));
-    fs::remove_dir_all(&rt, folder)?;
-    Ok(())
+// What stands in a file after a commit over it, opened anew.
+fn committed<R: Files<File = File> + Drop>(
+    alloc: Global,
+    rack: &mut FileRack<R>,
+) -> Option<[u8; 3]> {
+    let file = region(rack, SIZE)?;
+    let mut undo = UndoRegion::format(alloc, file).ok()?;
+    if commit(&mut undo, b"new") != Some(true) {
+        return None;
+    }
+    bytes_after(alloc, undo)
+}
+
+fn write_first<R: Files<File = File> + Drop>(rack: &mut FileRack<R>) -> Option<()> {
+    let mut file = region(rack, SIZE)?;
+    let written = file.write(0, b"a").is_ok() && file.flush().is_ok();
+    rack.take_back(0, file);
+    if written { Some(()) } else { None }
+}
+
+// A byte that was written, where another size is asked for, and how often the rack failed.
+fn written<R: Files<File = File> + Drop>(rack: &mut FileRack<R>) -> Option<(u8, u64)> {
+    write_first(rack)?;
+    let mut file = region(rack, 2 * SIZE)?;
+    let mut byte = [0];
+    if file.read(0, &mut byte).is_err() {
+        return None;
+    }
+    Some((byte[0], rack.faults()))
 }
 
 #[test]
-fn a_rack_of_files_keeps_their_bytes_and_sizes(rt: HostRuntime) -> Result<(), Fail> {
+fn files_keep_their_bytes_and_sizes(rt: HostRuntime) -> Result<(), Fail> {
     let id = process::id(rt.process());
-    let name = format!(in rt.alloc(); "/tmp/pmem-tests-rack-{id}")?;
+    let name = format!(in rt.alloc(); "/tmp/pmem-tests-{id}")?;
     let folder = name.as_str();
     let _ = fs::remove_dir_all(&rt, folder);
     let mut rack = FileRack::new(rt.alloc(), &rt, folder)?;
-    let mut file = region(&mut rack, SIZE).ok_or("region")?;
-    file.write(0, b"a")?;
-    file.flush()?;
-    rack.take_back(0, file);
-    let mut file = region(&mut rack, 2 * SIZE).ok_or("region")?;
-    let mut byte = [0];
-    file.read(0, &mut byte)?;
-    assert_eq!(rt; byte, *b"a");
-    assert_eq!(rt; rack.faults(), 0);
+    let first = written(&mut rack);
+    let then = committed(rt.alloc(), &mut rack);
     fs::remove_dir_all(&rt, folder)?;
+    assert!(rt; first == Some((b'a', 0)));
+    assert!(rt; then == Some(*b"new"));
     Ok(())
 }

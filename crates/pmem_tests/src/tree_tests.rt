@@ -1,4 +1,4 @@
-// Trees in memory beside std's ordered map.
+// Trees in memory beside a plain list of what is there.
 ghost use Rattle.std.specs.Prelude.{◌≡◌, ◌<◌, ◌≤◌};
 ghost use Rattle.pmem_pages.specs.Node.{IsKey, IsValue};
 
@@ -9,10 +9,8 @@ use pmem_pages::steps::Steps;
 use pmem_tree::tree::Tree;
 use pmem_tree::{Pair, TreeKey, Value};
 use std::alloc::Global;
-use std::collections::BTreeMap;
 use std::marker::Brand;
 use std::sync::ledger::{Blank, Ledger};
-use std::test::Fail;
 
 // A key of two bytes.
 fn key_of(i: u16) -> TreeKey
@@ -140,25 +138,86 @@ fn balanced_height<L: Ledger>(
     }
 }
 
-// Whether the tree has exactly the map's numbers, in order, from 1 on.
+// Whether the tree has exactly the numbers from 1 on that a list says are there, in order.
 fn agrees<L: Ledger>(
     pages: &mut MemPages,
     root: u32,
-    map: &BTreeMap<u16, u16>,
+    there: &[bool],
+    count: usize,
     steps: &mut Steps<L>,
 ) -> bool {
     let mut last = 0;
-    for i in map.keys() {
-        if next(pages, root, last, map.len(), steps) != Some(*i) {
-            return false;
+    let mut number = 0u16;
+    for is_there in there {
+        number = number.saturating_add(1);
+        if *is_there {
+            if next(pages, root, last, count, steps) != Some(number) {
+                return false;
+            }
+            last = number;
         }
-        last = *i;
     }
-    next(pages, root, last, map.len(), steps).is_none()
+    next(pages, root, last, count, steps).is_none()
         && balanced_height(pages, root, 66, steps).is_some()
 }
 
-// Inserts the numbers from 1 to 1,000 in an order, and removes each second one of that order.
+// The number that comes after so many in an order, below 1,000.
+fn at(order: u16, k: u16) -> u16
+    ensures { result < 1000 }
+{
+    (u32::from(k) * u32::from(order) % 1000) as u16
+}
+
+// A list that says of none of the numbers from 1 to 1,000 that it is there.
+fn none_there(alloc: Global) -> Option<Vec<bool>> {
+    let mut there = Vec::new(alloc);
+    for _ in 0..1000 {
+        there.push(false).ok()?;
+    }
+    Some(there)
+}
+
+// Notes whether the number behind this one is there.
+fn set(there: &mut [bool], i: u16, is_there: bool) {
+    if let Some(noted) = there.get_mut(usize::from(i)) {
+        *noted = is_there;
+    }
+}
+
+// Inserts the numbers from 1 to 1,000 in an order: the new root.
+fn grow<L: Ledger>(
+    pages: &mut MemPages,
+    order: u16,
+    there: &mut [bool],
+    steps: &mut Steps<L>,
+) -> Option<u32> {
+    let mut root = 0;
+    for k in 0..1000u16 {
+        let i = at(order, k);
+        root = insert(pages, root, i + 1, usize::from(k), steps)?;
+        set(there, i, true);
+    }
+    Some(root)
+}
+
+// Removes each second one of that order.
+fn shrink<L: Ledger>(
+    pages: &mut MemPages,
+    root: u32,
+    order: u16,
+    there: &mut [bool],
+    steps: &mut Steps<L>,
+) -> Option<u32> {
+    let mut root = root;
+    for k in 0..500u16 {
+        let i = at(order, 2 * k);
+        root = remove(pages, root, i + 1, 1000, steps)?;
+        set(there, i, false);
+    }
+    Some(root)
+}
+
+// Whether the tree agrees with the list once it is grown, and once it is shrunk; and how many blocks are free then.
 fn row<L: Ledger>(alloc: Global, order: u16, blank: Blank) -> Option<(bool, bool, u32)>
     requires name { blank.name ≡ L.name }
     requires parts { blank.parts ≡ L.parts }
@@ -166,36 +225,25 @@ fn row<L: Ledger>(alloc: Global, order: u16, blank: Blank) -> Option<(bool, bool
 {
     let mut steps = Steps::<L>::new(blank);
     let mut pages = MemPages::new(alloc, 1000).ok()?;
-    let mut map = BTreeMap::new(alloc);
-    let mut root = 0;
-    for k in 0..1000u32 {
-        let i = (k * u32::from(order) % 1000 + 1) as u16;
-        root = insert(&mut pages, root, i, map.len(), &mut steps)?;
-        map.insert(i, i).ok()?;
-    }
-    let full = agrees(&mut pages, root, &map, &mut steps);
-    for k in 0..500u32 {
-        let i = (2 * k * u32::from(order) % 1000 + 1) as u16;
-        root = remove(&mut pages, root, i, map.len(), &mut steps)?;
-        map.remove(&i);
-    }
-    Some((
-        full,
-        agrees(&mut pages, root, &map, &mut steps),
-        pages.free(),
-    ))
+    let mut there = none_there(alloc)?;
+    let root = grow(&mut pages, order, &mut there, &mut steps)?;
+    let full = agrees(&mut pages, root, &there, 1000, &mut steps);
+    let root = shrink(&mut pages, root, order, &mut there, &mut steps)?;
+    let half = agrees(&mut pages, root, &there, 500, &mut steps);
+    Some((full, half, pages.free()))
+}
+
+// Whether all go well in an order.
+fn agree(alloc: Global, order: u16) -> bool {
+    row::<Brand>(alloc, order, Blank::new(1)) == Some((true, true, 500))
 }
 
 #[test]
-fn trees_agree_with_maps(rt: HostRuntime) -> Result<(), Fail> {
-    for order in [1, 999, 617] {
-        assert_eq!(rt;
-            row::<Brand>(rt.alloc(), order, Blank::new(1)),
-            Some((true, true, 500)),
-            "order {order}"
-        );
-    }
-    Ok(())
+fn trees_agree_with_lists(rt: HostRuntime) {
+    let alloc = rt.alloc();
+    assert!(rt; agree(alloc, 1));
+    assert!(rt; agree(alloc, 999));
+    assert!(rt; agree(alloc, 617));
 }
 
 // A key of one byte.
@@ -207,19 +255,19 @@ fn letter(byte: u8) -> TreeKey
     TreeKey { len: 1, bytes }
 }
 
-// The number that a pair holds.
-fn pair_number(pair: Option<Pair>) -> Option<u16> {
+// The number that a pair holds, or 0.
+fn pair_number(pair: Option<Pair>) -> u16 {
     match pair {
-        Some(pair) => Some(number_in(&pair.value.bytes)),
-        None => None,
+        Some(pair) => number_in(&pair.value.bytes),
+        None => 0,
     }
 }
 
-// The number that a value holds.
-fn value_number(value: Option<Value>) -> Option<u16> {
+// The number that a value holds, or 0.
+fn value_number(value: Option<Value>) -> u16 {
     match value {
-        Some(value) => Some(number_in(&value.bytes)),
-        None => None,
+        Some(value) => number_in(&value.bytes),
+        None => 0,
     }
 }
 
@@ -231,42 +279,22 @@ fn plant<L: Ledger>(pages: &mut MemPages, steps: &mut Steps<L>) -> Option<u32> {
     Some(tree.root)
 }
 
-// What stands after `a`, after `c`, below `c` and below `a`.
-fn neighbours<L: Ledger>(
+// What stands after a letter, below it, and at it.
+fn around<L: Ledger>(
     pages: &mut MemPages,
     root: u32,
+    byte: u8,
     steps: &mut Steps<L>,
-) -> Option<[Option<u16>; 4]> {
+) -> Option<[u16; 3]> {
     let tree = Tree { kind: 5, root };
-    let after_a = tree.next_after(pages, &letter(b'a'), steps).ok()?;
-    let after_c = tree.next_after(pages, &letter(b'c'), steps).ok()?;
-    let below_c = tree.last_below(pages, &letter(b'c'), steps).ok()?;
-    let below_a = tree.last_below(pages, &letter(b'a'), steps).ok()?;
-    Some([
-        pair_number(after_a),
-        pair_number(after_c),
-        pair_number(below_c),
-        pair_number(below_a),
-    ])
+    let after = tree.next_after(pages, &letter(byte), steps).ok()?;
+    let below = tree.last_below(pages, &letter(byte), steps).ok()?;
+    let at = tree.get(pages, &letter(byte), steps).ok()?;
+    Some([pair_number(after), pair_number(below), value_number(at)])
 }
 
-// What stands at `b`, at `c`, and at `c` after its value was changed.
-fn values<L: Ledger>(
-    pages: &mut MemPages,
-    root: u32,
-    steps: &mut Steps<L>,
-) -> Option<[Option<u16>; 3]> {
-    let mut tree = Tree { kind: 5, root };
-    let at_b = tree.get(pages, &letter(b'b'), steps).ok()?;
-    let at_c = tree.get(pages, &letter(b'c'), steps).ok()?;
-    tree.put_value(pages, &letter(b'c'), &value_of(4), steps)
-        .ok()?;
-    let now_c = tree.get(pages, &letter(b'c'), steps).ok()?;
-    Some([value_number(at_b), value_number(at_c), value_number(now_c)])
-}
-
-// What look-ups answer in a tree with the keys `a` and `c`, and after the value at `c` was changed.
-fn letters<L: Ledger>(alloc: Global, blank: Blank) -> Option<[Option<u16>; 7]>
+// What stands so around `a`, and around `c` once its value was changed.
+fn letters<L: Ledger>(alloc: Global, blank: Blank) -> Option<[[u16; 3]; 2]>
     requires name { blank.name ≡ L.name }
     requires parts { blank.parts ≡ L.parts }
     requires some { 0 < blank.parts }
@@ -275,17 +303,20 @@ fn letters<L: Ledger>(alloc: Global, blank: Blank) -> Option<[Option<u16>; 7]>
     let mut pages = MemPages::new(alloc, 2).ok()?;
     pages.grant(1024, 256000);
     let root = plant(&mut pages, &mut steps)?;
-    let [after_a, after_c, below_c, below_a] = neighbours(&mut pages, root, &mut steps)?;
-    let [at_b, at_c, now_c] = values(&mut pages, root, &mut steps)?;
-    Some([after_a, after_c, below_c, below_a, at_b, at_c, now_c])
+    let first = around(&mut pages, root, b'a', &mut steps)?;
+    let mut tree = Tree { kind: 5, root };
+    tree.put_value(&mut pages, &letter(b'c'), &value_of(4), &mut steps)
+        .ok()?;
+    let second = around(&mut pages, root, b'c', &mut steps)?;
+    Some([first, second])
+}
+
+// Whether look-ups answer so.
+fn are_around(alloc: Global) -> bool {
+    letters::<Brand>(alloc, Blank::new(1)) == Some([[3, 0, 1], [0, 1, 4]])
 }
 
 #[test]
-fn look_ups_beside_two_letters(rt: HostRuntime) -> Result<(), Fail> {
-    let answers = letters::<Brand>(rt.alloc(), Blank::new(1));
-    assert_eq!(rt;
-        answers,
-        Some([Some(3), None, Some(1), None, None, Some(3), Some(4)])
-    );
-    Ok(())
+fn look_ups_beside_two_letters(rt: HostRuntime) {
+    assert!(rt; are_around(rt.alloc()));
 }
