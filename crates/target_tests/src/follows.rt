@@ -3,139 +3,111 @@ use base_messages::actor::ActorId;
 use base_messages::message::{Message, Reply};
 use base_types::answer::Answer;
 use base_types::entry::Verdict;
-use base_types::epoch::{Epoch, TargetId};
 use base_types::id::AttemptId;
 use world_base::did::Did;
 
-/// A message of the rows: a Prepare with whom its entry names, an Ack that refuses nothing, a Mark or a
-/// Marked of one attempt, a Query, a Verdict, and a Fetched of nothing.
-#[derive(Clone, Copy, Debug, PartialEq)]
-pub enum Said {
-    Prepare {
-        attempt: AttemptId,
-        epoch: Epoch,
-        leader: TargetId,
-        members: u64,
-        inc: u64,
-    },
-    Ack {
-        attempt: AttemptId,
-        inc: u64,
-    },
-    Mark {
-        attempt: AttemptId,
-        committed: bool,
-        inc: u64,
-    },
-    Marked {
-        attempt: AttemptId,
-        inc: u64,
-    },
-    Query {
-        attempt: AttemptId,
-        ask: Option<AttemptId>,
-    },
-    Verdict {
-        attempt: AttemptId,
-        verdict: Verdict,
-    },
-    Absent {
-        attempt: AttemptId,
-        epoch: Epoch,
-    },
-    Other,
+/// What a message of the rows says: its kind, the client of its attempt, and numbers. Of a Prepare these are the epoch,
+/// the leader, the members and the incarnation, of a Mark whether it tells of a commit and the incarnation, of an Ack or
+/// a Marked the incarnation, of a Query the client of the attempt that asks, of a Verdict 0 for aborted, 1 for
+/// committed and 2 for others, and of an answer of nothing its epoch. Anything else is `other`.
+pub(crate) type Said = (&'static str, u16, [u64; 4]);
+
+/// How many messages follow from a turn; and the first of them, with whom it goes to.
+#[derive(Clone, Copy)]
+pub(crate) struct Follows {
+    count: usize,
+    to: ActorId,
+    said: Said,
 }
 
-/// The messages that follow from a turn: none, one to an actor, or more.
-#[derive(Clone, Copy, Debug, PartialEq)]
-pub enum Follows {
-    Nothing,
-    One(ActorId, Said),
-    More,
-}
+const OTHER: Said = ("other", 0, [0; 4]);
 
-// The only one of a list.
-fn only<T: Copy>(items: &[T]) -> Option<T> {
-    match items {
-        [item] => Some(*item),
-        _ => None,
-    }
-}
-
-// What a Mark of these attempts says.
+// What a Mark of one attempt says.
 fn said_by_mark(inc: u64, marks: &[(AttemptId, bool)]) -> Said {
-    match only(marks) {
-        Some((attempt, committed)) => Said::Mark {
-            attempt,
-            committed,
-            inc,
-        },
-        None => Said::Other,
+    match marks {
+        [(attempt, committed)] => ("mark", attempt.client, [u64::from(*committed), inc, 0, 0]),
+        _ => OTHER,
     }
 }
 
-// What a Marked of these attempts says.
+// What a Marked of one attempt says.
 fn said_by_marked(inc: u64, attempts: &[AttemptId]) -> Said {
-    match only(attempts) {
-        Some(attempt) => Said::Marked { attempt, inc },
-        None => Said::Other,
+    match attempts {
+        [attempt] => ("marked", attempt.client, [inc, 0, 0, 0]),
+        _ => OTHER,
     }
 }
 
-impl Said {
-    // What a message says.
-    fn of(message: &Message) -> Said {
-        match message {
-            Message::Prepare { entry, inc, .. } => Said::Prepare {
-                attempt: entry.attempt,
-                epoch: entry.epoch,
-                leader: entry.leader,
-                members: entry.members,
-                inc: *inc,
-            },
-            Message::Ack {
-                attempt,
-                inc,
-                refusal: None,
-            } => Said::Ack {
-                attempt: *attempt,
-                inc: *inc,
-            },
-            Message::Mark { inc, marks } => said_by_mark(*inc, marks.as_slice()),
-            Message::Marked { inc, attempts } => said_by_marked(*inc, attempts.as_slice()),
-            Message::Query { attempt, ask } => Said::Query {
-                attempt: *attempt,
-                ask: *ask,
-            },
-            Message::Verdict {
-                attempt,
-                verdict,
-                ..
-            } => Said::Verdict {
-                attempt: *attempt,
-                verdict: *verdict,
-            },
-            Message::Fetched {
-                attempt,
-                epoch: Some(epoch),
-                reply: Reply::Answer(Answer::Absent),
-                ..
-            } => Said::Absent {
-                attempt: *attempt,
-                epoch: *epoch,
-            },
-            _ => Said::Other,
+// The number of a verdict.
+fn number(verdict: Verdict) -> u64 {
+    match verdict {
+        Verdict::Aborted => 0,
+        Verdict::Committed => 1,
+        _ => 2,
+    }
+}
+
+// What a message of a transaction's targets says.
+fn said(message: &Message) -> Said {
+    match message {
+        Message::Prepare { entry, inc, .. } => {
+            let numbers = [entry.epoch.0, u64::from(entry.leader), entry.members, *inc];
+            ("prepare", entry.attempt.client, numbers)
         }
+        Message::Ack {
+            attempt,
+            inc,
+            refusal: None,
+        } => ("ack", attempt.client, [*inc, 0, 0, 0]),
+        Message::Mark { inc, marks } => said_by_mark(*inc, marks.as_slice()),
+        Message::Marked { inc, attempts } => said_by_marked(*inc, attempts.as_slice()),
+        Message::Query {
+            attempt,
+            ask: Some(ask),
+        } => ("query", attempt.client, [u64::from(ask.client), 0, 0, 0]),
+        Message::Verdict {
+            attempt,
+            verdict,
+            ..
+        } => ("verdict", attempt.client, [number(*verdict), 0, 0, 0]),
+        Message::Fetched {
+            attempt,
+            epoch: Some(epoch),
+            reply: Reply::Answer(Answer::Absent),
+            ..
+        } => ("absent", attempt.client, [epoch.0, 0, 0, 0]),
+        _ => OTHER,
     }
 }
 
 impl Follows {
     /// What follows.
     pub(crate) fn of(did: &Did) -> Follows {
-        match did.posts.as_slice() {
-            [] => Follows::Nothing,
-            [post] => Follows::One(post.to, Said::of(&post.message)),
-            _ => Follows::More,
+        let posts = did.posts.as_slice();
+        match posts.first() {
+            Some(post) => Follows {
+                count: posts.len(),
+                to: post.to,
+                said: said(&post.message),
+            },
+            None => Follows {
+                count: 0,
+                to: ActorId {
+                    client: false,
+                    number: 0,
+                },
+                said: OTHER,
+            },
         }
+    }
+
+    /// Whether nothing does.
+    pub(crate) fn is_nothing(&self) -> bool {
+        self.count == 0
+    }
+
+    /// Whether one message to an actor does, which says this.
+    pub(crate) fn is(&self, to: ActorId, said: Said) -> bool {
+        self.count == 1 && self.to == to && self.said == said
     }
 }

@@ -22,13 +22,13 @@ use vos_store::store::Store;
 
 /// What follows on the second of two targets, turn by turn: of a Mark that tells of an attempt that it is
 /// aborted, of the Prepare of that attempt, of a read where it writes, and of the Verdict on it; and the
-/// epoch that the read is issued, with its attempt.
+/// client and the epoch that the read is issued.
 #[derive(Clone, Copy)]
-pub struct Overtaken {
+pub(crate) struct Overtaken {
     pub marked: Follows,
     pub prepared: Follows,
     pub parked: Follows,
-    pub issued: Option<(AttemptId, Epoch)>,
+    pub issued: Option<(u16, u64)>,
     pub resolved: Follows,
 }
 
@@ -140,13 +140,13 @@ fn verdict() -> Message
 }
 
 /// The first target.
-pub const LEADER: ActorId = ActorId {
+pub(crate) const LEADER: ActorId = ActorId {
     client: false,
     number: 0,
 };
 
 /// The client that reads.
-pub const READER: ActorId = ActorId {
+pub(crate) const READER: ActorId = ActorId {
     client: true,
     number: 1,
 };
@@ -213,13 +213,21 @@ fn hear_verdict<S: Store, C: Clock>(target: &mut Target<S, C>) -> Result<Follows
     Ok(Follows::of(&target.hear(LEADER, verdict(), None)?))
 }
 
+// Who was issued an epoch, and which.
+fn numbers(issued: Option<(AttemptId, Epoch)>) -> Option<(u16, u64)> {
+    match issued {
+        Some((attempt, epoch)) => Some((attempt.client, epoch.0)),
+        None => None,
+    }
+}
+
 // All that follows.
 fn all(marked: Follows, prepared: Follows, parked: Parked, resolved: Follows) -> Overtaken {
     Overtaken {
         marked,
         prepared,
         parked: parked.0,
-        issued: parked.1,
+        issued: numbers(parked.1),
         resolved,
     }
 }

@@ -25,7 +25,7 @@ use vos_store::store::Store;
 /// target; of a message that tells what became of this attempt; of the Ack of the other member; of a
 /// question what became of it; and of idle work.
 #[derive(Clone, Copy)]
-pub struct Told {
+pub(crate) struct Told {
     pub begun: Follows,
     pub unknown: Follows,
     pub told: Follows,
@@ -132,19 +132,19 @@ fn ack() -> Message
 }
 
 /// The client of the attempt.
-pub const CLIENT: ActorId = ActorId {
+pub(crate) const CLIENT: ActorId = ActorId {
     client: true,
     number: 0,
 };
 
 /// The other member.
-pub const MEMBER: ActorId = ActorId {
+pub(crate) const MEMBER: ActorId = ActorId {
     client: false,
     number: 1,
 };
 
 /// An actor whose number no target bears; modulo 256 it is that of the other member.
-pub const STRANGER: ActorId = ActorId {
+pub(crate) const STRANGER: ActorId = ActorId {
     client: false,
     number: 257,
 };

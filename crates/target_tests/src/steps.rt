@@ -10,32 +10,40 @@ use base_types::key::KeyNo;
 use std::alloc::{AllocError, AllocFailed, Global};
 use target_core::target::Target;
 use target_parts::stop::TargetStop;
-use thiserror::Error;
 use vos_store::refusal::EnlistNo;
 use vos_store::store::Store;
 
-/// Why a step isn't made.
-#[derive(Debug, Drop, Error)]
-pub enum StepNo {
-    #[error("{0}")]
-    Key(#[from] KeyNo),
-    #[error("{0}")]
-    Enlist(#[from] EnlistNo),
-    #[error("{0}")]
-    Stop(#[from] TargetStop),
-    #[error("out of memory")]
-    Memory,
+/// A step isn't made.
+#[derive(Clone, Copy)]
+pub(crate) struct StepNo;
+
+impl From<KeyNo> for StepNo {
+    fn from(_no: KeyNo) -> StepNo {
+        StepNo
+    }
+}
+
+impl From<EnlistNo> for StepNo {
+    fn from(_no: EnlistNo) -> StepNo {
+        StepNo
+    }
+}
+
+impl From<TargetStop> for StepNo {
+    fn from(_no: TargetStop) -> StepNo {
+        StepNo
+    }
 }
 
 impl From<AllocError> for StepNo {
     fn from(_error: AllocError) -> StepNo {
-        StepNo::Memory
+        StepNo
     }
 }
 
 impl<T: Drop> From<AllocFailed<T>> for StepNo {
     fn from(_error: AllocFailed<T>) -> StepNo {
-        StepNo::Memory
+        StepNo
     }
 }
 
@@ -61,6 +69,6 @@ pub(crate) fn start_at<S: Store + Drop, C: Clock + Drop>(
     store.enlist(&[ContId(1)])?;
     match Target::new(alloc, me, targets, 0, store, clock) {
         Ok(target) => Ok(target),
-        Err(_parts) => Err(StepNo::Memory),
+        Err(_parts) => Err(StepNo),
     }
 }
