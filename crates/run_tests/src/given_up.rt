@@ -1,7 +1,6 @@
 // Runs over a store that the outside fails, and what they leave to the next one. A change of the store that fails
 // is made where its number is even.
 use crate::two_runs::{Case, agreeing};
-use std::test::Fail;
 
 const WRITES_AND_READS: &[u8] = b"cont c 00000000-0000-0000-0000-000000000001\n\
     obj o c S1 0\n\
@@ -251,53 +250,6 @@ const AT_A_COMMIT_THAT_IS_MADE: &[u8] = b"daos 1 targets 1\n\
     end 0\n\
     lease 458752\n";
 
-// A target is given up at its ninth change that fails, and what waits for it ends as unknown. Once its store is opened
-// again the next run finds what was made.
-#[test]
-fn nine_faults_give_a_target_up(rt: HostRuntime) -> Result<(), Fail> {
-    let cases = [
-        Case {
-            plan: &[1, 2, 3, 4, 5, 6, 7, 8, 9],
-            first: WRITES_AND_READS,
-            second: READS_AND_WRITES,
-            told: AT_A_LEASE,
-        },
-        Case {
-            plan: &[2, 3, 4, 5, 6, 7, 8, 9, 10],
-            first: WRITES_AND_READS,
-            second: READS_AND_WRITES,
-            told: AT_A_LEASE_THAT_IS_MADE,
-        },
-        Case {
-            plan: &[1, 3, 5, 7, 9, 11, 13, 15, 17],
-            first: WRITES_AND_READS,
-            second: READS_AND_WRITES,
-            told: AT_AN_ENTRY,
-        },
-        Case {
-            plan: &[1, 2, 3, 4, 5, 6, 7, 8, 10],
-            first: WRITES_AND_READS,
-            second: READS_AND_WRITES,
-            told: AT_AN_ENTRY_THAT_IS_MADE,
-        },
-        Case {
-            plan: &[1, 2, 3, 4, 5, 6, 7, 8, 11],
-            first: WRITES_AND_READS,
-            second: READS_AND_WRITES,
-            told: AT_A_COMMIT,
-        },
-        Case {
-            plan: &[3, 4, 5, 6, 7, 8, 9, 10, 12],
-            first: WRITES_AND_READS,
-            second: READS_AND_WRITES,
-            told: AT_A_COMMIT_THAT_IS_MADE,
-        },
-    ];
-    let count = agreeing(&rt, rt.alloc(), &cases)?;
-    assert_eq!(rt; count, cases.len());
-    Ok(())
-}
-
 const EIGHT_FAULTS: &[u8] = b"daos 1 targets 1\n\
     stop 0 0\n\
     restart 0 0 2 255\n\
@@ -335,19 +287,6 @@ const EIGHT_FAULTS: &[u8] = b"daos 1 targets 1\n\
     end 0\n\
     lease 393216\n";
 
-#[test]
-fn eight_faults_do_not(rt: HostRuntime) -> Result<(), Fail> {
-    let cases = [Case {
-        plan: &[1, 2, 3, 4, 5, 6, 7, 8],
-        first: WRITES_AND_READS,
-        second: READS_AND_WRITES,
-        told: EIGHT_FAULTS,
-    }];
-    let count = agreeing(&rt, rt.alloc(), &cases)?;
-    assert_eq!(rt; count, 1);
-    Ok(())
-}
-
 const FAILS_WHILE_IT_OPENS: &[u8] = b"daos 1 targets 1\n\
     stop 0 0\n\
     restart 0 0 2 255\n\
@@ -381,25 +320,32 @@ const FAILS_WHILE_IT_OPENS: &[u8] = b"daos 1 targets 1\n\
     lease 327680\n\
     fault of target 0\n";
 
-// The first run leaves an entry. The next one commits it as it opens the store, and then forgets it; at either change
-// the store fails.
+// A case of these two scripts.
+fn case<'a>(plan: &'a [u32], told: &'a [u8]) -> Case<'a> {
+    Case {
+        plan,
+        first: WRITES_AND_READS,
+        second: READS_AND_WRITES,
+        told,
+    }
+}
+
+// A target is given up at its ninth change that fails, and what waits for it ends as unknown; eight don't do that. Once
+// its store is opened again the next run finds what was made. Where the first run leaves an entry, the next one commits
+// it as it opens the store, and then forgets it; at either change the store fails.
 #[test]
-fn a_store_that_fails_while_a_run_opens_is_told(rt: HostRuntime) -> Result<(), Fail> {
+fn nine_faults_give_a_target_up(rt: HostRuntime) {
     let cases = [
-        Case {
-            plan: &[1, 2, 3, 4, 5, 6, 7, 8, 10, 11],
-            first: WRITES_AND_READS,
-            second: READS_AND_WRITES,
-            told: FAILS_WHILE_IT_OPENS,
-        },
-        Case {
-            plan: &[1, 2, 3, 4, 5, 6, 7, 8, 10, 12],
-            first: WRITES_AND_READS,
-            second: READS_AND_WRITES,
-            told: FAILS_WHILE_IT_OPENS,
-        },
+        case(&[1, 2, 3, 4, 5, 6, 7, 8, 9], AT_A_LEASE),
+        case(&[2, 3, 4, 5, 6, 7, 8, 9, 10], AT_A_LEASE_THAT_IS_MADE),
+        case(&[1, 3, 5, 7, 9, 11, 13, 15, 17], AT_AN_ENTRY),
+        case(&[1, 2, 3, 4, 5, 6, 7, 8, 10], AT_AN_ENTRY_THAT_IS_MADE),
+        case(&[1, 2, 3, 4, 5, 6, 7, 8, 11], AT_A_COMMIT),
+        case(&[3, 4, 5, 6, 7, 8, 9, 10, 12], AT_A_COMMIT_THAT_IS_MADE),
+        case(&[1, 2, 3, 4, 5, 6, 7, 8], EIGHT_FAULTS),
+        case(&[1, 2, 3, 4, 5, 6, 7, 8, 10, 11], FAILS_WHILE_IT_OPENS),
+        case(&[1, 2, 3, 4, 5, 6, 7, 8, 10, 12], FAILS_WHILE_IT_OPENS),
     ];
-    let count = agreeing(&rt, rt.alloc(), &cases)?;
-    assert_eq!(rt; count, cases.len());
-    Ok(())
+    let count = agreeing(&rt, rt.alloc(), &cases);
+    assert!(rt; count == 9, "case {count}");
 }

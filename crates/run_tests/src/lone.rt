@@ -17,23 +17,18 @@ use script_runnable::runnable::runs;
 use std::alloc::Global;
 use std::sync::Wait;
 use std::thread::Threads;
-use thiserror::Error;
 use vos_plain::store::PlainStore;
 use vos_store::store::Store;
 
 // The last tick that an epoch has.
 const LAST_TICK: u64 = 72_057_594_037_927_935;
 
-/// Why there is no report.
-#[derive(Clone, Copy, Debug, Error)]
-pub enum LoneNo {
-    #[error("no script that runs")]
+/// Why there is no report: no script that runs, a run that has none, a store that isn't opened again, or memory.
+#[derive(Clone, Copy)]
+pub(crate) enum LoneNo {
     Script,
-    #[error("no report")]
     Run(RunStop),
-    #[error("not opened again")]
     Open,
-    #[error("out of memory")]
     Memory,
 }
 
@@ -44,7 +39,7 @@ impl From<Memory> for LoneNo {
 }
 
 /// An empty store, which the outside fails at the changes of a plan, and a clock.
-pub fn new_parts<C: Clock + Drop>(
+pub(crate) fn new_parts<C: Clock + Drop>(
     alloc: Global,
     clock: C,
     plan: &[u32],
@@ -58,7 +53,10 @@ pub fn new_parts<C: Clock + Drop>(
 }
 
 /// An empty store whose lease is extended to the last tick, and a clock.
-pub fn spent_parts<C: Clock + Drop>(alloc: Global, clock: C) -> Result<Parts<PlainStore, C>, LoneNo>
+pub(crate) fn spent_parts<C: Clock + Drop>(
+    alloc: Global,
+    clock: C,
+) -> Result<Parts<PlainStore, C>, LoneNo>
     ensures { IfOk result (IsOver IsLeft) }
 {
     let mut parts = Parts::new(alloc, 1)?;
@@ -72,7 +70,7 @@ pub fn spent_parts<C: Clock + Drop>(alloc: Global, clock: C) -> Result<Parts<Pla
 }
 
 /// The script of a text, for so many targets.
-pub fn script_of(alloc: Global, text: &[u8], targets: u8) -> Result<Script, LoneNo>
+pub(crate) fn script_of(alloc: Global, text: &[u8], targets: u8) -> Result<Script, LoneNo>
     requires some { 1 ≤ targets }
     requires few { targets ≤ 64 }
     ensures { IfOk result (IsRunnable targets) }
@@ -84,7 +82,7 @@ pub fn script_of(alloc: Global, text: &[u8], targets: u8) -> Result<Script, Lone
 }
 
 /// Runs the script of a text, and gives the text of its report.
-pub fn report_of<R: Threads + Wait + Sync, C: Clock + Send>(
+pub(crate) fn report_of<R: Threads + Wait + Sync, C: Clock + Send>(
     rt: &R,
     alloc: Global,
     parts: &mut Parts<PlainStore, C>,
@@ -110,7 +108,7 @@ pub fn report_of<R: Threads + Wait + Sync, C: Clock + Send>(
 }
 
 /// Opens the store again, and gives the lease that it had, in ticks.
-pub fn reopen<C: Clock>(parts: &mut Parts<PlainStore, C>) -> Result<u64, LoneNo>
+pub(crate) fn reopen<C: Clock>(parts: &mut Parts<PlainStore, C>) -> Result<u64, LoneNo>
     requires left { IsOver IsLeft parts.old }
     ensures ready { OnOk result (IsOver IsReady parts.new) }
 {

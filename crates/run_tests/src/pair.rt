@@ -16,7 +16,7 @@ use vos_plain::store::PlainStore;
 
 /// The changes at which the outside fails the store of each target, and what a script then tells.
 #[derive(Clone, Copy)]
-pub struct PairCase<'a> {
+pub(crate) struct PairCase<'a> {
     pub first: &'a [u32],
     pub second: &'a [u32],
     pub told: &'a [u8],
@@ -74,18 +74,30 @@ fn told<R: Threads + Wait + Sync>(
     report_of_two(rt, alloc, &mut parts, script)
 }
 
+// Whether a case comes out as it says.
+fn comes_out<R: Threads + Wait + Sync>(
+    rt: &R,
+    alloc: Global,
+    case: PairCase<'_>,
+    script: &[u8],
+) -> bool {
+    match told(rt, alloc, case, script) {
+        Ok(text) => text.as_slice() == case.told,
+        Err(_) => false,
+    }
+}
+
 /// How many of the cases, from the first one on, come out as they say when this script is run.
-pub fn agreeing<R: Threads + Wait + Sync>(
+pub(crate) fn agreeing<R: Threads + Wait + Sync>(
     rt: &R,
     alloc: Global,
     cases: &[PairCase<'_>],
     script: &[u8],
-) -> Result<usize, LoneNo> {
+) -> usize {
     for (number, case) in cases.iter().enumerate() {
-        let text = told(rt, alloc, *case, script)?;
-        if text.as_slice() != case.told {
-            return Ok(number);
+        if !comes_out(rt, alloc, *case, script) {
+            return number;
         }
     }
-    Ok(cases.len())
+    cases.len()
 }

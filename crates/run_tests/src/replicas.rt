@@ -1,6 +1,5 @@
 // Two replicas whose stores the outside fails.
 use crate::pair::{PairCase, agreeing};
-use std::test::Fail;
 
 const WRITES_AND_READS: &[u8] = b"cont c 00000000-0000-0000-0000-000000000001\n\
     obj r c RP_2G1 0\n\
@@ -235,7 +234,7 @@ const BOTH: &[u8] = b"daos 1 targets 2\n\
     end 8\n";
 
 #[test]
-fn replicas_are_given_up(rt: HostRuntime) -> Result<(), Fail> {
+fn replicas_are_given_up(rt: HostRuntime) {
     let cases = [
         PairCase {
             first: &[1, 2, 3, 4, 5, 6, 7, 8, 9],
@@ -263,7 +262,6 @@ fn replicas_are_given_up(rt: HostRuntime) -> Result<(), Fail> {
             told: BOTH,
         },
     ];
-    let count = agreeing(&rt, rt.alloc(), &cases, WRITES_AND_READS)?;
-    assert_eq!(rt; count, cases.len());
-    Ok(())
+    let count = agreeing(&rt, rt.alloc(), &cases, WRITES_AND_READS);
+    assert!(rt; count == 5, "case {count}");
 }
