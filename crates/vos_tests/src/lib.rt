@@ -1,7 +1,9 @@
 // Rows over stores: several calls in a row.
 #![tactic(auto)]
 
-pub mod rows;
-pub mod steps;
+#[cfg(test)]
+mod rows;
+#[cfg(test)]
+mod steps;
 #[cfg(test)]
 mod tests;

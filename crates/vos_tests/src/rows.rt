@@ -14,7 +14,7 @@ use vos_store::store::Store;
 /// What a store with two records in an array shows: what is read around them, the objects, and the
 /// containers.
 #[derive(Drop)]
-pub struct Seen {
+pub(crate) struct Seen {
     pub parts: Result<Answer, FetchNo>,
     pub objects: ObjIds,
     pub conts: ContIds,

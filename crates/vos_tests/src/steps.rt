@@ -11,28 +11,50 @@ use base_types::key::{Key, KeyNo};
 use base_types::operation::{MinorWrite, Write};
 use base_types::path::Path;
 use std::alloc::Global;
-use thiserror::Error;
 use vos_store::refusal::{EnlistNo, LaterNo, PrepareNo, Stopped};
 use vos_store::store::Store;
 
 /// The container of the rows.
-pub const CONT: ContId = ContId(1);
+pub(crate) const CONT: ContId = ContId(1);
 
-/// Why a step isn't made.
-#[derive(Clone, Copy, Debug, Error)]
-pub enum StepNo {
-    #[error("{0}")]
-    Key(#[from] KeyNo),
-    #[error("{0}")]
-    Enlist(#[from] EnlistNo),
-    #[error("{0}")]
-    Prepare(#[from] PrepareNo),
-    #[error("{0}")]
-    Stopped(#[from] Stopped),
-    #[error("{0}")]
-    Later(#[from] LaterNo),
-    #[error("out of memory")]
-    Memory(#[from] Memory),
+/// A step isn't made.
+#[derive(Clone, Copy)]
+pub(crate) struct StepNo;
+
+impl From<KeyNo> for StepNo {
+    fn from(_no: KeyNo) -> StepNo {
+        StepNo
+    }
+}
+
+impl From<EnlistNo> for StepNo {
+    fn from(_no: EnlistNo) -> StepNo {
+        StepNo
+    }
+}
+
+impl From<PrepareNo> for StepNo {
+    fn from(_no: PrepareNo) -> StepNo {
+        StepNo
+    }
+}
+
+impl From<Stopped> for StepNo {
+    fn from(_no: Stopped) -> StepNo {
+        StepNo
+    }
+}
+
+impl From<LaterNo> for StepNo {
+    fn from(_no: LaterNo) -> StepNo {
+        StepNo
+    }
+}
+
+impl From<Memory> for StepNo {
+    fn from(_no: Memory) -> StepNo {
+        StepNo
+    }
 }
 
 /// The akey a under the dkey d of the object of class S1 and number 0 with records of four bytes.
