@@ -1,5 +1,5 @@
 // Later reads, as the worked examples of restarts have them, and slots that entities share.
-ghost use Rattle.std.specs.Prelude.{◌≡◌, true, IfOk};
+ghost use Rattle.std.specs.Prelude.{◌≡◌, true, IfSome};
 ghost use Rattle.daos_model.specs.Forms.{is_path_in_form};
 
 use base_types::epoch::Epoch;
@@ -7,7 +7,6 @@ use base_types::id::{AttemptId, Class, ContId, ObjId};
 use base_types::key::Key;
 use base_types::path::{Level, Path};
 use std::alloc::Global;
-use std::test::Fail;
 use vos_stamp::stamps::Stamps;
 
 const READER: AttemptId = AttemptId {
@@ -22,7 +21,7 @@ const OBJECT: ObjId = ObjId {
     unit: 1,
 };
 
-// An object.
+// The object.
 fn object() -> Path
     ensures { is_path_in_form result ≡ true }
 {
@@ -35,11 +34,11 @@ fn object() -> Path
 }
 
 // A dkey of it.
-fn dkey(alloc: Global, dkey: &[u8]) -> Result<Path, Fail>
-    ensures { IfOk result (λ path. is_path_in_form path ≡ true) }
+fn dkey(alloc: Global) -> Option<Path>
+    ensures { IfSome result (λ path. is_path_in_form path ≡ true) }
 {
-    let dkey = Key::new(alloc, dkey)?;
-    Ok(Path {
+    let dkey = Key::new(alloc, b"d").ok()?;
+    Some(Path {
         cont: ContId(1),
         obj: Some(OBJECT),
         dkey: Some(dkey),
@@ -47,13 +46,13 @@ fn dkey(alloc: Global, dkey: &[u8]) -> Result<Path, Fail>
     })
 }
 
-// An akey of that.
-fn akey(alloc: Global, dkey: &[u8], akey: &[u8]) -> Result<Path, Fail>
-    ensures { IfOk result (λ path. is_path_in_form path ≡ true) }
+// An akey of it.
+fn akey(alloc: Global, dkey: &[u8], akey: &[u8]) -> Option<Path>
+    ensures { IfSome result (λ path. is_path_in_form path ≡ true) }
 {
-    let dkey = Key::new(alloc, dkey)?;
-    let akey = Key::new(alloc, akey)?;
-    Ok(Path {
+    let dkey = Key::new(alloc, dkey).ok()?;
+    let akey = Key::new(alloc, akey).ok()?;
+    Some(Path {
         cont: ContId(1),
         obj: Some(OBJECT),
         dkey: Some(dkey),
@@ -61,174 +60,165 @@ fn akey(alloc: Global, dkey: &[u8], akey: &[u8]) -> Result<Path, Fail>
     })
 }
 
-// The akey of a number, under one dkey.
-fn numbered(alloc: Global, number: u32) -> Result<Path, Fail>
-    ensures { IfOk result (λ path. is_path_in_form path ≡ true) }
+// The akey of a number, under the dkey `d`.
+fn numbered(alloc: Global, number: u32) -> Option<Path>
+    ensures { IfSome result (λ path. is_path_in_form path ≡ true) }
 {
-    let name = format!(in alloc; "a{number}")?;
+    let name = format!(in alloc; "a{number}").ok()?;
     akey(alloc, b"d", name.as_bytes())
 }
 
-// The object, the dkey `d` of it, or an akey of that.
-fn at(alloc: Global, level: Level, number: u32) -> Result<Path, Fail>
-    ensures { IfOk result (λ path. is_path_in_form path ≡ true) }
-{
-    match level {
-        Level::Cont | Level::Obj => Ok(object()),
-        Level::Dkey => dkey(alloc, b"d"),
-        Level::Akey => numbered(alloc, number),
-    }
-}
-
 // An akey under the dkey of a number.
-fn elsewhere(alloc: Global, number: u32) -> Result<Path, Fail>
-    ensures { IfOk result (λ path. is_path_in_form path ≡ true) }
+fn elsewhere(alloc: Global, number: u32) -> Option<Path>
+    ensures { IfSome result (λ path. is_path_in_form path ≡ true) }
 {
-    let name = format!(in alloc; "k{number}")?;
+    let name = format!(in alloc; "k{number}").ok()?;
     akey(alloc, name.as_bytes(), b"a")
 }
 
 // The timestamps of one read, at 512.
-fn with_a_read(alloc: Global, path: &Path) -> Result<Stamps, Fail>
+fn with_a_read(alloc: Global, path: &Path) -> Option<Stamps>
     requires { is_path_in_form path.now ≡ true }
 {
-    let mut stamps = Stamps::new(alloc)?;
-    stamps.read(path, Epoch(512), READER)?;
-    Ok(stamps)
+    let mut stamps = Stamps::new(alloc).ok()?;
+    stamps.read(path, Epoch(512), READER).ok()?;
+    Some(stamps)
 }
 
-// The epoch of the read that a write is shown, if it is shown one.
-fn told(stamps: &Stamps, write: &Path, epoch: u64) -> Option<u64>
+// The epoch of the read that a write is shown, or 0 if it is shown none.
+fn told(stamps: &Stamps, write: &Path, epoch: u64) -> u64
     requires { is_path_in_form write.now ≡ true }
 {
     match stamps.later_read(write, Epoch(epoch)) {
-        Some(read) => Some(read.epoch.0),
-        None => None,
+        Some(read) => read.epoch.0,
+        None => 0,
     }
 }
 
 // What a write at an epoch is told of a read at 512.
-fn told_of_a_read(
-    alloc: Global,
-    read: (Level, u32),
-    write: (Level, u32),
-    epoch: u64,
-) -> Result<Option<u64>, Fail> {
-    let stamps = with_a_read(alloc, &at(alloc, read.0, read.1)?)?;
-    let write = at(alloc, write.0, write.1)?;
-    Ok(told(&stamps, &write, epoch))
+fn told_of(alloc: Global, read: &Path, write: &Path, epoch: u64) -> Option<u64>
+    requires read { is_path_in_form read.now ≡ true }
+    requires write { is_path_in_form write.now ≡ true }
+{
+    let stamps = with_a_read(alloc, read)?;
+    Some(told(&stamps, write, epoch))
+}
+
+// What writes of an akey are told of a read of it, below its epoch and at it, and of a read of another akey.
+fn told_beside(alloc: Global) -> Option<[u64; 3]> {
+    let akey = numbered(alloc, 0)?;
+    let other = numbered(alloc, 1)?;
+    let later = told_of(alloc, &akey, &akey, 511)?;
+    let same = told_of(alloc, &akey, &akey, 512)?;
+    let beside = told_of(alloc, &akey, &other, 256)?;
+    Some([later, same, beside])
+}
+
+// What is told of a read above an akey, and of one of the akey by a write above it.
+fn told_across(alloc: Global, above: &Path) -> Option<[u64; 2]>
+    requires { is_path_in_form above.now ≡ true }
+{
+    let akey = numbered(alloc, 0)?;
+    let below = told_of(alloc, above, &akey, 256)?;
+    let over = told_of(alloc, &akey, above, 256)?;
+    Some([below, over])
+}
+
+fn told_of_dkeys(alloc: Global) -> Option<[u64; 2]> {
+    let dkey = dkey(alloc)?;
+    told_across(alloc, &dkey)
 }
 
 #[test]
-fn a_later_read_is_shown_where_paths_overlap(rt: HostRuntime) -> Result<(), Fail> {
-    let (object, dkey) = ((Level::Obj, 0), (Level::Dkey, 0));
-    let (akey, other) = ((Level::Akey, 0), (Level::Akey, 1));
-    let table = [
-        (akey, akey, Some(512)),
-        (object, akey, Some(512)),
-        (akey, dkey, Some(512)),
-        (akey, object, Some(512)),
-        (akey, other, None),
-    ];
-    for (read, write, epoch) in table {
-        assert_eq!(rt; told_of_a_read(rt.alloc(), read, write, 256)?, epoch);
-    }
-    Ok(())
+fn a_later_read_is_shown_where_paths_overlap(rt: HostRuntime) {
+    let alloc = rt.alloc();
+    assert!(rt; told_beside(alloc) == Some([512, 0, 0]));
+    assert!(rt; told_across(alloc, &object()) == Some([512, 512]));
+    assert!(rt; told_of_dkeys(alloc) == Some([512, 512]));
 }
 
-#[test]
-fn a_read_at_the_epoch_is_no_later_one(rt: HostRuntime) -> Result<(), Fail> {
-    let akey = (Level::Akey, 0);
-    for (epoch, read) in [(511, Some(512)), (512, None)] {
-        assert_eq!(rt; told_of_a_read(rt.alloc(), akey, akey, epoch)?, read);
-    }
-    Ok(())
+// The slot of the akey of a number.
+fn slot(alloc: Global, number: u32) -> Option<u16> {
+    let path = numbered(alloc, number)?;
+    Some(path.slot_at(Level::Akey))
 }
 
-// The first two akeys that share a slot, counted from 0.
-fn first_to_share(alloc: Global) -> Result<Option<(usize, u32)>, Fail> {
-    let mut slots = Vec::new(alloc);
-    for number in 0..10_000 {
-        let slot = numbered(alloc, number)?.slot_at(Level::Akey);
-        if let Some(earlier) = slots.iter().position(|other| *other == slot) {
-            return Ok(Some((earlier, number)));
+// The first akey behind that of 188 which shares its slot.
+fn shares_with_188(alloc: Global) -> Option<u32> {
+    let first = slot(alloc, 188)?;
+    for number in 189..1000 {
+        if slot(alloc, number)? == first {
+            return Some(number);
         }
-        slots.push(slot)?;
     }
-    Ok(None)
+    None
 }
 
 // Which akeys share a slot another program told.
 #[test]
-fn two_akeys_share_a_slot(rt: HostRuntime) -> Result<(), Fail> {
-    assert_eq!(rt; first_to_share(rt.alloc())?, Some((188, 294)));
-    Ok(())
+fn two_akeys_share_a_slot(rt: HostRuntime) {
+    assert!(rt; shares_with_188(rt.alloc()) == Some(294));
 }
 
-// Reads of akeys of so many other dkeys, each at one epoch.
-fn read_elsewhere(alloc: Global, stamps: &mut Stamps, many: u32) -> Result<(), Fail> {
+// Reads of akeys of so many other dkeys, all at 300, or each at a later epoch from 512 on.
+fn read_elsewhere(alloc: Global, stamps: &mut Stamps, many: u32, rises: bool) -> Option<()> {
     for number in 0..many {
-        stamps.read(&elsewhere(alloc, number)?, Epoch(300), READER)?;
+        let path = elsewhere(alloc, number)?;
+        let epoch = if rises { 512 + u64::from(number) } else { 300 };
+        stamps.read(&path, Epoch(epoch), READER).ok()?;
     }
-    Ok(())
+    Some(())
 }
 
 // What writes of the two akeys at 256 are told after a read of the first at 512 and so many reads of
-// akeys of other dkeys, and how many entities are held then.
-fn told_after(alloc: Global, others: u32) -> Result<(Option<u64>, Option<u64>, u32), Fail> {
-    let (first, second) = (numbered(alloc, 188)?, numbered(alloc, 294)?);
+// akeys of other dkeys at 300, and how many entities are held then.
+fn told_after(alloc: Global, others: u32) -> Option<(u64, u64, u32)> {
+    let first = numbered(alloc, 188)?;
     let mut stamps = with_a_read(alloc, &first)?;
-    read_elsewhere(alloc, &mut stamps, others)?;
-    Ok((
-        told(&stamps, &first, 256),
-        told(&stamps, &second, 256),
-        stamps.held(),
-    ))
+    read_elsewhere(alloc, &mut stamps, others, false)?;
+    let second = numbered(alloc, 294)?;
+    let (one, two) = (told(&stamps, &first, 256), told(&stamps, &second, 256));
+    Some((one, two, stamps.held()))
 }
 
 // How many entities are held, and what is told, another program told.
 #[test]
-fn an_entity_that_goes_out_leaves_its_read_to_its_slot(rt: HostRuntime) -> Result<(), Fail> {
+fn an_entity_that_goes_out_leaves_its_read_to_its_slot(rt: HostRuntime) {
     let alloc = rt.alloc();
-    assert_eq!(rt; told_after(alloc, 0)?, (Some(512), None, 4));
-    assert_eq!(rt; told_after(alloc, 1024)?, (Some(512), Some(512), 2050));
-    Ok(())
+    assert!(rt; told_after(alloc, 0) == Some((512, 0, 4)));
+    assert!(rt; told_after(alloc, 1024) == Some((512, 512, 2050)));
 }
 
 // Whether the read of a key, or a later one that is near it, is shown to a write just below it.
-fn is_remembered(alloc: Global, stamps: &Stamps, number: u32) -> Result<bool, Fail> {
+fn is_remembered(alloc: Global, stamps: &Stamps, number: u32) -> Option<bool> {
     let write = elsewhere(alloc, number)?;
-    let below = Epoch(511 + u64::from(number));
-    match stamps.later_read(&write, below) {
-        Some(read) => Ok(below.0 < read.epoch.0 && read.path.near(&write)),
-        None => Ok(false),
+    let below = 511 + u64::from(number);
+    match stamps.later_read(&write, Epoch(below)) {
+        Some(read) => Some(below < read.epoch.0 && read.path.near(&write)),
+        None => Some(false),
     }
 }
 
-// Reads of so many keys, one after another, each at a later epoch. Tells whether each left the bound.
-fn read_many(alloc: Global, stamps: &mut Stamps, many: u32) -> Result<bool, Fail> {
+// The first of so many reads that is forgotten, or how many there are.
+fn first_forgotten(alloc: Global, stamps: &Stamps, many: u32) -> Option<u32> {
     for number in 0..many {
-        let epoch = Epoch(512 + u64::from(number));
-        stamps.read(&elsewhere(alloc, number)?, epoch, READER)?;
-        if stamps.held() > 4096 {
-            return Ok(false);
+        if !is_remembered(alloc, stamps, number)? {
+            return Some(number);
         }
     }
-    Ok(true)
+    Some(many)
+}
+
+// How many entities are held after so many reads, each at a later epoch, and the first read that is forgotten.
+fn many_read(alloc: Global, many: u32) -> Option<(u32, u32)> {
+    let mut stamps = Stamps::new(alloc).ok()?;
+    read_elsewhere(alloc, &mut stamps, many, true)?;
+    let forgotten = first_forgotten(alloc, &stamps, many)?;
+    Some((stamps.held(), forgotten))
 }
 
 // Every read is remembered, by itself or by a later one that shares its slot.
 #[test]
-fn so_many_reads_have_a_bound(rt: HostRuntime) -> Result<(), Fail> {
-    let alloc = rt.alloc();
-    let mut stamps = Stamps::new(alloc)?;
-    assert!(rt; read_many(alloc, &mut stamps, 100_000)?);
-    assert_eq!(rt; stamps.held(), 2050);
-    for number in 0..100_000 {
-        assert!(rt;
-            is_remembered(alloc, &stamps, number)?,
-            "the read of {number} is forgotten"
-        );
-    }
-    Ok(())
+fn so_many_reads_have_a_bound(rt: HostRuntime) {
+    assert!(rt; many_read(rt.alloc(), 100_000) == Some((2050, 100_000)));
 }
