@@ -1,184 +1,138 @@
 // The limits of scripts: how many lines of a kind, how many bytes. Other faults are data of daos_cases.
-use base_types::fault::{ScriptFault, Why};
+use base_types::fault::Why;
 use daos_script::fault::ScriptNo;
 use daos_script::script::read_script;
-use daos_status::status::{Status, status_text};
-use std::alloc::{AllocError, Global};
-use std::test::Fail;
+use std::alloc::Global;
 
 const HEAD: &[u8] = b"cont c 00000000-0000-0000-0000-000000000001\nobj o c S1 0\nobj q c S1 1\n";
 
-// Whether a text stands for a script.
-fn is_script(alloc: Global, text: &[u8], targets: u8) -> bool {
-    read_script(alloc, text, targets).is_ok()
+// What a text is found to be: a script, or at which line there is what fault: too many lines or too many bytes of
+// what is allowed, an unknown word, or another one.
+#[derive(Clone, Copy, PartialEq)]
+enum Found {
+    Script,
+    TooMany(u32, u32),
+    TooLong(u32, u32),
+    UnknownWord(u32),
+    Other,
 }
 
-// Whether two faults are told alike.
-fn is_told_as(alloc: Global, fault: ScriptFault, wanted: ScriptFault) -> bool {
-    match (
-        status_text(alloc, &Status::Script(fault)),
-        status_text(alloc, &Status::Script(wanted)),
-    ) {
-        (Ok(text), Ok(other)) => text == other,
-        _ => false,
+fn found(alloc: Global, text: &[u8]) -> Found {
+    match read_script(alloc, text, 1) {
+        Ok(_) => Found::Script,
+        Err(ScriptNo::Fault(fault)) => match fault.why {
+            Why::TooMany(limit) => Found::TooMany(fault.line, limit),
+            Why::TooLong(limit) => Found::TooLong(fault.line, limit),
+            Why::UnknownWord => Found::UnknownWord(fault.line),
+            _ => Found::Other,
+        },
+        Err(_) => Found::Other,
     }
 }
 
-// Whether a text has this fault.
-fn has_fault(alloc: Global, text: &[u8], targets: u8, line: u32, why: Why) -> bool {
-    match read_script(alloc, text, targets) {
-        Err(ScriptNo::Fault(fault)) => is_told_as(alloc, fault, ScriptFault { line, why }),
-        _ => false,
-    }
-}
-
-// A text and then another one.
-fn joined(alloc: Global, one: &[u8], other: &[u8]) -> Result<Vec<u8>, AllocError> {
-    let mut text = Vec::from_slice(alloc, one)?;
-    text.extend_from_slice(other)?;
-    Ok(text)
-}
-
-// A text, so many times.
-fn repeated(alloc: Global, piece: &[u8], count: u32) -> Result<Vec<u8>, AllocError> {
-    let mut text = Vec::new(alloc);
+// Adds a piece so many times.
+fn add(text: &mut Vec<u8>, piece: &[u8], count: u32) -> Option<()> {
     for _ in 0..count {
-        text.extend_from_slice(piece)?;
+        text.extend_from_slice(piece).ok()?;
     }
-    Ok(text)
+    Some(())
 }
 
-// What stands before the lines, the line, how many stand there, the last of which is one too many,
-// and the fault.
-const LIMITS: [(&[u8], &[u8], u32, u32, Why); 4] = [
-    (b"", b"stop 0 1\n", 65, 68, Why::TooMany(64)),
-    (b"", b"client\n", 65, 68, Why::TooMany(64)),
-    (b"client\ntx\n", b"get o d a\n", 65, 70, Why::TooMany(64)),
-    (
-        b"client\n",
-        b"get o d a\n",
-        100_001,
-        100_005,
-        Why::TooMany(100_000),
-    ),
-];
+// What is found of so many equal lines behind others.
+fn found_of(alloc: Global, before: &[u8], piece: &[u8], count: u32) -> Option<Found> {
+    let mut text = Vec::from_slice(alloc, HEAD).ok()?;
+    add(&mut text, before, 1)?;
+    add(&mut text, piece, count)?;
+    Some(found(alloc, &text))
+}
 
 #[test]
-fn keeps_limits_of_equal_lines(rt: HostRuntime) -> Result<(), Fail> {
+fn equal_lines_have_limits(rt: HostRuntime) {
     let alloc = rt.alloc();
-    for (before, piece, count, line, why) in LIMITS {
-        let head = joined(alloc, HEAD, before)?;
-        let text = joined(alloc, &head, &repeated(alloc, piece, count)?)?;
-        assert!(rt; has_fault(alloc, &text, 1, line, why), "{piece:?}");
-    }
-    Ok(())
+    let many = Some(Found::TooMany(68, 64));
+    assert!(rt; found_of(alloc, b"", b"stop 0 1\n", 65) == many);
+    assert!(rt; found_of(alloc, b"", b"client\n", 65) == many);
+    let get = b"get o d a\n";
+    let many = Some(Found::TooMany(70, 64));
+    assert!(rt; found_of(alloc, b"client\ntx\n", get, 65) == many);
+    let many = Some(Found::TooMany(100_005, 100_000));
+    assert!(rt; found_of(alloc, b"client\n", get, 100_001) == many);
 }
 
-fn cont_line(alloc: Global, number: u32) -> Result<String, AllocError> {
-    format!(in alloc; "cont c{number} {number:032x}\n")
+// A line with a number: a container, an object or an old snapshot.
+fn add_line(alloc: Global, text: &mut Vec<u8>, kind: u8, number: u32) -> Option<()> {
+    let line = match kind {
+        b'c' => format!(in alloc; "cont c{number} {number:032x}\n").ok()?,
+        b'o' => format!(in alloc; "obj n{number} c1 S1 {number}\n").ok()?,
+        _ => format!(in alloc; "old s{number} c1 {number}\n").ok()?,
+    };
+    text.extend_from_slice(line.as_bytes()).ok()
 }
 
-fn obj_line(alloc: Global, number: u32) -> Result<String, AllocError> {
-    format!(in alloc; "obj n{number} c1 S1 {number}\n")
-}
-
-fn old_line(alloc: Global, number: u32) -> Result<String, AllocError> {
-    format!(in alloc; "old s{number} c1 {number}\n")
-}
-
-// So many containers.
-fn conts(alloc: Global, count: u32) -> Result<Vec<u8>, AllocError> {
+// What is found of so many of them, behind a container.
+fn found_of_lines(alloc: Global, kind: u8, count: u32) -> Option<Found> {
     let mut text = Vec::new(alloc);
-    for number in 1..=count {
-        text.extend_from_slice(cont_line(alloc, number)?.as_bytes())?;
+    if kind != b'c' {
+        add_line(alloc, &mut text, b'c', 1)?;
     }
-    Ok(text)
-}
-
-// A container, and so many objects.
-fn objs(alloc: Global, count: u32) -> Result<Vec<u8>, AllocError> {
-    let mut text = conts(alloc, 1)?;
     for number in 1..=count {
-        text.extend_from_slice(obj_line(alloc, number)?.as_bytes())?;
+        add_line(alloc, &mut text, kind, number)?;
     }
-    Ok(text)
-}
-
-// A container, and so many old snapshots.
-fn olds(alloc: Global, count: u32) -> Result<Vec<u8>, AllocError> {
-    let mut text = conts(alloc, 1)?;
-    for number in 1..=count {
-        text.extend_from_slice(old_line(alloc, number)?.as_bytes())?;
-    }
-    Ok(text)
+    Some(found(alloc, &text))
 }
 
 #[test]
-fn keeps_the_limit_of_containers(rt: HostRuntime) -> Result<(), Fail> {
+fn containers_objects_and_old_snapshots_have_limits(rt: HostRuntime) {
     let alloc = rt.alloc();
-    assert!(rt; is_script(alloc, &conts(alloc, 256)?, 1));
-    assert!(rt; has_fault(alloc, &conts(alloc, 257)?, 1, 257, Why::TooMany(256)));
-    Ok(())
+    let script = Some(Found::Script);
+    assert!(rt; found_of_lines(alloc, b'c', 256) == script);
+    assert!(rt; found_of_lines(alloc, b'c', 257) == Some(Found::TooMany(257, 256)));
+    assert!(rt; found_of_lines(alloc, b'o', 4096) == script);
+    assert!(rt; found_of_lines(alloc, b'o', 4097) == Some(Found::TooMany(4098, 4096)));
+    assert!(rt; found_of_lines(alloc, b's', 256) == script);
+    assert!(rt; found_of_lines(alloc, b's', 257) == Some(Found::TooMany(258, 256)));
 }
 
-#[test]
-fn keeps_the_limit_of_objects(rt: HostRuntime) -> Result<(), Fail> {
-    let alloc = rt.alloc();
-    assert!(rt; is_script(alloc, &objs(alloc, 4096)?, 1));
-    assert!(rt; has_fault(alloc, &objs(alloc, 4097)?, 1, 4098, Why::TooMany(4096)));
-    Ok(())
-}
-
-#[test]
-fn keeps_the_limit_of_old_snapshots(rt: HostRuntime) -> Result<(), Fail> {
-    let alloc = rt.alloc();
-    assert!(rt; is_script(alloc, &olds(alloc, 256)?, 1));
-    assert!(rt; has_fault(alloc, &olds(alloc, 257)?, 1, 258, Why::TooMany(256)));
-    Ok(())
-}
-
-#[test]
-fn keeps_the_limit_of_bytes(rt: HostRuntime) -> Result<(), Fail> {
-    let alloc = rt.alloc();
-    let mut text = repeated(alloc, b"# 345678901234567890123456789 1\n", 524_288)?;
-    assert!(rt; is_script(alloc, &text, 1));
-    text.push(b'\n')?;
-    assert!(rt; has_fault(alloc, &text, 1, 524_289, Why::TooLong(16_777_216)));
+// What is found of 16 MiB of lines, of one byte more, and of that with an unknown word in its first line.
+fn found_of_many_bytes(alloc: Global) -> Option<[Found; 3]> {
+    let mut text = Vec::new(alloc);
+    add(&mut text, b"# 345678901234567890123456789 1\n", 524_288)?;
+    let most = found(alloc, &text);
+    text.push(b'\n').ok()?;
+    let more = found(alloc, &text);
     if let Some(first) = text.first_mut() {
         *first = b'!';
     }
-    assert!(rt; has_fault(alloc, &text, 1, 1, Why::UnknownWord));
-    Ok(())
-}
-
-// A script that puts the value of 512 pieces and a rest.
-fn put_of(alloc: Global, sign: u8, piece: &[u8], rest: &[u8]) -> Result<Vec<u8>, AllocError> {
-    let mut text = joined(alloc, HEAD, b"client\nput o d a ")?;
-    text.push(sign)?;
-    for _ in 0..512 {
-        text.extend_from_slice(piece)?;
-    }
-    text.extend_from_slice(rest)?;
-    Ok(text)
+    Some([most, more, found(alloc, &text)])
 }
 
 #[test]
-fn keeps_the_limit_of_values(rt: HostRuntime) -> Result<(), Fail> {
+fn bytes_have_a_limit(rt: HostRuntime) {
+    let wanted = [
+        Found::Script,
+        Found::TooLong(524_289, 16_777_216),
+        Found::UnknownWord(1),
+    ];
+    assert!(rt; found_of_many_bytes(rt.alloc()) == Some(wanted));
+}
+
+// What is found of a script that puts the value of 512 pieces and a rest.
+fn found_of_put(alloc: Global, sign: &[u8], piece: &[u8], rest: &[u8]) -> Option<Found> {
+    let mut text = Vec::from_slice(alloc, HEAD).ok()?;
+    add(&mut text, sign, 1)?;
+    add(&mut text, piece, 512)?;
+    add(&mut text, rest, 1)?;
+    Some(found(alloc, &text))
+}
+
+#[test]
+fn values_have_a_limit(rt: HostRuntime) {
     let alloc = rt.alloc();
-    for (sign, piece, rest) in [
-        (b'=', b"~~".as_slice(), b"~".as_slice()),
-        (b'#', b"0020", b"00"),
-    ] {
-        assert!(rt; is_script(alloc, &put_of(alloc, sign, piece, b"")?, 1));
-        assert!(rt;
-            has_fault(
-                alloc,
-                &put_of(alloc, sign, piece, rest)?,
-                1,
-                5,
-                Why::TooLong(1024)
-            )
-        );
-    }
-    Ok(())
+    let long = Some(Found::TooLong(5, 1024));
+    let text = b"client\nput o d a =";
+    assert!(rt; found_of_put(alloc, text, b"~~", b"") == Some(Found::Script));
+    assert!(rt; found_of_put(alloc, text, b"~~", b"~") == long);
+    let hex = b"client\nput o d a #";
+    assert!(rt; found_of_put(alloc, hex, b"0020", b"") == Some(Found::Script));
+    assert!(rt; found_of_put(alloc, hex, b"0020", b"00") == long);
 }
