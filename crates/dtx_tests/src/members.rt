@@ -1,15 +1,13 @@
 // Fetches parked at a member, and inquiries.
-use base_messages::message::{Message, Posts};
+use base_messages::message::Message;
 use base_types::entry::{Entry, Verdict};
 use base_types::epoch::Epoch;
 use base_types::id::{AttemptId, ContId};
-use base_types::items::Memory;
 use base_types::operation::Read;
 use base_types::path::Path;
 use dtx_base::member::Freed;
 use dtx_member::member::Member;
 use std::alloc::Global;
-use std::test::Fail;
 
 fn attempt(client: u16) -> AttemptId {
     AttemptId {
@@ -31,7 +29,7 @@ fn entry(client: u16) -> Entry {
 }
 
 // A Fetch of a client's attempt waits for attempt 0 0 0.
-fn park(member: &mut Member, client: u16) -> Result<Posts, Memory> {
+fn park(member: &mut Member, client: u16) -> Option<()> {
     let path = Path {
         cont: ContId(1),
         obj: None,
@@ -48,48 +46,48 @@ fn park(member: &mut Member, client: u16) -> Result<Posts, Memory> {
         read: Read::Exists(path),
         snapshot: false,
     };
-    member.park(fetch, attempt(0), 0)
+    let _posts = member.park(fetch, attempt(0), 0).ok()?;
+    Some(())
 }
 
-// The attempt of a Fetch.
-fn asker(ask: &Message) -> Option<AttemptId> {
+// The client whose Fetch a message is, or 9.
+fn asker(ask: &Message) -> u16 {
     match ask {
-        Message::Fetch { attempt, .. } => Some(*attempt),
-        _ => None,
+        Message::Fetch { attempt, .. } => attempt.client,
+        _ => 9,
     }
 }
 
-// The numbers of the actors that messages go to, and of the clients whose Fetches are tried again.
-fn told(alloc: Global, freed: &Freed) -> Result<String, Fail> {
-    let mut text = String::new(alloc);
-    for post in freed.posts.as_slice() {
-        let to = post.to.number;
-        text.push_str(&format!(in alloc; "told {to} ")?)?;
-    }
+// How many messages follow from a verdict, and the clients whose Fetches are tried again, one decimal digit each.
+fn told(freed: &Freed) -> (usize, u16) {
+    let mut again = 0u16;
     for ask in freed.again.as_slice() {
-        if let Some(attempt) = asker(ask) {
-            let client = attempt.client;
-            text.push_str(&format!(in alloc; "again {client} ")?)?;
-        }
+        again = again.saturating_mul(10).saturating_add(asker(ask));
     }
-    Ok(text)
+    (freed.posts.len(), again)
 }
 
-#[test]
-fn frees_in_order(rt: HostRuntime) -> Result<(), Fail> {
-    let alloc = rt.alloc();
-    let mut member = Member::new(alloc, 1, 2)?;
+// What follows once two clients' Fetches wait for an attempt that is aborted.
+fn freed(alloc: Global) -> Option<(usize, u16)> {
+    let mut member = Member::new(alloc, 1, 2).ok()?;
     park(&mut member, 3)?;
     park(&mut member, 1)?;
-    let freed = member.hear_verdict(attempt(0), None, Verdict::Aborted)?;
-    assert_eq!(rt; told(alloc, &freed)?.as_str(), "again 3 again 1 ");
-    Ok(())
+    let freed = member
+        .hear_verdict(attempt(0), None, Verdict::Aborted)
+        .ok()?;
+    Some(told(&freed))
+}
+
+// How many messages ask what became of an entry, and whether it is asked again.
+fn asked(alloc: Global) -> Option<(usize, bool)> {
+    let mut member = Member::new(alloc, 1, 2).ok()?;
+    let posts = member.inquire(&[entry(0)]).ok()?;
+    Some((posts.len(), member.has_inquiry(&[entry(0)])))
 }
 
 #[test]
-fn asks_once(rt: HostRuntime) -> Result<(), Fail> {
-    let mut member = Member::new(rt.alloc(), 1, 2)?;
-    assert_eq!(rt; member.inquire(&[entry(0)])?.len(), 1);
-    assert!(rt; !member.has_inquiry(&[entry(0)]));
-    Ok(())
+fn what_waits_goes_on_in_order(rt: HostRuntime) {
+    let alloc = rt.alloc();
+    assert!(rt; freed(alloc) == Some((0, 31)));
+    assert!(rt; asked(alloc) == Some((1, false)));
 }

@@ -3,7 +3,7 @@ use base_types::entry::{Entry, Settle};
 use base_types::epoch::Epoch;
 use base_types::id::AttemptId;
 use dtx_table::table::Table;
-use std::test::Fail;
+use std::alloc::Global;
 
 fn entry(command: u32) -> Entry {
     Entry {
@@ -20,36 +20,33 @@ fn entry(command: u32) -> Entry {
     }
 }
 
-// Whether two entries are the same.
-fn same(one: &Entry, other: &Entry) -> bool {
-    one.attempt == other.attempt
-        && one.epoch.0 == other.epoch.0
-        && one.leader == other.leader
-        && one.members == other.members
-        && one.confirmed == other.confirmed
-        && one.committed == other.committed
+// The command of an entry, whether it is committed, and who confirmed that.
+fn told(entry: &Entry) -> (u32, bool, u64) {
+    (entry.attempt.command, entry.committed, entry.confirmed)
 }
 
-#[test]
-fn settles_entries(rt: HostRuntime) -> Result<(), Fail> {
-    let mut table = Table::new(rt.alloc())?;
+// Settles entries that are there.
+fn settle(table: &mut Table) -> Option<()> {
     for command in [2, 0, 1] {
-        table.add(entry(command))?;
+        table.add(entry(command)).ok()?;
     }
     table.settle(entry(1).attempt, Settle::Commit);
     table.settle(entry(1).attempt, Settle::Confirm(2));
     table.settle(entry(2).attempt, Settle::Abort);
-    let committed = Entry {
-        committed: true,
-        confirmed: 4,
-        ..entry(1)
-    };
-    let entries = table.entries();
-    assert_eq!(rt; entries.len(), 2);
-    assert!(rt; same(&entries[0], &entry(0)));
-    assert!(rt; same(&entries[1], &committed));
-    let found = table.state(entry(1).attempt);
-    assert!(rt; found.is_some_and(|found| same(&found, &committed)));
-    assert!(rt; table.state(entry(2).attempt).is_none());
-    Ok(())
+    Some(())
+}
+
+// Whether entries are in order, and settled as they were told.
+fn are_settled(alloc: Global) -> Option<bool> {
+    let mut table = Table::new(alloc).ok()?;
+    settle(&mut table)?;
+    match table.entries() {
+        [first, second] => Some(told(first) == (0, false, 0) && told(second) == (1, true, 4)),
+        _ => None,
+    }
+}
+
+#[test]
+fn entries_are_settled(rt: HostRuntime) {
+    assert!(rt; are_settled(rt.alloc()) == Some(true));
 }
