@@ -10,7 +10,6 @@ use pmem_tree::tree::Tree;
 use std::alloc::Global;
 use std::marker::Brand;
 use std::sync::ledger::{Blank, Ledger};
-use std::test::Fail;
 use vos_extent::extent::Extents;
 use vos_levels::change::Change;
 use vos_values::keys::{ExtentKey, Moment};
@@ -63,20 +62,24 @@ fn two<L: Ledger>(pages: &mut MemPages, steps: &mut Steps<L>) -> Option<Extents>
     add(pages, one, place(2, 512), b"pq", steps)
 }
 
-// Pieces as text: `=` and its bytes, or `~` and how many records are missing.
+// A piece as text: its bytes, or `~` for each record that is missing.
+fn add_piece(text: &mut Vec<u8>, piece: &Piece) -> Option<()> {
+    match piece {
+        Piece::Bytes(bytes) => text.extend_from_slice(bytes.as_slice()).ok(),
+        Piece::Hole(len) => {
+            for _ in 0..*len {
+                text.push(b'~').ok()?;
+            }
+            Some(())
+        }
+    }
+}
+
+// Pieces as text.
 fn text_of(alloc: Global, pieces: &[Piece]) -> Option<Vec<u8>> {
     let mut text = Vec::new(alloc);
     for piece in pieces {
-        match piece {
-            Piece::Bytes(bytes) => {
-                text.push(b'=').ok()?;
-                text.extend_from_slice(bytes.as_slice()).ok()?;
-            }
-            Piece::Hole(len) => {
-                text.push(b'~').ok()?;
-                text.push(b'0' + (*len % 10) as u8).ok()?;
-            }
-        }
+        add_piece(&mut text, piece)?;
     }
     Some(text)
 }
@@ -119,27 +122,36 @@ fn shows(alloc: Global, below: u64, punched: Option<Moment>, text: &[u8]) -> boo
 }
 
 #[test]
-fn pieces_below_an_epoch(rt: HostRuntime) -> Result<(), Fail> {
+fn pieces_below_an_epoch_and_a_punch(rt: HostRuntime) {
     let alloc = rt.alloc();
-    assert!(rt; shows(alloc, 600, None, b"~1=xpq~1"));
-    assert!(rt; shows(alloc, 300, None, b"~1=xy~2"));
-    assert!(rt; shows(alloc, 100, None, b"~5"));
-    Ok(())
-}
-
-#[test]
-fn a_punch_hides_what_is_older(rt: HostRuntime) -> Result<(), Fail> {
-    let alloc = rt.alloc();
+    assert!(rt; shows(alloc, 600, None, b"~xpq~"));
+    assert!(rt; shows(alloc, 300, None, b"~xy~~"));
+    assert!(rt; shows(alloc, 100, None, b"~~~~~"));
     let punch = Moment {
         epoch: Epoch(300),
         minor: 0,
     };
-    assert!(rt; shows(alloc, 600, Some(punch), b"~2=pq~1"));
-    Ok(())
+    assert!(rt; shows(alloc, 600, Some(punch), b"~~pq~"));
 }
 
-// How many blocks are free after two extents were added, one was committed and pruned, and the other
-// aborted.
+// Commits and prunes one of two extents, and aborts the other.
+fn clear<L: Ledger>(pages: &mut MemPages, extents: Extents, steps: &mut Steps<L>) -> Option<()>
+    requires { extents.tree.kind ≡ 6 }
+{
+    let mut extents = extents;
+    pages.grant(1024, 256000);
+    extents
+        .change_at(pages, place(1, 256), Change::Commit(BY), steps)
+        .ok()?;
+    extents
+        .change_at(pages, place(1, 256), Change::Prune, steps)
+        .ok()?;
+    extents
+        .change_at(pages, place(2, 512), Change::Abort(BY), steps)
+        .ok()
+}
+
+// How many blocks are free then.
 fn left<L: Ledger>(alloc: Global, blank: Blank) -> Option<u32>
     requires name { blank.name ≡ L.name }
     requires parts { blank.parts ≡ L.parts }
@@ -147,22 +159,17 @@ fn left<L: Ledger>(alloc: Global, blank: Blank) -> Option<u32>
 {
     let mut steps = Steps::<L>::new(blank);
     let mut pages = MemPages::new(alloc, 8).ok()?;
-    let mut extents = two(&mut pages, &mut steps)?;
-    pages.grant(1024, 256000);
-    extents
-        .change_at(&mut pages, place(1, 256), Change::Commit(BY), &mut steps)
-        .ok()?;
-    extents
-        .change_at(&mut pages, place(1, 256), Change::Prune, &mut steps)
-        .ok()?;
-    extents
-        .change_at(&mut pages, place(2, 512), Change::Abort(BY), &mut steps)
-        .ok()?;
+    let extents = two(&mut pages, &mut steps)?;
+    clear(&mut pages, extents, &mut steps)?;
     Some(pages.free())
 }
 
+// Whether all are.
+fn are_left(alloc: Global) -> bool {
+    left::<Brand>(alloc, Blank::new(1)) == Some(8)
+}
+
 #[test]
-fn what_is_pruned_gives_its_blocks_back(rt: HostRuntime) -> Result<(), Fail> {
-    assert_eq!(rt; left::<Brand>(rt.alloc(), Blank::new(1)), Some(8));
-    Ok(())
+fn what_is_pruned_gives_its_blocks_back(rt: HostRuntime) {
+    assert!(rt; are_left(rt.alloc()));
 }
