@@ -1,18 +1,13 @@
 // What the outside gives or takes byte by byte, or fails at.
+use crate::runs::run;
 use crate::slow::{SlowSink, SlowSource};
-use base_outside::gate::FreeGate;
 use base_outside::mem_sink::MemSink;
 use base_outside::mem_source::MemSource;
-use base_outside::sink::Sink;
-use base_outside::source::Source;
 use base_outside::sure_rack::SureRack;
 use base_outside::sure_sink::SureSink;
 use base_outside::sure_source::SureSource;
-use daos_app::daos::run_daos;
-use daos_app::status::Status;
 use std::alloc::Global;
 use std::sync::Wait;
-use std::test::Fail;
 use std::thread::Threads;
 
 const FIRST: &[u8] = b"cont c 00000000-0000-0000-0000-000000000001
@@ -30,57 +25,49 @@ got 0 value =hello
 end 0
 ";
 
-const WORDS: [&str; 3] = ["run", "--targets", "1"];
+// What a run over a source and a sink that move one byte a call ends with, and whether it is reported alike.
+fn slowly<R: Threads + Wait + Sync>(rt: &R, alloc: Global) -> Option<(u8, bool)> {
+    let source = SureSource::new(alloc, FIRST).ok()?;
+    let mut source = SlowSource { inner: source };
+    let sink = SureSink::new(alloc, 1000).ok()?;
+    let mut sink = SlowSink { inner: sink };
+    let mut rack = SureRack::new(alloc, 1, 4096).ok()?;
+    let status = run(rt, alloc, &mut source, &mut sink, &mut rack)?;
+    Some((status, sink.inner.bytes() == FIRST_REPORT))
+}
 
-// Runs words over a source and a sink, with ample memory and a rack of one target.
-fn run<R: Threads + Wait + Sync, S: Source, K: Sink>(
+#[test]
+fn one_byte_a_call_is_reported_alike(rt: HostRuntime) {
+    assert!(rt; slowly(&rt, rt.alloc()) == Some((0, true)));
+}
+
+// What a run ends with where these calls of the source and of the sink fail, and the sink has so much room; and how
+// much of the report the sink then holds.
+fn failing<R: Threads + Wait + Sync>(
     rt: &R,
     alloc: Global,
-    words: &[&str],
-    source: &mut S,
-    sink: &mut K,
-) -> Result<Status, Fail> {
-    let mut owned = Vec::new(alloc);
-    for word in words {
-        owned.push(String::from_str(alloc, word)?)?;
+    source_fails: &[u32],
+    room: u64,
+    sink_fails: &[u32],
+) -> Option<(u8, usize)> {
+    let mut source = MemSource::new(alloc, FIRST, source_fails).ok()?;
+    let mut sink = MemSink::new(alloc, room, sink_fails).ok()?;
+    let mut rack = SureRack::new(alloc, 1, 4096).ok()?;
+    let status = run(rt, alloc, &mut source, &mut sink, &mut rack)?;
+    let held = sink.bytes();
+    if FIRST_REPORT.starts_with(held) {
+        Some((status, held.len()))
+    } else {
+        None
     }
-    let mut rack = SureRack::new(alloc, 1, 4096)?;
-    Ok(run_daos(rt, alloc, &owned, source, sink, &mut rack, &FreeGate))
 }
 
 #[test]
-fn one_byte_a_call_is_reported_alike(rt: HostRuntime) -> Result<(), Fail> {
+fn faults_of_the_outside_are_told(rt: HostRuntime) {
     let alloc = rt.alloc();
-    let mut source = SlowSource {
-        inner: SureSource::new(alloc, FIRST)?,
-    };
-    let mut sink = SlowSink {
-        inner: SureSink::new(alloc, 1000)?,
-    };
-    let status = run(&rt, alloc, &WORDS, &mut source, &mut sink)?;
-    assert_eq!(rt; status.number(), 0);
-    assert_eq!(rt; sink.inner.bytes(), FIRST_REPORT);
-    Ok(())
-}
-
-#[test]
-fn faults_of_the_outside_are_told(rt: HostRuntime) -> Result<(), Fail> {
-    let alloc = rt.alloc();
-    // Calls of the source that fail, room in the sink, calls of the sink that fail: the number of the status, and
-    // how many bytes of the report the sink then holds.
-    let table: [(&[u32], u64, &[u32], u8, usize); 5] = [
-        (&[1], 1000, &[], 3, 0),
-        (&[2], 1000, &[], 3, 0),
-        (&[], 1000, &[1], 4, 0),
-        (&[], 0, &[], 4, 0),
-        (&[], 17, &[], 4, 17),
-    ];
-    for (source_fails, room, sink_fails, wanted, held) in table {
-        let mut source = MemSource::new(alloc, FIRST, source_fails)?;
-        let mut sink = MemSink::new(alloc, room, sink_fails)?;
-        let status = run(&rt, alloc, &WORDS, &mut source, &mut sink)?;
-        assert_eq!(rt; status.number(), wanted);
-        assert_eq!(rt; sink.bytes(), &FIRST_REPORT[..held.min(FIRST_REPORT.len())]);
-    }
-    Ok(())
+    assert!(rt; failing(&rt, alloc, &[1], 1000, &[]) == Some((3, 0)));
+    assert!(rt; failing(&rt, alloc, &[2], 1000, &[]) == Some((3, 0)));
+    assert!(rt; failing(&rt, alloc, &[], 1000, &[1]) == Some((4, 0)));
+    assert!(rt; failing(&rt, alloc, &[], 0, &[]) == Some((4, 0)));
+    assert!(rt; failing(&rt, alloc, &[], 17, &[]) == Some((4, 17)));
 }

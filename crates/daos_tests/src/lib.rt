@@ -8,4 +8,6 @@ mod faults;
 #[cfg(test)]
 mod planned;
 #[cfg(test)]
+mod runs;
+#[cfg(test)]
 mod slow;
