@@ -123,6 +123,7 @@ module _ {S C : Type 0} (durable : S → Option Durable) (state : S → State) (
       opened = r.new.has_opened;
       running = r.running;
       leader = r.new.leads;
+      waits = ap (λ m. m.parked) r.new.joins;
       kept = λ d told. (let k = r.kept d told in record { starts = starts d told; enlisted = k.enlisted; seldom = k.seldom });
     }
 

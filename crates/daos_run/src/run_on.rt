@@ -9,6 +9,7 @@ ghost use Rattle.daos_run.specs.Stops.{IsOpeningFault, MayStop};
 ghost use Rattle.model_reports.specs.Lone.{HasOneClient};
 ghost use Rattle.model_reports.specs.Rooms.{FindsRoom, HasRoom};
 ghost use Rattle.run_shows.specs.InTurn.{AllBeginInTurn};
+ghost use Rattle.world_kinds.specs.Fitting.{AllAnswersFit};
 ghost use Rattle.run_targets.specs.Ends.{IsReportOfLines, TellsOfLoneClient};
 ghost use Rattle.run_opening.specs.All.{AreKept, MayBeFound};
 ghost use Rattle.run_starts.specs.Starts.{CanOpen};
@@ -74,6 +75,7 @@ pub fn run_on<R: Threads + Wait + Sync, S: Fuse + Send, C: Clock + Send, G: Gate
         → HasOneClient script.now → script.now.stops ≡ [] → IfOk result (λ report. stop_numbers report.lines ≡ [] → TellsOfLoneClient (given script.now job.now B free) report) }
     ensures told { IfOk result (IsReportOfLines script.now) }
     ensures in_turn { IfOk result (λ report. AllBeginInTurn job.now.attempts script.now report.lines) }
+    ensures kinds { IfOk result (λ report. AllAnswersFit script.now report.lines) }
     ensures served { StoresAreServed S.durable S.state parts.old parts.new }
     ensures unfused { FusesAreGone S.state parts.new }
     ensures clocks { ClocksAreRead C.is_read parts.old parts.new }

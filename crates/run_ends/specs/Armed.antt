@@ -64,6 +64,7 @@ module _ {S C : Type 0} (durable : S → Option Durable) (state : S → State) (
       opened = f.opened ∙ k.opened;
       running = ap (λ h. h.stopped) f.state_is.rest ∙ k.running;
       leader = ap (λ m. m.leader) f.memory ∙ k.leader;
+      waits = ap (λ m. m.member.parked) f.memory ∙ k.waits;
       kept = λ d is. fuse-kept g t d (k.kept d (sym f.kept ∙ is));
     }
 

@@ -1,5 +1,5 @@
 -- Clients and targets before their first turns.
-use Rattle.std.specs.Prelude.{ℕ, ◌≡◌, ◌≤◌, ◌+◌, ◌^◌, true, false, List, length, map, slice_get, is_some, Option, Some}
+use Rattle.std.specs.Prelude.{ℕ, ◌≡◌, ◌≤◌, ◌+◌, ◌^◌, true, false, List, length, map, slice_get, is_some, Option, Some, []}
 use Rattle.base_types.specs.declared.job.Job.{Job}
 use Rattle.base_types.specs.declared.script.Script.{Script}
 use Rattle.client_core.specs.Clients.{ClientNow}
@@ -41,6 +41,7 @@ module _ {S C : Type 0} (durable : S → Option Durable) (state : S → State) w
     pub opened : x.opened ≡ true
     pub running : (state x.store).stopped ≡ false
     pub leader : x.memory.leader ≡ no_leading
+    pub waits : x.memory.member.parked ≡ []
     pub kept : (d : Durable) → durable x.store ≡ Some d → KeepsAtFirst g t x d
 
   -- The clients and the targets of a run of a script in form, for some targets, without snapshots and aggregation, before their first turns.

@@ -11,6 +11,8 @@ ghost use Rattle.run_shows.specs.Accounts.{AreAccounted, AreServed};
 ghost use Rattle.run_shows.specs.CanGo.{CanGo};
 ghost use Rattle.run_shows.specs.Due.{IsActor, IsUp};
 ghost use Rattle.run_shows.specs.InTurn.{AllBeginInTurn, TellInTurn};
+ghost use Rattle.run_shows.specs.Kinds.{AnswersGoOn};
+ghost use Rattle.world_kinds.specs.Fitting.{AllAnswersFit};
 ghost use Rattle.run_shows.specs.Shows.{Shows};
 ghost use Rattle.run_stage.specs.Now.{stage_now};
 ghost use Rattle.run_steps.specs.Breaking.{Breaks};
@@ -224,6 +226,7 @@ pub fn run_in_order<R: Wait, S: Fuse, C: Clock, G: Gate>(
         → IfOk result.2 (λ lines. AreAccounted S.durable S.state h stops (left_of result.0.items result.1 lines)) }
     ensures reopens { IfOk result.2 (λ lines. AllCanReopen S.durable S.state S.may result.0.items) }
     ensures in_turn { (r : Rules) → TellInTurn r (stage_now stage) → IfOk result.2 (AllBeginInTurn r.attempts r.script) }
+    ensures kinds { (r : Rules) → AnswersGoOn r (stage_now stage) → IfOk result.2 (AllAnswersFit r.script) }
 {
     let went = go(rt, alloc, order, &mut stage, gate);
     let Stage {

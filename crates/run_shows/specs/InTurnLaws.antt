@@ -217,12 +217,12 @@ quietly r a b clients lines k = record {
     before n = ap (λ cs. slice_get cs n) (sym clients)
 
 -- a line that tells of none
-one-line : (ls : List Line) (l : Line) → tried l ≡ [] → tries (ls ++ l ∷ []) ≡ tries ls
+pub one-line : (ls : List Line) (l : Line) → tried l ≡ [] → tries (ls ++ l ∷ []) ≡ tries ls
 unfolding tries
 one-line ls l none = tries-append ls (l ∷ []) ∙ ap (λ ts. tries ls ++ (ts ++ [])) none ∙ append-nil (tries ls)
 
 -- so where such a line follows none
-line-alone : (ls more : List Line) (l : Line) → more ≡ [] → tried l ≡ [] → tries (ls ++ more ++ l ∷ []) ≡ tries ls
+pub line-alone : (ls more : List Line) (l : Line) → more ≡ [] → tried l ≡ [] → tries (ls ++ more ++ l ∷ []) ≡ tries ls
 line-alone ls more l nothing none =
     let same : ls ++ more ++ l ∷ [] ≡ ls ++ l ∷ [] = subst (λ ms. ls ++ ms ++ l ∷ [] ≡ ls ++ l ∷ []) (sym nothing) (grind (arith, common_steps)) in
     ap tries same ∙ one-line ls l none
@@ -305,7 +305,7 @@ after-stop-tells r t before now a b (LastTime more at same) k = quietly r a b (a
 
 module _ {S C : Type 0} (durable : S → Option Durable) (state : S → State) (may : S → Durable → Type 0) (r : Rules) (a b : StageNow S C) (t : ℕ) where
   -- what a target heard, or its idle work, leaves of the lines
-  turned-lines : (settling : Bool) (number : ℕ) (x y : TargetOf S C) (left : BetweenNow) (result : Result Did TargetStop) → IsTurned durable state may settling t number x y a.between left result → left.lines ≡ a.between.lines
+  pub turned-lines : (settling : Bool) (number : ℕ) (x y : TargetOf S C) (left : BetweenNow) (result : Result Did TargetStop) → IsTurned durable state may settling t number x y a.between left result → left.lines ≡ a.between.lines
   turned-lines settling number x y left result (ByHearing l rest reading picked is turn) = ap (λ q. q.lines) is
   turned-lines settling number x y left result (ByIdling none is turn) = ap (λ q. q.lines) is
 

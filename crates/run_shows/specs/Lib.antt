@@ -9,7 +9,9 @@ pub mod Turned
 pub mod Openings
 pub mod Steps
 pub mod InTurn
+pub mod Kinds
 pub mod InTurnLaws
+pub mod KindsLaws
 pub mod Serving
 pub mod Parts
 pub mod Leading

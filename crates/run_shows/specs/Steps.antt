@@ -1,10 +1,11 @@
 -- What a turn leaves of the actors of a run.
-use Rattle.std.specs.Prelude.{ℕ, ◌≡◌, ◌+◌, ◌<◌, ◌^◌, Bool, true, List, slice_get, slice_set, Option, Some, Result, Ok, Err, IfOk, IfErr, IsSome, is_ok, false}
+use Rattle.std.specs.Prelude.{ℕ, ◌≡◌, ◌+◌, ◌<◌, ◌^◌, Bool, true, List, [], slice_get, slice_set, Option, Some, Result, Ok, Err, IfOk, IfErr, IsSome, is_ok, false}
 use Rattle.std.specs.Option.{ForSome}
 use Rattle.client_core.specs.Clients.{ClientNow}
 use Rattle.daos_model.specs.declared.durable.Durable.{Durable}
 use Rattle.run_base.specs.Letters.{BetweenNow, IsPicked}
 use Rattle.run_base.specs.Picks.{count_to, heard_awake}
+use Rattle.run_shows.specs.Kinds.{TurnsOnce}
 use Rattle.run_shows.specs.Openings.{AfterOpening, HasFuse}
 use Rattle.run_shows.specs.Stages.{IsPlace, StageNow}
 use Rattle.run_shows.specs.Turned.{AfterCut, AfterFailure, IsTurned, followed, swept_stage, with_between, with_client_at, with_target_at}
@@ -22,6 +23,7 @@ use Rattle.world_base.specs.declared.letter.Letter.{Letter}
 use Rattle.world_base.specs.declared.target.Life.TheVariants.{Running, Stopped}
 use Rattle.world_base.specs.ClientTurns.{HearTurn, NextTurn}
 use Rattle.world_base.specs.Letters.{client, target}
+use Rattle.world_kinds.specs.PostLaws.{CarryNone}
 use Rattle.world_posts.specs.Forms.{Follows, PostsInForm}
 
 -- ---- a client's turn
@@ -71,6 +73,8 @@ module _ {S C : Type 0} (durable : S → Option Durable) (state : S → State) (
     pub native : IsSome (durable before.store) → says stop_foreign result ≡ false
     pub posts : IfOk result (λ did. Follows before.plan.targets now.memory.leader did.posts)
     pub line : IfOk result (TellsRestart a.watch.restarts before.plan.me)
+    pub reads : IfOk result (λ did. CarryNone did.posts)
+    pub fresh : is_ok result ≡ true → now.memory.member.parked ≡ []
     pub opened : now.opened ≡ is_ok result
 
   -- And what came of it came about.
@@ -92,6 +96,7 @@ module _ {S C : Type 0} (durable : S → Option Durable) (state : S → State) (
       pub silent : IsSilent result
       pub clock : IsReadOn is_read before.clock now.clock
       pub posts : IfOk result (λ did. PostsInForm before.plan.targets before.memory.leader now.memory.leader did.posts)
+      pub once : IfOk result (TurnsOnce a.between left before.memory.member now.memory.member)
       pub turned : IsTurned durable state may settling t number before now a.between left result
 
     -- And what came of it came about.

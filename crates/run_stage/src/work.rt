@@ -4,6 +4,7 @@ ghost use Rattle.run_base.specs.Letters.{IsPicked};
 ghost use Rattle.run_base.specs.Picks.{count_to};
 ghost use Rattle.run_shows.specs.Accounts.{AreServed};
 ghost use Rattle.run_shows.specs.CanGo.{CanTurn, IsHearable};
+ghost use Rattle.run_shows.specs.Kinds.{TurnsOnce};
 ghost use Rattle.run_shows.specs.Steps.{TargetBroke, TargetWorked};
 ghost use Rattle.run_shows.specs.Turned.{IsTurned};
 ghost use Rattle.run_stage.specs.Now.{stage_now};
@@ -48,6 +49,7 @@ fn hear_or_idle<S: Store, C: Clock>(
     ensures native { says stop_foreign result ≡ false }
     ensures silent { IsSilent result }
     ensures posts { IfOk result (λ did. PostsInForm host.old.plan.targets host.old.memory.leader host.new.memory.leader did.posts) }
+    ensures once { IfOk result (TurnsOnce between.old between.new host.old.memory.member host.new.memory.member) }
 {
     if between.count_to(target_id(t)) > 0 {
         let letter = between.take(target_id(t), number);

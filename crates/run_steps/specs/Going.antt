@@ -7,7 +7,8 @@ use Rattle.daos_model.specs.declared.durable.Durable.{Durable}
 use Rattle.run_shows.specs.Accounts.{AreAccounted, AreServed}
 use Rattle.run_shows.specs.Serving.{served-first, served-then}
 use Rattle.run_shows.specs.CanGo.{CanGo}
-use Rattle.run_shows.specs.InTurn.{TellInTurn}
+use Rattle.run_shows.specs.Kinds.{TellsOn}
+use Rattle.run_shows.specs.KindsLaws.{tells-none, tells-then}
 use Rattle.run_shows.specs.Shows.{Leads, Shows, WasReached}
 use Rattle.run_shows.specs.Stages.{StageNow}
 use Rattle.run_turns.specs.Keeping.{TurnsKeep, draws-keep, in_turn-keeps, rounds-keep}
@@ -90,17 +91,18 @@ module _ {S C : Type 0} (durable : S → Option Durable) (state : S → State) (
 
   module _ (is_read : C → C → Type 0) where
     -- Turns led in this way from one stage to another, where stores tell what they keep: those of a begun run, as many clients, and the same
-    -- stores after some calls; how often targets stopped is still accounted for; and the lines still tell of clients' commands in turn.
+    -- stores after some calls; how often targets stopped is still accounted for; and the lines still tell of clients' commands in turn, and of answers
+    -- that fit.
     pub record GoesOn (way : Rules → World → World → Type 0) (a b : StageNow S C) : Type 0 where
       pub led : AllTell durable → (r : Rules) → Leads durable state may (way r) r a b
       pub going : CanGo durable state may b
       pub clients : length b.clients ≡ length a.clients
       pub served : AreServed durable state is_read a.targets b.targets
       pub accounts : (h : ℕ → State) (stops : List StopDecl) → AreAccounted durable state h stops a → AreAccounted durable state h stops b
-      pub in_turn : (r : Rules) → TellInTurn r a → TellInTurn r b
+      pub tells : (r : Rules) → TellsOn r a b
 
     pub goes-none : (way : Rules → World → World → Type 0) (a : StageNow S C) → ((r : Rules) (w : World) → way r w w) → CanGo durable state may a → GoesOn way a a
-    goes-none way a none going = record { led = λ tell r. leads-none r way a (none r); going = going; clients = refl; served = served-first durable state is_read a.targets; accounts = λ h stops k. k; in_turn = λ r k. k }
+    goes-none way a none going = record { led = λ tell r. leads-none r way a (none r); going = going; clients = refl; served = served-first durable state is_read a.targets; accounts = λ h stops k. k; tells = λ r. tells-none r a }
 
     pub goes-then : (one other both : Rules → World → World → Type 0) (a b c : StageNow S C) → IsRun one → ((r : Rules) (found : ℕ → Durable) (w u v : World) → Shows durable state r found b u → one r w u → other r u v → both r w v) → GoesOn one a b → GoesOn other b c → GoesOn both a c
     goes-then one other both a b c runs join k l = record {
@@ -109,7 +111,7 @@ module _ {S C : Type 0} (durable : S → Option Durable) (state : S → State) (
       clients = l.clients ∙ k.clients;
       served = served-then durable state is_read a.targets b.targets c.targets k.served l.served;
       accounts = λ h stops all. l.accounts h stops (k.accounts h stops all);
-      in_turn = λ r all. l.in_turn r (k.in_turn r all);
+      tells = λ r. tells-then r a b c (k.tells r) (l.tells r);
     }
 
     pub goes-as : (one other : Rules → World → World → Type 0) (a b : StageNow S C) → ((r : Rules) (found before : ℕ → Durable) (w v : World) → Shows durable state r before a w → Shows durable state r found b v → one r w v → other r w v) → GoesOn one a b → GoesOn other a b
@@ -119,5 +121,5 @@ module _ {S C : Type 0} (durable : S → Option Durable) (state : S → State) (
       clients = k.clients;
       served = k.served;
       accounts = k.accounts;
-      in_turn = k.in_turn;
+      tells = k.tells;
     }

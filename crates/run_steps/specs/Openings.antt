@@ -12,8 +12,8 @@ use Rattle.run_shows.specs.Fitting.{Fits, few-numbers, fit-after_stop, fit-given
 use Rattle.run_shows.specs.Givings.{downs_after, fault-leads}
 use Rattle.run_shows.specs.Going.{AreAlike, AreFindable}
 use Rattle.run_shows.specs.Lettered.{followed-form}
-use Rattle.run_shows.specs.InTurn.{TellInTurn}
-use Rattle.run_shows.specs.InTurnLaws.{target-tells}
+use Rattle.run_shows.specs.Kinds.{TellsOn}
+use Rattle.run_shows.specs.KindsLaws.{target-tells-on}
 use Rattle.run_shows.specs.Openings.{HasFuse}
 use Rattle.run_shows.specs.Parts.{IsTurnSo, is-set, set-same}
 use Rattle.run_shows.specs.Reopening.{failure-leads, opening-leads, set-twice}
@@ -114,7 +114,7 @@ module _ {S C : Type 0} (durable : S → Option Durable) (state : S → State) (
       down = λ e. let no : ⊥ = cc in absurd no;
     }
 
-    pub opened-goes : (settling : Bool) (number : ℕ) → ((r : Rules) → TellInTurn r a → TellInTurn r opened-left) → GoesOn durable state may is_read (λ r. TurnOf settling r (target t) number) a opened-left
+    pub opened-goes : (settling : Bool) (number : ℕ) → ((r : Rules) → TellsOn r a opened-left) → GoesOn durable state may is_read (λ r. TurnOf settling r (target t) number) a opened-left
     opened-goes settling number tells =
         turn-done durable state may is_read a opened-left settling (target t) number 1 None None can leads findable alike opened-served opened-fits (omega arith) refl tells
         (λ u p q here there told. each-pair durable state is_read a.targets t x z place.there (λ v w s. Counts state a opened-left None None v w s) opened-counts
@@ -148,7 +148,7 @@ module _ {S C : Type 0} (durable : S → Option Durable) (state : S → State) (
     few-of = few-numbers state can.rules can.simple a (fits-of durable state may a can) t x place.there
 
     -- its store stopped
-    pub failed-goes : (settling : Bool) (number : ℕ) (b : StageNow S C) → Left (may x.store) (may y.store) → AfterStop t (state x.store).faults (state y.store).faults failed-left b → ((r : Rules) → TellInTurn r a → TellInTurn r b) → GoesOn durable state may is_read (λ r. TurnOf settling r (target t) number) a b
+    pub failed-goes : (settling : Bool) (number : ℕ) (b : StageNow S C) → Left (may x.store) (may y.store) → AfterStop t (state x.store).faults (state y.store).faults failed-left b → ((r : Rules) → TellsOn r a b) → GoesOn durable state may is_read (λ r. TurnOf settling r (target t) number) a b
     failed-goes settling number b left after tells =
         turn-done durable state may is_read a b settling (target t) number 1 None downs can
         (λ tell r. fault-leads durable state r t may settling number 1 (state x.store).faults (state y.store).faults None a failed-left b y failed-place
@@ -176,7 +176,7 @@ module _ {S C : Type 0} (durable : S → Option Durable) (state : S → State) (
         }
 
     -- it isn't a store that was made here: then it doesn't tell what it keeps
-    pub foreign-goes : (settling : Bool) (number : ℕ) → (IsSome (durable x.store) → stop_foreign why ≡ false) → stop_foreign why ≡ true → ((r : Rules) → TellInTurn r a → TellInTurn r (swept_stage (given_up_stage t failed-left))) → GoesOn durable state may is_read (λ r. TurnOf settling r (target t) number) a (swept_stage (given_up_stage t failed-left))
+    pub foreign-goes : (settling : Bool) (number : ℕ) → (IsSome (durable x.store) → stop_foreign why ≡ false) → stop_foreign why ≡ true → ((r : Rules) → TellsOn r a (swept_stage (given_up_stage t failed-left))) → GoesOn durable state may is_read (λ r. TurnOf settling r (target t) number) a (swept_stage (given_up_stage t failed-left))
     foreign-goes settling number native is tells =
         turn-done durable state may is_read a (swept_stage (given_up_stage t failed-left)) settling (target t) number 1 None None can (λ tell r. absurd (untold (tell x.store))) findable alike failed-served
         (fit-swept state can.rules can.simple (given_up_stage t failed-left) (fit-given_up state can.rules can.simple failed-left failed-fits t few-of)) (omega arith) refl tells
@@ -192,8 +192,8 @@ module _ {S C : Type 0} (durable : S → Option Durable) (state : S → State) (
   pub reopening-goes : TargetReopened durable state may t a b → GoesOn durable state may is_read (λ r. TurnOf settling r (target t) number) a b
   reopening-goes k = by k.ends
     where
-      tells : (r : Rules) → TellInTurn r a → TellInTurn r b
-      tells r = target-tells durable state may r a b t is_read settling number (Reopened k)
+      tells : (r : Rules) → TellsOn r a b
+      tells r = target-tells-on durable state may r a b t is_read settling number (Reopened k)
 
       by : OpeningEnds durable state may t k.was.before k.was.now (record a { targets = slice_set a.targets t k.was.now; watch = opening_tried a.watch }) b k.was.result → GoesOn durable state may is_read (λ r. TurnOf settling r (target t) number) a b
       by (Opened did is after) =
@@ -202,7 +202,7 @@ module _ {S C : Type 0} (durable : S → Option Durable) (state : S → State) (
           (opened-goes durable state may is_read findable alike a can t k.was.before k.was.now k.was.place k.was.few k.was.plan k.was.clock did after.armed
           (subst (λ q. Reopens q (state k.was.before.store) (state k.was.now.store) (durable k.was.before.store) (durable k.was.now.store)) is k.was.opens)
           (λ d told. subst (λ q. IfOk q (OpensAs k.was.before.plan a.watch.restarts (may k.was.before.store) (durable k.was.now.store) (state k.was.now.store) k.was.now.memory)) is (k.was.turn d told))
-          (subst (λ q. IfOk q (λ e. posted.Follows k.was.before.plan.targets k.was.now.memory.leader e.posts)) is k.was.posts) (k.was.opened ∙ ap is_ok is) after.fuse settling number (λ r told. subst (TellInTurn r) (sym same) (tells r told)))
+          (subst (λ q. IfOk q (λ e. posted.Follows k.was.before.plan.targets k.was.now.memory.leader e.posts)) is k.was.posts) (k.was.opened ∙ ap is_ok is) after.fuse settling number (λ r. subst (TellsOn r a) (sym same) (tells r)))
       by (NotOpened why is after) = ends after
         where
           opens : Reopens {T = Did} (Err why) (state k.was.before.store) (state k.was.now.store) (durable k.was.before.store) (durable k.was.now.store)
@@ -212,4 +212,4 @@ module _ {S C : Type 0} (durable : S → Option Durable) (state : S → State) (
           ends (ByStop issued lines same stopped) = failed-goes durable state may is_read findable alike a can t k.was.before k.was.now k.was.place k.was.few k.was.plan k.was.clock why opens settling number b k.was.left stopped tells
           ends (ByForeign at byte same given_up) =
               subst (λ s. GoesOn durable state may is_read (λ r. TurnOf settling r (target t) number) a s) (sym given_up)
-              (foreign-goes durable state may is_read findable alike a can t k.was.before k.was.now k.was.place k.was.few k.was.plan k.was.clock why opens settling number (λ some. ap (says stop_foreign) (sym is) ∙ k.was.native some) (ap stop_foreign same) (λ r told. subst (TellInTurn r) given_up (tells r told)))
+              (foreign-goes durable state may is_read findable alike a can t k.was.before k.was.now k.was.place k.was.few k.was.plan k.was.clock why opens settling number (λ some. ap (says stop_foreign) (sym is) ∙ k.was.native some) (ap stop_foreign same) (λ r. subst (TellsOn r a) given_up (tells r)))

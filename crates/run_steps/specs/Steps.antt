@@ -4,8 +4,8 @@ use Rattle.std.proofs.Common.{sym, ◌∙◌, ap, subst, arith}
 use Rattle.daos_model.specs.declared.durable.Durable.{Durable}
 use Rattle.run_shows.specs.CanGo.{CanGo, CanTurn}
 use Rattle.run_shows.specs.Going.{AreAlike, AreFindable, found-with, some-found}
-use Rattle.run_shows.specs.InTurn.{TellInTurn}
-use Rattle.run_shows.specs.InTurnLaws.{client-tells, target-tells}
+use Rattle.run_shows.specs.Kinds.{TellsOn}
+use Rattle.run_shows.specs.KindsLaws.{client-tells-on, target-tells-on}
 use Rattle.run_shows.specs.Parts.{target-there}
 use Rattle.run_shows.specs.Reopening.{choosing, chosen}
 use Rattle.run_shows.specs.Serving.{served-by-runs}
@@ -36,8 +36,8 @@ module _ {S C : Type 0} (durable : S → Option Durable) (state : S → State) (
     pub client-turn-goes : (n number : ℕ) → ClientTurned n number a b → (settling : Bool) → GoesOn durable state may is_read (λ r. TurnOf settling r (client n) number) a b
     client-turn-goes n number k settling = subst (λ s. GoesOn durable state may is_read (λ r. TurnOf settling r (client n) number) a s) (sym k.after) (by k.works)
       where
-        tells : (r : Rules) → TellInTurn r a → TellInTurn r (swept_stage (with_between (followed (client n) k.did k.left) (with_client_at n k.now a)))
-        tells r told = subst (TellInTurn r) k.after (client-tells r n number a b k told)
+        tells : (r : Rules) → TellsOn r a (swept_stage (with_between (followed (client n) k.did k.left) (with_client_at n k.now a)))
+        tells r = subst (TellsOn r a) k.after (client-tells-on r n number a b k)
 
         by : ClientWorks n number k.before k.now a.between k.left k.did → GoesOn durable state may is_read (λ r. TurnOf settling r (client n) number) a (swept_stage (with_between (followed (client n) k.did k.left) (with_client_at n k.now a)))
         by (HeardOne l rest awake picked left turn) =
@@ -49,8 +49,8 @@ module _ {S C : Type 0} (durable : S → Option Durable) (state : S → State) (
       pub worked-goes : TargetWorked durable state may is_read settling t number a b → GoesOn durable state may is_read (λ r. TurnOf settling r (target t) number) a b
       worked-goes k = by k.ends
         where
-          tells : (r : Rules) → TellInTurn r a → TellInTurn r b
-          tells r = target-tells durable state may r a b t is_read settling number (Worked k)
+          tells : (r : Rules) → TellsOn r a b
+          tells r = target-tells-on durable state may r a b t is_read settling number (Worked k)
 
           by : WorkEnds durable state may t k.work.before k.work.now k.work.left a b k.work.result → GoesOn durable state may is_read (λ r. TurnOf settling r (target t) number) a b
           by (Whole did is after) =
@@ -58,7 +58,7 @@ module _ {S C : Type 0} (durable : S → Option Durable) (state : S → State) (
               (whole-done durable state may is_read findable alike a can t k.work.before k.work.now k.work.place k.work.plan (served-by-runs stop_store k.work.result (state k.work.before.store) (state k.work.now.store) (durable k.work.before.store) (durable k.work.now.store) k.work.runs) k.work.clock did k.work.left k.work.opened
               (subst (λ q. Runs stop_store q (state k.work.before.store) (state k.work.now.store) (durable k.work.before.store) (durable k.work.now.store)) is k.work.runs)
               (subst (λ q. IfOk q (λ d. PostsInForm k.work.before.plan.targets k.work.before.memory.leader k.work.now.memory.leader d.posts)) is k.work.posts) settling number (none-prunes durable state may a can t number)
-              (subst (IsTurned durable state may settling t number k.work.before k.work.now a.between k.work.left) is k.work.turned) (λ r told. subst (TellInTurn r) after (tells r told)))
+              (subst (IsTurned durable state may settling t number k.work.before k.work.now a.between k.work.left) is k.work.turned) (λ r. subst (TellsOn r a) after (tells r)))
           by (Cut why is after) =
               let cut = is ∙ ap Err after.cut in
               cut-done durable state may is_read findable alike a can t k.work.before k.work.now k.work.place k.work.plan (served-by-runs stop_store k.work.result (state k.work.before.store) (state k.work.now.store) (durable k.work.before.store) (durable k.work.now.store) k.work.runs) k.work.clock k.work.left after.issued after.lines k.work.runs.fuse

@@ -12,7 +12,7 @@ use Rattle.run_shows.specs.Accounts.{AreAccounted, AreServed, AtMostRises, IsAcc
 use Rattle.run_shows.specs.CanGo.{CanGo}
 use Rattle.run_shows.specs.Fitting.{Fits, can-go}
 use Rattle.run_shows.specs.Going.{AreAlike, AreFindable, going-on}
-use Rattle.run_shows.specs.InTurn.{TellInTurn}
+use Rattle.run_shows.specs.Kinds.{TellsOn}
 use Rattle.run_shows.specs.Parts.{IsTurnSo, at-both, leads-turn}
 use Rattle.run_shows.specs.Shows.{IsGoing, Leads}
 use Rattle.run_shows.specs.Stages.{StageNow}
@@ -115,7 +115,7 @@ module _ {S C : Type 0} (durable : S → Option Durable) (state : S → State) (
         more (inr z) = let few = z.0 in inr (omega (arith, few, told), z.1)
 
     -- what a turn of an actor leads to, and that the actors can go on, are accounted for, and have told in turn then
-    pub turn-done : Fits state can.rules b → a.watch.openings + raised ≤ b.watch.openings → length b.clients ≡ length a.clients → ((r : Rules) → TellInTurn r a → TellInTurn r b)
+    pub turn-done : Fits state can.rules b → a.watch.openings + raised ≤ b.watch.openings → length b.clients ≡ length a.clients → ((r : Rules) → TellsOn r a b)
         → ((t : ℕ) (x y : TargetOf S C) → slice_get a.targets t ≡ Some x → slice_get b.targets t ≡ Some y → is_some (durable x.store) ≡ true → Counts state a b stops downs t x y)
         → GoesOn durable state may is_read (λ r. TurnOf settling r actor number) a b
     turn-done fits up clients tells counts = record {
@@ -128,5 +128,5 @@ module _ {S C : Type 0} (durable : S → Option Durable) (state : S → State) (
       clients = clients;
       served = served;
       accounts = accounted counts;
-      in_turn = tells;
+      tells = tells;
     }

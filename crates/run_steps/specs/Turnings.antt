@@ -20,7 +20,7 @@ use Rattle.run_shows.specs.Clients.{client-goes, client-hears}
 use Rattle.run_shows.specs.Fitting.{Fits, few-numbers, fit-after_stop, fit-swept, fit-target, fits-of}
 use Rattle.run_shows.specs.Givings.{downs_after, fault-leads}
 use Rattle.run_shows.specs.Going.{AreAlike, AreFindable}
-use Rattle.run_shows.specs.InTurn.{TellInTurn}
+use Rattle.run_shows.specs.Kinds.{TellsOn}
 use Rattle.run_shows.specs.Leading.{NonePrunes, turn-leads}
 use Rattle.run_shows.specs.Lettered.{AllInForm, InForm, asked-lost, followed-form, lost-form}
 use Rattle.run_shows.specs.ListLaws.{get-set, length-set}
@@ -82,7 +82,7 @@ module _ {S C : Type 0} (durable : S → Option Durable) (state : S → State) (
           between = followed-form (target_plan can.rules) (client n) did left (record { messages = letters; asked = λ l i. f.between.asked l (subst (Has l) asked i) }) (λ q i. clients-send-letters (target_plan can.rules) n q (posts q i));
         })
 
-    client-done : (settling : Bool) (number : ℕ) → ((r : Rules) → Leads durable state may (IsTurnSo settling r (client n) number 0 None None) r a client-left) → InForm (target_plan can.rules) left.messages → ClientPosts (target_plan can.rules) did.posts → ((r : Rules) → TellInTurn r a → TellInTurn r client-left)
+    client-done : (settling : Bool) (number : ℕ) → ((r : Rules) → Leads durable state may (IsTurnSo settling r (client n) number 0 None None) r a client-left) → InForm (target_plan can.rules) left.messages → ClientPosts (target_plan can.rules) did.posts → ((r : Rules) → TellsOn r a client-left)
         → GoesOn durable state may is_read (λ r. TurnOf settling r (client n) number) a client-left
     client-done settling number leads letters posts tells =
         turn-done durable state may is_read a client-left settling (client n) number 0 None None can (λ tell. leads) findable alike (served-first durable state is_read a.targets) (client-fits letters posts) (omega arith) (length-set a.clients n d) tells
@@ -91,14 +91,14 @@ module _ {S C : Type 0} (durable : S → Option Durable) (state : S → State) (
         subst (Counts state a client-left None None t x) same (counts-none state a client-left None None t x refl (λ e. let no : ⊥ = cc in no) (omega arith) (λ m h. h)))
 
     -- it heard a message
-    pub client-heard-done : (settling : Bool) (number : ℕ) (l : Letter) (rest : List Letter) → c.state.skip ≡ 0 → IsPicked a.between.messages (client n) number l rest → left.messages ≡ rest → HearTurn c.plan c.state l.message did d.state → ((r : Rules) → TellInTurn r a → TellInTurn r client-left) → GoesOn durable state may is_read (λ r. TurnOf settling r (client n) number) a client-left
+    pub client-heard-done : (settling : Bool) (number : ℕ) (l : Letter) (rest : List Letter) → c.state.skip ≡ 0 → IsPicked a.between.messages (client n) number l rest → left.messages ≡ rest → HearTurn c.plan c.state l.message did d.state → ((r : Rules) → TellsOn r a client-left) → GoesOn durable state may is_read (λ r. TurnOf settling r (client n) number) a client-left
     client-heard-done settling number l rest awake picked messages turn tells =
         client-done settling number (λ r. client-hears durable state may r n c d a did left at plan asked issued lines settling number l rest awake picked messages turn)
         (λ m i. (fits-of durable state may a can).between.messages m (rest-among a.between.messages rest (client n) number l picked m (subst (Has m) messages i)))
         (hearers-post-in-form can.rules n c.state d.state l.message did (plain can.rules can.simple) (subst (λ p. HearTurn p c.state l.message did d.state) (can.plans n c at) turn)) tells
 
     -- it went on without one
-    pub client-went-done : (settling : Bool) (number : ℕ) → heard_awake c.state (count_to (client n) a.between.messages) ≡ 0 → left.messages ≡ a.between.messages → NextTurn c.plan c.state did d.state → ((r : Rules) → TellInTurn r a → TellInTurn r client-left) → GoesOn durable state may is_read (λ r. TurnOf settling r (client n) number) a client-left
+    pub client-went-done : (settling : Bool) (number : ℕ) → heard_awake c.state (count_to (client n) a.between.messages) ≡ 0 → left.messages ≡ a.between.messages → NextTurn c.plan c.state did d.state → ((r : Rules) → TellsOn r a client-left) → GoesOn durable state may is_read (λ r. TurnOf settling r (client n) number) a client-left
     client-went-done settling number none messages turn tells =
         client-done settling number (λ r. client-goes durable state may r n c d a did left at plan asked issued lines settling number none messages turn) (λ m i. (fits-of durable state may a can).between.messages m (subst (Has m) messages i))
         (clients-post-in-form can.rules n c.state d.state did (plain can.rules can.simple) (subst (λ p. NextTurn p c.state did d.state) (can.plans n c at) turn)) tells
@@ -197,7 +197,7 @@ module _ {S C : Type 0} (durable : S → Option Durable) (state : S → State) (
         (followed-form (target_plan can.rules) (target t) did left letters
         (λ q i. targets-send-letters (target_plan can.rules) can.rules.script.targets t q (λ u. refl) (subst (λ n. TargetPosts n did.posts) (ap (λ p. p.targets) (can.made t x place.there)) sent.form q i))))
 
-    pub whole-done : (settling : Bool) (number : ℕ) → NonePrunes a.between t number → IsTurned durable state may settling t number x y a.between left (Ok did) → ((r : Rules) → TellInTurn r a → TellInTurn r target-left) → GoesOn durable state may is_read (λ r. TurnOf settling r (target t) number) a target-left
+    pub whole-done : (settling : Bool) (number : ℕ) → NonePrunes a.between t number → IsTurned durable state may settling t number x y a.between left (Ok did) → ((r : Rules) → TellsOn r a target-left) → GoesOn durable state may is_read (λ r. TurnOf settling r (target t) number) a target-left
     whole-done settling number no_prunes turned tells =
         turn-done durable state may is_read a target-left settling (target t) number 0 None None can
         (λ tell r. turn-leads durable state r t x y a did place plan opened runs.opening runs.stops may settling number left no_prunes turned) findable alike (served-one durable state is_read a.targets t x y place.there served read) (target-fits (left-form left (turned-left settling number left (Ok did) turned))) (omega arith) refl tells
@@ -239,7 +239,7 @@ module _ {S C : Type 0} (durable : S → Option Durable) (state : S → State) (
         let set' : one_if (state x.store).fused ≡ 1 = ap one_if z.1 in
         inl (omega (arith, one, none, set'))
 
-    pub cut-done : (settling : Bool) (number : ℕ) → NonePrunes a.between t number → IsTurned durable state may settling t number x y a.between left (Err (stop.Store issued lines)) → AfterStop t (state x.store).faults (state y.store).faults cut-left c → ((r : Rules) → TellInTurn r a → TellInTurn r c)
+    pub cut-done : (settling : Bool) (number : ℕ) → NonePrunes a.between t number → IsTurned durable state may settling t number x y a.between left (Err (stop.Store issued lines)) → AfterStop t (state x.store).faults (state y.store).faults cut-left c → ((r : Rules) → TellsOn r a c)
         → GoesOn durable state may is_read (λ r. TurnOf settling r (target t) number) a c
     cut-done settling number no_prunes turned after tells =
         turn-done durable state may is_read a c settling (target t) number 0 (Some t) downs can

@@ -21,6 +21,9 @@ use Rattle.run_ends.specs.Keeping.{all-tell, breaks-off}
 use Rattle.run_ends.specs.Ending.{comes-to}
 use Rattle.run_ends.specs.Starts.{AllTell, HaveStarted, given_by, stores_of}
 use Rattle.run_ends.specs.Reports.{AreTyped}
+use Rattle.run_shows.specs.Kinds.{AnswersGoOn}
+use Rattle.run_shows.specs.KindsLaws.{answers-first}
+use Rattle.run_targets.proofs.Telling.{first, told-first}
 use Rattle.run_shows.specs.Accounts.{AreAccounted, AreServed}
 use Rattle.run_shows.specs.CanGo.{CanGo}
 use Rattle.run_shows.specs.Going.{AreAlike, AreFindable, AreSteady}
@@ -107,6 +110,12 @@ module _ {S C Z : Type 0} (durable : S → Option Durable) (state : S → State)
 
     begins : HaveStarted durable state g cs armed
     begins = fuses-started durable state may v.items armed fuses.fuses g cs started
+
+    -- nothing was told of clients before their first turns, and nothing goes about of their reads
+    pub answers-begin : AnswersGoOn (rules_of g) stage
+    answers-begin =
+        answers-first (rules_of g) stage (told-first durable state g stage v.items started none) (λ n c at. (first durable state g stage v.items started n c at).2)
+        (λ t y at. (begins.each t y (ap (λ zs. slice_get zs t) (sym put) ∙ at)).waits) messages none
 
     pub goes : AreAlike durable → CanGo durable state may stage
     goes alike = subst (CanGo durable state may) (sym stage-is) (can-go durable state g cs armed begins may now is-first alike)

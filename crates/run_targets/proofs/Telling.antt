@@ -3,6 +3,7 @@ use Rattle.std.specs.Prelude.{ℕ, ◌≡◌, List, [], length, slice_get, Optio
 use Rattle.std.proofs.Common.{sym, ◌∙◌, ap, subst}
 use Rattle.base_types.specs.declared.report.Line.{Line}
 use Rattle.base_types.specs.declared.report.Report.{Report}
+use Rattle.base_types.specs.declared.script.Script.{Script}
 use Rattle.client_core.specs.Clients.{ClientNow}
 use Rattle.daos_model.specs.FormLaws.{length-map}
 use Rattle.daos_model.specs.Opening.{Given}
@@ -18,10 +19,11 @@ use Rattle.run_shows.specs.Stages.{StageNow}
 use Rattle.target_core.specs.Targets.{TargetOf}
 use Rattle.vos_store.specs.Calls.{State}
 use Rattle.world_ends.specs.Ends.{rules_of}
+use Rattle.world_kinds.specs.Fitting.{AllAnswersFit}
 use Rattle.world_whole.specs.Begins.{first_client}
 
 module _ {S C : Type 0} (durable : S → Option Durable) (state : S → State) (g : Given) (a : StageNow S C) (xs : List (TargetOf S C)) (started : HaveStarted durable state g a.clients xs) where
-  first : (n : ℕ) (c : ClientNow) → slice_get a.clients n ≡ Some c → (c.state.place ≡ 0) × (c.state.command ≡ 0) × (c.state.present ≡ None)
+  pub first : (n : ℕ) (c : ClientNow) → slice_get a.clients n ≡ Some c → (c.state.place ≡ 0) × (c.state.command ≡ 0) × (c.state.present ≡ None)
   first n c at =
       let x = from-map (first_client g.script g.opening) g.script.clients n c.state (ap (λ cs. slice_get cs n) (sym started.those.states) ∙ map-get state_of a.clients n c at) in
       (ap (λ z. z.place) x.is, ap (λ z. z.command) x.is, ap (λ z. z.present) x.is)
@@ -35,3 +37,7 @@ module _ {S C : Type 0} (durable : S → Option Durable) (state : S → State) (
   pub told-last : {E : Type 0} (ran : Result (List Line) E) (lines : List Line) (report : Report) → a.between.lines ≡ [] → (TellInTurn (rules_of g) a → IfOk ran (AllBeginInTurn g.job.attempts g.script)) → ran ≡ Ok lines → report ≡ report_with g.script lines
       → AllBeginInTurn g.job.attempts g.script report.lines
   told-last ran lines report none all is same = subst (λ q. AllBeginInTurn g.job.attempts g.script q.lines) (sym same) (subst (λ q. IfOk q (AllBeginInTurn g.job.attempts g.script)) is (all (told-first none)))
+
+-- what a run's lines tell its report tells
+pub kinds-last : {E : Type 0} (s : Script) (ran : Result (List Line) E) (lines : List Line) (report : Report) → IfOk ran (AllAnswersFit s) → ran ≡ Ok lines → report ≡ report_with s lines → AllAnswersFit s report.lines
+kinds-last s ran lines report all is same = subst (λ q. AllAnswersFit s q.lines) (sym same) (subst (λ q. IfOk q (AllAnswersFit s)) is all)

@@ -5,6 +5,7 @@ ghost use Rattle.run_ends.specs.Comes.{BreaksOffSo, ComesTo, IsReportOfLines};
 ghost use Rattle.run_ends.specs.Starts.{AllTell, HaveStarted, given_by, stores_of};
 ghost use Rattle.run_shows.specs.Accounts.{AreServed};
 ghost use Rattle.run_shows.specs.InTurn.{AllBeginInTurn};
+ghost use Rattle.world_kinds.specs.Fitting.{AllAnswersFit};
 ghost use Rattle.target_core.specs.Targets.{TargetOf};
 
 use crate::fuses::{arm, disarm};
@@ -51,6 +52,7 @@ pub fn run_targets<R: Wait, S: Fuse, C: Clock, G: Gate>(
         → IfErr result.1 (λ error. BreaksOffSo S.durable S.may (given_by script.now job.now o) (stores_of targets.items) (stores_of result.0.items)) }
     ensures told { IfOk result.1 (IsReportOfLines script.now) }
     ensures in_turn { IfOk result.1 (λ report. AllBeginInTurn job.now.attempts script.now report.lines) }
+    ensures kinds { IfOk result.1 (λ report. AllAnswersFit script.now report.lines) }
     ensures served { AreServed S.durable S.state C.is_read targets.items result.0.items }
     ensures unfused { (t : ℕ) (y : TargetOf S C) → slice_get result.0.items t ≡ Some y → (S.state y.store).tells_fuse ≡ true → (S.state y.store).fused ≡ false }
 {

@@ -1,5 +1,7 @@
 // A target of a run.
-ghost use Rattle.std.specs.Prelude.{◌≡◌, ◌≤◌, ◌<◌, ◌+◌, ◌^◌, ℕ, [], IfOk, IfErr, IfSome, IsSome, Some, is_ok, true, false};
+ghost use Rattle.std.specs.Prelude.{◌≡◌, ◌≤◌, ◌<◌, ◌+◌, ◌^◌, ℕ, [], IfOk, IfErr, IfSome, IsSome, Some, is_ok, true, false, ◌∷◌};
+ghost use Rattle.world_kinds.specs.PostLaws.{CarryNone};
+ghost use Rattle.world_kinds.specs.Loads.{AnswersOnce};
 ghost use Rattle.std.specs.Option.{ForSome};
 ghost use Rattle.daos_model.specs.declared.durable.Durable.{Durable};
 ghost use Rattle.dtx_base.specs.Leading.{first_memory};
@@ -146,6 +148,7 @@ impl<S: Store, C: Clock> Target<S, C> {
         ensures clock { IsReadUpTo C.is_read (most_readings (has_epoch message)) self.old.clock self.new.clock }
         ensures unread { has_epoch message ≡ true → self.new.clock ≡ self.old.clock }
         ensures posts { is_of_client message ≡ from.client → IfOk result (λ did. PostsInForm self.old.plan.targets self.old.memory.leader self.new.memory.leader did.posts) }
+        ensures reads { IfOk result (λ did. AnswersOnce (message ∷ []) self.old.memory.member self.new.memory.member did.posts) }
     {
         let _number = number;
         let Target {
@@ -178,6 +181,7 @@ impl<S: Store, C: Clock> Target<S, C> {
         ensures native { says stop_foreign result ≡ false }
         ensures silent { IsSilent result }
         ensures posts { IfOk result (λ did. PostsInForm self.old.plan.targets self.old.memory.leader self.new.memory.leader did.posts) }
+        ensures reads { IfOk result (λ did. AnswersOnce [] self.old.memory.member self.new.memory.member did.posts) }
     {
         idle_work(
             self.alloc,
@@ -219,6 +223,8 @@ impl<S: Store, C: Clock> Target<S, C> {
         ensures bare { IfErr result IsBare }
         ensures native { IsSome (S.durable self.old.store) → says stop_foreign result ≡ false }
         ensures posts { IfOk result (λ did. Follows self.old.plan.targets self.new.memory.leader did.posts) }
+        ensures reads { IfOk result (λ did. CarryNone did.posts) }
+        ensures fresh { is_ok result ≡ true → self.new.memory.member.parked ≡ [] }
         ensures line { IfOk result (TellsRestart number self.old.plan.me) }
         ensures opened { self.new.opened ≡ is_ok result }
     {

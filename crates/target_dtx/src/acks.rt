@@ -1,5 +1,6 @@
 // A leader hears what members answer.
 ghost use Rattle.std.specs.Prelude.{◌≡◌, ◌==◌, [], if◌then◌else◌, IfOk, OnOk, Some, true, false};
+ghost use Rattle.world_kinds.specs.Loads.{AnswersOnce};
 ghost use Rattle.std.specs.Option.{ForSome};
 ghost use Rattle.base_types.specs.declared.entry.Settle.TheVariants as step;
 ghost use Rattle.daos_model.specs.declared.durable.Durable.{Durable};
@@ -113,6 +114,7 @@ pub fn hear_ack<S: Store>(
         (λ did l. Whole (ack.AckNext plan (memory_of knows.old) member attempt inc refusal.now) (ack.AckEnds (memory_of knows.old)) ack.AckStage.Heard (kept d (S.state store.old)) l (memory_of knows.new, did))
         (S.durable store.new) (S.state store.new) (S.may store.new) result }
     ensures posts { IfOk result (λ did. PostsInForm plan.targets knows.old.leader knows.new.leader did.posts) }
+    ensures reads { IfOk result (λ did. AnswersOnce [] knows.old.member.memory knows.new.member.memory did.posts) }
     ensures target { IsTarget plan (S.state store.new) (S.durable store.new) knows.new }
     ensures stopped { TurnRuns result (S.state store.old) (S.state store.new) (S.durable store.old) (S.durable store.new) }
 {
@@ -203,6 +205,7 @@ pub fn hear_marked<S: Store>(
         (λ did l. Whole (ack.MarkedNext plan (memory_of knows.old) member) (ack.MarkedEnds plan (memory_of knows.old) member inc attempts.now) (ack.to_confirm inc attempts.now d) (kept d (S.state store.old)) l (memory_of knows.new, did))
         (S.durable store.new) (S.state store.new) (S.may store.new) result }
     ensures posts { IfOk result (λ did. PostsInForm plan.targets knows.old.leader knows.new.leader did.posts) }
+    ensures reads { IfOk result (λ did. AnswersOnce [] knows.old.member.memory knows.new.member.memory did.posts) }
     ensures target { IsTarget plan (S.state store.new) (S.durable store.new) knows.new }
     ensures stopped { TurnRuns result (S.state store.old) (S.state store.new) (S.durable store.old) (S.durable store.new) }
 {

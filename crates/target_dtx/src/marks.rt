@@ -1,5 +1,6 @@
 // A target hears a Mark.
-ghost use Rattle.std.specs.Prelude.{◌≡◌, IfOk, OnOk, Some, false};
+ghost use Rattle.std.specs.Prelude.{◌≡◌, IfOk, OnOk, Some, false, []};
+ghost use Rattle.world_kinds.specs.Loads.{AnswersOnce};
 ghost use Rattle.std.specs.Option.{ForSome};
 ghost use Rattle.daos_model.specs.declared.durable.Durable.{Durable};
 ghost use Rattle.dtx_base.specs.Leading.{attempts_of};
@@ -86,6 +87,7 @@ pub fn hear_mark<S: Store>(
         (λ did l. Whole (MarkNext is_prepared) (MarkEnds (told_of_all (attempts_of marks.now) (memory_of knows.old)) from inc marks.now) marks.now (kept d (S.state store.old)) l (memory_of knows.new, did))
         (S.durable store.new) (S.state store.new) (S.may store.new) result }
     ensures posts { from.client ≡ false → IfOk result (λ did. PostsInForm plan.targets knows.old.leader knows.new.leader did.posts) }
+    ensures reads { IfOk result (λ did. AnswersOnce [] knows.old.member.memory knows.new.member.memory did.posts) }
     ensures target { IsTarget plan (S.state store.new) (S.durable store.new) knows.new }
     ensures stopped { TurnRuns result (S.state store.old) (S.state store.new) (S.durable store.old) (S.durable store.new) }
 {

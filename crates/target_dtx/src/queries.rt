@@ -1,5 +1,6 @@
 // A leader hears a Query.
 ghost use Rattle.std.specs.Prelude.{◌≡◌, IfOk, Some, false};
+ghost use Rattle.world_kinds.specs.PostLaws.{CarryNone};
 ghost use Rattle.daos_model.specs.declared.durable.Durable.{Durable};
 ghost use Rattle.vos_store.specs.Refusals.{says};
 ghost use Rattle.world_base.specs.Turns.{Whole};
@@ -46,6 +47,7 @@ pub fn hear_query<S: Store>(
     ensures native { says stop_foreign result ≡ false }
     ensures silent { IsSilent result }
     ensures posts { from.client ≡ false → IfOk result (λ did. TargetPosts plan.targets did.posts) }
+    ensures reads { IfOk result (λ did. CarryNone did.posts) }
 {
     let seat = seat_of(plan, store);
     let verdict = knows.leader.answer_query(seat, &knows.entries, attempt);

@@ -1,5 +1,6 @@
 // A target opens again.
-ghost use Rattle.std.specs.Prelude.{◌≡◌, ◌≤◌, ◌<◌, ◌+◌, ◌^◌, ◌⊎◌, IfOk, IfErr, IsSome, Some, false};
+ghost use Rattle.std.specs.Prelude.{◌≡◌, ◌≤◌, ◌<◌, ◌+◌, ◌^◌, ◌⊎◌, IfOk, IfErr, IsSome, Some, false, []};
+ghost use Rattle.world_kinds.specs.PostLaws.{CarryNone};
 ghost use Rattle.std.specs.Option.{ForSome};
 ghost use Rattle.base_types.specs.Epochs.{restart_floor};
 ghost use Rattle.base_types.specs.declared.outcome.FloorWhy.{FloorWhy};
@@ -96,6 +97,8 @@ pub fn restart<S: Store>(
     ensures bare { IfErr result IsBare }
     ensures native { IsSome (S.durable store.old) → says stop_foreign result ≡ false }
     ensures posts { IfOk result (λ o. Follows plan.targets o.knows.leader o.did.posts) }
+    ensures reads { IfOk result (λ o. CarryNone o.did.posts) }
+    ensures fresh { IfOk result (λ o. o.knows.member.memory.parked ≡ []) }
     ensures line { IfOk result (λ o. TellsRestart number plan.me o.did) }
     ensures target { IfOk result (λ o. IsTarget plan (S.state store.new) (S.durable store.new) o.knows) }
 {

@@ -1,5 +1,7 @@
 // A target hears a Status, and a leader what members answer to it.
-ghost use Rattle.std.specs.Prelude.{◌≡◌, IfOk, Some, false};
+ghost use Rattle.std.specs.Prelude.{◌≡◌, IfOk, Some, false, []};
+ghost use Rattle.world_kinds.specs.PostLaws.{CarryNone};
+ghost use Rattle.world_kinds.specs.Loads.{AnswersOnce};
 ghost use Rattle.daos_model.specs.declared.durable.Durable.{Durable};
 ghost use Rattle.vos_store.specs.Refusals.{says};
 ghost use Rattle.world_base.specs.Acks as ack;
@@ -50,6 +52,7 @@ pub fn hear_status<S: Store>(
     ensures native { says stop_foreign result ≡ false }
     ensures silent { IsSilent result }
     ensures posts { from.client ≡ false → IfOk result (λ did. TargetPosts plan.targets did.posts) }
+    ensures reads { IfOk result (λ did. CarryNone did.posts) }
 {
     let _plan = plan;
     let _store = store;
@@ -84,6 +87,7 @@ pub fn hear_status_is<S: Store>(
         (λ did l. Whole (ack.AckNext plan (memory_of knows.old) member attempt inc (status_refusal attempt state)) (ack.AckEnds (memory_of knows.old)) ack.AckStage.Heard (kept d (S.state store.old)) l (memory_of knows.new, did))
         (S.durable store.new) (S.state store.new) (S.may store.new) result }
     ensures posts { IfOk result (λ did. PostsInForm plan.targets knows.old.leader knows.new.leader did.posts) }
+    ensures reads { IfOk result (λ did. AnswersOnce [] knows.old.member.memory knows.new.member.memory did.posts) }
     ensures target { IsTarget plan (S.state store.new) (S.durable store.new) knows.new }
     ensures stopped { TurnRuns result (S.state store.old) (S.state store.new) (S.durable store.old) (S.durable store.new) }
 {

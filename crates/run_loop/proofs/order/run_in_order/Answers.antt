@@ -5,6 +5,7 @@ use Rattle.run_shows.specs.InTurn.{AllBeginInTurn}
 use Rattle.run_shows.specs.InTurnLaws.{all-begin}
 use Rattle.run_stage.specs.Now.{stage_now}
 use Rattle.run_steps.specs.Ended.{HasRunWith, can-reopen, has-run, left-accounted, left_of}
+use Rattle.world_kinds.specs.Fitting.{AllAnswersFit}
 use Rattle.run_loop.proofs.order.run_in_order.Goals as goal
 
 pub go-went-requires-clause-few_targets : goal.go-went-requires-clause-few_targets
@@ -25,7 +26,10 @@ returns-in-Ok-clause-accounts g c h stops k =
 pub returns-in-Ok-clause-in_turn : goal.returns-in-Ok-clause-in_turn
 returns-in-Ok-clause-in_turn g c r k =
     let last = stage_now c.go-went.new.stage in
-    subst (AllBeginInTurn r.attempts r.script) (sym c.into_lines-lines.ensures) (all-begin r last (c.in-Ok.ensures.goes.in_turn r k))
+    subst (AllBeginInTurn r.attempts r.script) (sym c.into_lines-lines.ensures) (all-begin r last ((c.in-Ok.ensures.goes.tells r).in_turn k))
+
+pub returns-in-Ok-clause-kinds : goal.returns-in-Ok-clause-kinds
+returns-in-Ok-clause-kinds g c r k = subst (AllAnswersFit r.script) (sym c.into_lines-lines.ensures) ((c.in-Ok.ensures.goes.tells r).answers k).lines
 
 pub returns-in-Ok-clause-reopens : goal.returns-in-Ok-clause-reopens
 returns-in-Ok-clause-reopens g c = can-reopen g.S.Store.durable g.S.Store.state g.S.Store.may g.met.S.Store.steady (stage_now c.go-went.new.stage) c.in-Ok.ensures.goes.going

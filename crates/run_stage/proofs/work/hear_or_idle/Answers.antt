@@ -1,5 +1,6 @@
-use Rattle.std.proofs.Common.{subst, sym}
+use Rattle.std.proofs.Common.{refl, subst, sym}
 use Rattle.run_base.specs.Letters.{IsPicked}
+use Rattle.run_shows.specs.KindsLaws.{heard-once, idle-once}
 use Rattle.run_shows.specs.Turned.{ByHearing}
 use Rattle.run_stage.proofs.Working.{only-messages}
 use Rattle.target_parts.specs.Readings.{IsReadOn, not-read_on}
@@ -33,3 +34,13 @@ returns-then-count_to-gt0-clause-posts g c =
 -- idle work doesn't read the clock
 pub returns-else-count_to-gt0-clause-clock : goal.returns-else-count_to-gt0-clause-clock
 returns-else-count_to-gt0-clause-clock g c = subst (IsReadOn g.C.Clock.is_read c.args.host.now.clock) (sym c.idle.ensures.clock) (not-read_on g.C.Clock.is_read c.args.host.now.clock)
+
+pub returns-then-count_to-gt0-clause-once : goal.returns-then-count_to-gt0-clause-once
+returns-then-count_to-gt0-clause-once g c =
+    let b = c.args.between.now in
+    let left = c.take-letter.new.self in
+    heard-once b left c.target_id-then-count_to-gt0.result c.args.number c.take-letter.result left.messages c.args.host.now.memory.member c.hear.new.self.memory.member c.hear.result c.take-letter.ensures.picked
+    (only-messages b left c.take-letter.ensures.asked c.take-letter.ensures.issued c.take-letter.ensures.lines) c.hear.ensures.reads
+
+pub returns-else-count_to-gt0-clause-once : goal.returns-else-count_to-gt0-clause-once
+returns-else-count_to-gt0-clause-once g c = idle-once c.args.between.now c.args.between.now c.args.host.now.memory.member c.idle.new.self.memory.member c.idle.result refl c.idle.ensures.reads

@@ -1,8 +1,9 @@
-use Rattle.std.proofs.Common.{◌≡◌, ◌∙◌, ◌<◌, ap, false, subst, sym}
+use Rattle.std.proofs.Common.{◌≡◌, ◌∙◌, ◌<◌, ap, false, subst, sym, [], refl}
 use Rattle.base_messages.specs.declared.message.Message.{Reset}
 use Rattle.target_parts.specs.Knowing.{memory_of}
 use Rattle.target_core.specs.Targets.{HasFormAfterStops, HearsOrStops, is_collecting}
 use Rattle.target_core.proofs.Heard.{hears-ask, hears-reset, hears-status, hears-status_is, reset-form}
+use Rattle.world_kinds.specs.TurnLaws.{turn-carries}
 use Rattle.target_core.proofs.after_stops.hear_after_stops.Goals as goal
 
 pub hear_reset-requires-clause-one : goal.hear_reset-requires-clause-one
@@ -36,3 +37,6 @@ returns-in-Reset-clause-turn g c d at reading =
     (g.S.Store.may c.args.store.now) (memory_of c.hear_reset.new.knows) c.hear_reset.result) (ap (Reset c.in-Reset.target c.in-Reset.down) same ∙ sym c.in-Reset.is)
     (hears-reset c.args.plan (memory_of c.args.knows.now) reading c.args.from d (g.S.Store.state c.args.store.now) _ _ _ _ c.in-Reset.target c.in-Reset.down c.get.result.now other c.hear_reset.result
     (c.hear_reset.ensures.turn d at))
+
+pub returns-in-Status-clause-reads : goal.returns-in-Status-clause-reads
+returns-in-Status-clause-reads g c = turn-carries c.hear_status.result [] c.args.knows.now.member.memory c.args.knows.now.member.memory refl c.hear_status.ensures.reads

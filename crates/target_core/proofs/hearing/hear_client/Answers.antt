@@ -1,7 +1,10 @@
-use Rattle.std.proofs.Common.{subst, sym}
+use Rattle.std.proofs.Common.{subst, sym, ◌∷◌, []}
 use Rattle.target_parts.specs.Knowing.{memory_of}
 use Rattle.target_core.specs.Targets.{CanHear, HearsOrStops}
 use Rattle.target_core.proofs.Heard.{hears-fetch}
+use Rattle.world_kinds.specs.TurnLaws.{turn-heard}
+use Rattle.std.specs.Prelude.{IfOk}
+use Rattle.world_kinds.specs.Loads.{AnswersOnce}
 use Rattle.target_core.proofs.hearing.hear_client.Goals as goal
 
 pub hear_fetch-requires-clause-enlisted : goal.hear_fetch-requires-clause-enlisted
@@ -29,3 +32,10 @@ returns-in-Commit-clause-turn g c = (
       subst (λ m. HearsOrStops c.args.plan (memory_of c.args.knows.now) c.hear_any_commit.ensures.turn.0 c.args.from m d (g.S.Store.state c.args.store.now) (g.S.Store.durable c.hear_any_commit.new.store) (g.S.Store.state c.hear_any_commit.new.store)
       (g.S.Store.may c.hear_any_commit.new.store) (memory_of c.hear_any_commit.new.knows) c.hear_any_commit.result) (sym c.in-Commit.is) (c.hear_any_commit.ensures.turn.2 d at),
 )
+
+pub returns-in-Fetch-clause-reads : goal.returns-in-Fetch-clause-reads
+returns-in-Fetch-clause-reads g c =
+    subst (λ m. IfOk c.hear_fetch.result (λ did. AnswersOnce (m ∷ []) c.args.knows.now.member.memory c.hear_fetch.new.knows.member.memory did.posts)) (sym c.in-Fetch.is) c.hear_fetch.ensures.reads
+
+pub returns-in-Commit-clause-reads : goal.returns-in-Commit-clause-reads
+returns-in-Commit-clause-reads g c = turn-heard c.hear_any_commit.result c.args.message c.args.knows.now.member.memory c.hear_any_commit.new.knows.member.memory c.hear_any_commit.ensures.reads

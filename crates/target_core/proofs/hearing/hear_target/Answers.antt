@@ -1,8 +1,9 @@
-use Rattle.std.proofs.Common.{◌∙◌, ap, subst, sym}
+use Rattle.std.proofs.Common.{◌∙◌, ap, subst, sym, refl, ◌∷◌, []}
 use Rattle.base_messages.specs.declared.message.Message.TheVariants.{Mark, Marked}
 use Rattle.target_parts.specs.Knowing.{memory_of}
 use Rattle.target_core.specs.Targets.{CanHear, HearsOrStops}
 use Rattle.target_core.proofs.Heard.{hears-ack, hears-mark, hears-marked, hears-prepare, hears-query, hears-verdict}
+use Rattle.world_kinds.specs.TurnLaws.{turn-carries, turn-heard}
 use Rattle.target_core.proofs.hearing.hear_target.Goals as goal
 
 pub hear_prepare-requires-clause-here : goal.hear_prepare-requires-clause-here
@@ -49,3 +50,21 @@ returns-in-Verdict-clause-turn g c d at reading =
     (g.S.Store.may c.hear_verdict.new.store) (memory_of c.hear_verdict.new.knows) c.hear_verdict.result) (sym c.in-Verdict.is)
     (hears-verdict c.args.plan (memory_of c.args.knows.now) reading c.args.from d (g.S.Store.state c.args.store.now) _ _ _ _ c.in-Verdict.attempt c.in-Verdict.ask c.in-Verdict.inc c.in-Verdict.verdict c.hear_verdict.result
     (c.hear_verdict.ensures.turn d at reading))
+
+pub returns-in-Prepare-clause-reads : goal.returns-in-Prepare-clause-reads
+returns-in-Prepare-clause-reads g c = turn-heard c.hear_prepare.result c.args.message c.args.knows.now.member.memory c.hear_prepare.new.knows.member.memory (c.hear_prepare.ensures.reads)
+
+pub returns-in-Ack-clause-reads : goal.returns-in-Ack-clause-reads
+returns-in-Ack-clause-reads g c = turn-heard c.hear_ack.result c.args.message c.args.knows.now.member.memory c.hear_ack.new.knows.member.memory (c.hear_ack.ensures.reads)
+
+pub returns-in-Mark-clause-reads : goal.returns-in-Mark-clause-reads
+returns-in-Mark-clause-reads g c = turn-heard c.hear_mark.result c.args.message c.args.knows.now.member.memory c.hear_mark.new.knows.member.memory (c.hear_mark.ensures.reads)
+
+pub returns-in-Marked-clause-reads : goal.returns-in-Marked-clause-reads
+returns-in-Marked-clause-reads g c = turn-heard c.hear_marked.result c.args.message c.args.knows.now.member.memory c.hear_marked.new.knows.member.memory (c.hear_marked.ensures.reads)
+
+pub returns-in-Query-clause-reads : goal.returns-in-Query-clause-reads
+returns-in-Query-clause-reads g c = turn-carries c.hear_query.result (c.args.message ∷ []) c.args.knows.now.member.memory c.args.knows.now.member.memory refl c.hear_query.ensures.reads
+
+pub returns-in-Verdict-clause-reads : goal.returns-in-Verdict-clause-reads
+returns-in-Verdict-clause-reads g c = turn-heard c.hear_verdict.result c.args.message c.args.knows.now.member.memory c.hear_verdict.new.knows.member.memory (c.hear_verdict.ensures.reads)

@@ -1,4 +1,4 @@
-use Rattle.std.proofs.Common.{◌≡◌, ◌∙◌, Err, ap, refl, rules, subst, sym}
+use Rattle.std.proofs.Common.{◌≡◌, ◌∙◌, Err, ap, refl, rules, subst, sym, []}
 use Rattle.world_base.specs.Acks.{AckEnds, AckNext, Heard, is_refusing}
 use Rattle.world_base.specs.Roles.{leads_on}
 use Rattle.world_base.specs.Turns.{Whole}
@@ -15,6 +15,8 @@ use Rattle.dtx_base.specs.Leading.{ack_heard}
 use Rattle.dtx_table.specs.Seats.{leader_of}
 use Rattle.world_posts.specs.Posting.{acks-post-in-form, posted-by}
 use Rattle.vos_store.specs.Refusals.{always_stop}
+use Rattle.world_kinds.specs.TurnLaws.{sent-by, unread-answers}
+use Rattle.world_kinds.specs.PostLaws.{acks-carry}
 use Rattle.target_dtx.proofs.acks.hear_ack.Goals as goal
 
 pub returns-in_err-posts-clause-turn : goal.returns-in_err-posts-clause-turn
@@ -86,3 +88,10 @@ returns-in-Ok-clause-posts g c =
     let leader = leader_of c.seat_of-seat.result c.deref-2.result.now c.args.knows.now.leader in
     posted-by c.args.plan.targets (ack_heard c.args.member c.args.attempt c.args.inc c.args.refusal.now leader) c.args.knows.now.leader c.hear_ack.new.self c.abort_if.new.knows.leader c.in_ok-posts.posts c.sends.result.posts
     (acks-post-in-form c.args.plan.targets c.args.member c.args.attempt c.args.inc c.args.refusal.now leader) c.in_ok-posts.ensures.ok c.in-Ok.ensures.leader (ap (λ did. did.posts) c.sends.ensures)
+
+pub returns-in-Ok-clause-reads : goal.returns-in-Ok-clause-reads
+returns-in-Ok-clause-reads g c =
+    let leader = leader_of c.seat_of-seat.result c.deref-2.result.now c.args.knows.now.leader in
+    unread-answers [] c.args.knows.now.member.memory c.abort_if.new.knows.member.memory c.sends.result.posts (ap (λ m. m.memory.parked) c.in-Ok.ensures.keeps.beside.member)
+    (sent-by (ack_heard c.args.member c.args.attempt c.args.inc c.args.refusal.now leader) c.hear_ack.new.self c.in_ok-posts.posts c.sends.result.posts (acks-carry c.args.member c.args.attempt c.args.inc c.args.refusal.now leader)
+    c.in_ok-posts.ensures.ok (ap (λ did. did.posts) c.sends.ensures))

@@ -14,6 +14,8 @@ use Rattle.target_dtx.proofs.Confirming.{confirms-done, leads-marked}
 use Rattle.world_posts.specs.Forms.{TargetPosts}
 use Rattle.world_posts.specs.Posting.{none-posted, waits-on}
 use Rattle.vos_store.specs.Refusals.{always_stop}
+use Rattle.world_kinds.specs.TurnLaws.{unread-answers}
+use Rattle.world_kinds.specs.PostLaws.{CarryNone, none-carried}
 use Rattle.target_dtx.proofs.acks.hear_marked.Goals as goal
 
 pub returns-in_err-hear_marked-clause-turn : goal.returns-in_err-hear_marked-clause-turn
@@ -51,3 +53,7 @@ pub returns-in-Ok-clause-posts : goal.returns-in-Ok-clause-posts
 returns-in-Ok-clause-posts g c =
     waits-on c.args.plan.targets c.args.knows.now.leader c.confirm_all.new.knows.leader c.sends.result.posts (ap (λ m. m.undecided) (c.in-Ok.ensures.leader ∙ c.in_ok-hear_marked.ensures.ok))
     (subst (TargetPosts c.args.plan.targets) (sym (ap (λ did. did.posts) c.sends.ensures ∙ c.new.ensures)) (none-posted c.args.plan.targets))
+
+pub returns-in-Ok-clause-reads : goal.returns-in-Ok-clause-reads
+returns-in-Ok-clause-reads g c =
+    unread-answers [] c.args.knows.now.member.memory c.confirm_all.new.knows.member.memory c.sends.result.posts (ap (λ m. m.memory.parked) c.in-Ok.ensures.keeps.beside.member) (subst CarryNone (sym (ap (λ did. did.posts) c.sends.ensures ∙ c.new.ensures)) none-carried)

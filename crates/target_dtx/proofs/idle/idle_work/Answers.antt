@@ -1,4 +1,4 @@
-use Rattle.std.proofs.Common.{ap}
+use Rattle.std.proofs.Common.{ap, []}
 use Rattle.target_parts.specs.Knowing.{memory_of}
 use Rattle.target_parts.specs.KnowsLaws.{memory-beside}
 use Rattle.target_parts.specs.Parts.{kept}
@@ -6,6 +6,7 @@ use Rattle.target_parts.specs.Standing.{target-kept}
 use Rattle.target_dtx.proofs.Idling.{idles-told}
 use Rattle.target_dtx.proofs.Posting.{settled-posts}
 use Rattle.vos_store.specs.Refusals.{always_stop}
+use Rattle.world_kinds.specs.TurnLaws.{turn-on}
 use Rattle.target_dtx.proofs.idle.idle_work.Goals as goal
 
 pub returns-in-Err-clause-target : goal.returns-in-Err-clause-target
@@ -23,3 +24,6 @@ returns-clause-turn g c d at =
 pub returns-clause-posts : goal.returns-clause-posts
 returns-clause-posts g c =
     settled-posts c.args.plan.targets c.args.knows.now.leader c.settle_all.new.knows.leader c.tell.new.knows.leader c.tell.result (ap (λ m. m.undecided) c.in_default.ensures.leader) c.tell.ensures.posts
+
+pub returns-clause-reads : goal.returns-clause-reads
+returns-clause-reads g c = turn-on c.tell.result [] c.args.knows.now.member.memory c.settle_all.new.knows.member.memory c.tell.new.knows.member.memory (ap (λ m. m.memory.parked) c.in_default.ensures.keeps.beside.member) c.tell.ensures.reads

@@ -1,10 +1,13 @@
-use Rattle.std.proofs.Common.{◌∙◌, ap, refl, subst, sym}
+use Rattle.std.proofs.Common.{◌∙◌, ap, refl, subst, sym, []}
 use Rattle.dtx_base.specs.Leading.{batched}
 use Rattle.dtx_table.specs.Seats.{leader_of}
 use Rattle.target_dtx.proofs.Telling.{asks-leave, batch-named, leads-told, nothing-asked, own-told}
 use Rattle.world_posts.specs.Forms.{PostsInForm}
 use Rattle.world_posts.specs.Posting.{and-more, batches-post-in-form, posted-by}
 use Rattle.target_parts.specs.Standing.{target-known}
+use Rattle.world_kinds.specs.TurnLaws.{sent-by, unread-answers}
+use Rattle.world_kinds.specs.PostLaws.{CarryNone, batches-carry, both-carry}
+use Rattle.target_dtx.proofs.Posting.{asks-carry-none}
 use Rattle.target_dtx.proofs.idle.tell.Goals as goal
 
 pub returns-in_err-asks-clause-target : goal.returns-in_err-asks-clause-target
@@ -32,3 +35,12 @@ returns-clause-posts g c =
     (and-more c.args.plan.targets c.args.knows.now.leader c.batch.new.self c.in_ok-posts.posts c.in_ok-asks.asks
     (posted-by c.args.plan.targets (batched leader) c.args.knows.now.leader c.batch.new.self c.batch.new.self c.in_ok-posts.posts c.in_ok-posts.posts (batches-post-in-form c.args.plan.targets leader) c.in_ok-posts.ensures.ok refl refl)
     (c.in_ok-asks.ensures.posts c.args.plan.targets))
+
+pub returns-clause-reads : goal.returns-clause-reads
+returns-clause-reads g c =
+    let leader = leader_of c.seat_of-seat.result c.deref.result.now c.args.knows.now.leader in
+    unread-answers [] c.args.knows.now.member.memory c.inquiries.new.member.memory c.sends.result.posts (asks-leave c.args.settling c.deref-2.result.now c.args.knows.now.member c.inquiries.new.member _ c.in_ok-asks.ensures.asked).parked
+    (subst CarryNone (sym (ap (λ did. did.posts) c.sends.ensures ∙ c.in_ok-push_all.ensures))
+    (both-carry c.in_ok-posts.posts c.in_ok-asks.asks
+    (sent-by (batched leader) c.batch.new.self c.in_ok-posts.posts c.in_ok-posts.posts (batches-carry leader) c.in_ok-posts.ensures.ok refl)
+    (asks-carry-none c.args.settling c.deref-2.result.now c.args.knows.now.member c.inquiries.new.member c.in_ok-asks.asks c.in_ok-asks.ensures.asked)))

@@ -1,4 +1,4 @@
-use Rattle.std.proofs.Common.{◌≡◌, ◌∙◌, Err, None, ap, refl, rules, subst, sym}
+use Rattle.std.proofs.Common.{◌≡◌, ◌∙◌, Err, None, ap, refl, rules, subst, sym, [], Ok}
 use Rattle.base_messages.specs.declared.message.Message.TheVariants.{Marked}
 use Rattle.dtx_base.specs.Leading.{attempts_of}
 use Rattle.world_base.specs.declared.target.TargetMemory.{TargetMemory}
@@ -16,6 +16,8 @@ use Rattle.target_dtx.proofs.Marking.{marks-done}
 use Rattle.world_posts.specs.Forms.{TargetPosts}
 use Rattle.world_posts.specs.Posting.{one-posted, to-other}
 use Rattle.vos_store.specs.Refusals.{always_stop}
+use Rattle.world_kinds.specs.TurnLaws.{says-none, unread-answers}
+use Rattle.target_parts.specs.declared.stop.TargetStop.{TargetStop}
 use Rattle.target_dtx.proofs.marks.hear_mark.Goals as goal
 
 pub returns-in_err-attempts_of-clause-turn : goal.returns-in_err-attempts_of-clause-turn
@@ -50,3 +52,8 @@ returns-in-Ok-clause-posts g c target =
     fewer-wait c.args.plan.targets c.args.knows.now.leader c.settle_all.new.knows.leader c.in_ok-did.did.posts
     (told-fewer (attempts_of c.args.marks.now) (memory_of c.args.knows.now) c.settle_all.new.knows.leader (ap (λ (m : TargetMemory). m.leader) c.in-Ok.ensures.told))
     (subst (λ did. TargetPosts c.args.plan.targets did.posts) (sym c.in_ok-did.ensures.did) (one-posted c.args.plan.targets _ (to-other c.args.plan.targets c.args.from (Marked c.args.inc _) target tt)))
+
+pub returns-in-Ok-clause-reads : goal.returns-in-Ok-clause-reads
+returns-in-Ok-clause-reads g c =
+    unread-answers [] c.args.knows.now.member.memory c.settle_all.new.knows.member.memory c.in_ok-did.did.posts (ap (λ m. m.memory.parked) c.in-Ok.ensures.keeps.beside.member)
+    (says-none {E = TargetStop} (Ok c.in_ok-did.did) c.args.from (Marked c.args.inc _) None refl c.in_ok-did.ensures.did)

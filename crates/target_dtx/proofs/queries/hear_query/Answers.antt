@@ -1,4 +1,4 @@
-use Rattle.std.proofs.Common.{◌≡◌, ◌∙◌, None, ap, subst}
+use Rattle.std.proofs.Common.{◌≡◌, ◌∙◌, None, ap, subst, refl}
 use Rattle.std.specs.Prelude.{IfOk}
 use Rattle.base_messages.specs.declared.message.Message.{Message}
 use Rattle.base_messages.specs.declared.message.Message.TheVariants.{Verdict}
@@ -8,6 +8,7 @@ use Rattle.world_base.specs.Verdicts.{verdict_message}
 use Rattle.target_parts.specs.Knowing.{memory_of}
 use Rattle.target_parts.specs.KnowsLaws.{leader-known}
 use Rattle.target_dtx.proofs.Answering.{answers-so}
+use Rattle.world_kinds.specs.TurnLaws.{says-none}
 use Rattle.target_dtx.proofs.queries.hear_query.Goals as goal
 
 pub returns-clause-turn : goal.returns-clause-turn
@@ -19,3 +20,6 @@ returns-clause-turn g c d at =
     ∙ ap (λ v. Verdict c.args.attempt c.args.ask d.incarnation v) (c.answer_query-verdict.ensures ∙ ap (query_answer c.args.attempt) known) in
     answers-so c.args.plan (memory_of c.args.knows.now) c.args.from c.args.attempt c.args.ask d (g.S.Store.state c.args.store.now) (g.S.Store.durable c.args.store.now) (g.S.Store.may c.args.store.now) c.says.result at
     (subst (λ m. IfOk c.says.result (λ did. did ≡ says c.args.from m None)) message c.says.ensures.did) c.says.ensures.wanting
+
+pub returns-clause-reads : goal.returns-clause-reads
+returns-clause-reads g c = says-none c.says.result c.args.from (Verdict c.args.attempt c.args.ask c.seat_of-seat.result.incarnation c.answer_query-verdict.result) None refl c.says.ensures.did

@@ -1,4 +1,4 @@
-use Rattle.std.proofs.Common.{◌≡◌, ◌∙◌, Err, ap, refl, rules}
+use Rattle.std.proofs.Common.{◌≡◌, ◌∙◌, Err, ap, refl, rules, []}
 use Rattle.dtx_base.specs.Asking.{ask_heard}
 use Rattle.dtx_table.specs.Seats.{leader_of}
 use Rattle.world_base.specs.declared.did.Did.{Did}
@@ -12,6 +12,8 @@ use Rattle.target_parts.specs.Standing.{target-known}
 use Rattle.target_parts.specs.Stops.{stop_memory}
 use Rattle.target_resync.proofs.Asking.{ask-left, ask-posts, asked-rows}
 use Rattle.target_resync.proofs.Silent.{silent-done, silent-wanting}
+use Rattle.world_kinds.specs.TurnLaws.{sent-by, unread-answers}
+use Rattle.world_kinds.specs.PostLaws.{asks-carry}
 use Rattle.target_resync.proofs.asks.hear_ask.Goals as goal
 
 pub returns-in_err-posts-clause-turn : goal.returns-in_err-posts-clause-turn
@@ -46,3 +48,9 @@ returns-clause-target g c =
       heard = k.heard;
       asks = k.asks;
     })
+
+pub returns-clause-reads : goal.returns-clause-reads
+returns-clause-reads g c =
+    let leader = leader_of c.seat_of-seat.result c.deref.result.now c.args.knows.now.leader in
+    unread-answers [] c.args.knows.now.member.memory c.args.knows.now.member.memory c.sends.result.posts refl
+    (sent-by (ask_heard c.args.attempt c.args.from leader) c.hear_ask.new.self c.in_ok-posts.posts c.sends.result.posts (asks-carry c.args.attempt c.args.from leader) c.in_ok-posts.ensures.ok (ap (λ did. did.posts) c.sends.ensures))

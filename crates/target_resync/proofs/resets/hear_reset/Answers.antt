@@ -10,6 +10,9 @@ use Rattle.target_parts.specs.Standing.{target-known}
 use Rattle.target_parts.specs.Stops.{stop_memory}
 use Rattle.target_resync.proofs.Resetting.{freed-by, leads-reset, member-known, nothing-freed, own-reset, reset-left_so, reset-posts, rows-by}
 use Rattle.target_resync.proofs.Silent.{silent-done, silent-wanting}
+use Rattle.world_kinds.specs.TurnLaws.{reset-answers, sent-by}
+use Rattle.world_kinds.specs.PostLaws.{resets-carry}
+use Rattle.dtx_base.specs.Leading.{reset_heard}
 use Rattle.target_resync.proofs.resets.hear_reset.Goals as goal
 
 -- memory is wanting
@@ -76,3 +79,10 @@ pub returns-clause-posts : goal.returns-clause-posts
 returns-clause-posts g c =
     reset-posts c.args.plan.targets c.args.target c.args.down c.args.message.now (leader_of c.seat_of-seat.result c.deref.result.now c.args.knows.now.leader) c.hear_reset.new.self c.in_ok-posts.posts c.args.knows.now.member c.hear_reset-2.new.self
     c.in_ok-freed.freed c.push_all.new.posts c.sends.result.posts c.in_ok-posts.ensures.ok c.in_ok-freed.ensures.ok c.in_ok-push_all.ensures (ap (λ did. did.posts) c.sends.ensures)
+
+pub returns-clause-reads : goal.returns-clause-reads
+returns-clause-reads g c =
+    let leader = leader_of c.seat_of-seat.result c.deref.result.now c.args.knows.now.leader in
+    reset-answers c.args.down c.args.message.now c.args.knows.now.member c.hear_reset-2.new.self c.in_ok-freed.freed c.in_ok-posts.posts c.push_all.new.posts c.sends.result.posts c.in_ok-freed.ensures.ok
+    (sent-by (reset_heard c.args.target c.args.down c.args.message.now leader) c.hear_reset.new.self c.in_ok-posts.posts c.in_ok-posts.posts (resets-carry c.args.target c.args.down c.args.message.now leader) c.in_ok-posts.ensures.ok refl)
+    c.in_ok-push_all.ensures (ap (λ did. did.posts) c.sends.ensures)

@@ -1,4 +1,4 @@
-use Rattle.std.proofs.Common.{◌≡◌, ◌<◌, ◌^◌, ◌-◌, ◌∙◌, ap, filter, min, subst, sym, Some}
+use Rattle.std.proofs.Common.{◌≡◌, ◌<◌, ◌^◌, ◌-◌, ◌∙◌, ap, filter, min, subst, sym, Some, []}
 use Rattle.base_types.specs.Epochs.{restart_floor}
 use Rattle.daos_model.specs.declared.durable.Durable.{Durable}
 use Rattle.dtx_base.specs.Leading.{first_memory, is_led, is_open}
@@ -7,6 +7,7 @@ use Rattle.world_posts.specs.AfterStops.{openings-post-in-form}
 use Rattle.world_posts.specs.Forms.{Follows}
 use Rattle.target_parts.specs.Running.{told-before}
 use Rattle.target_resync.proofs.Opened.{did-first, heard-raised, leads-first, memory-first, opening-is, own-first, target-first}
+use Rattle.world_kinds.specs.PostLaws.{CarryNone, statuses-carry}
 use Rattle.target_resync.proofs.restarts.restart.Goals as goal
 
 pub returns-clause-opened : goal.returns-clause-opened
@@ -51,3 +52,10 @@ returns-clause-posts g c =
 
 pub returns-clause-line : goal.returns-clause-line
 returns-clause-line g c = (c.incarnation-incarnation.result, record { 0 = min (2 ^ 64 - 1) (restart_floor c.lease-lease.result) }, c.in_ok-did.ensures.lines, c.in_ok-did.ensures.issued)
+
+pub returns-clause-reads : goal.returns-clause-reads
+returns-clause-reads g c =
+    subst CarryNone (sym c.in_ok-did.ensures.posts) (statuses-carry c.incarnation-incarnation.result (filter is_open (filter (is_led c.args.plan.me) c.as_slice.result.now)))
+
+pub returns-clause-fresh : goal.returns-clause-fresh
+returns-clause-fresh g c = ap (λ m. m.memory.parked) c.in_ok-knows.ensures.member

@@ -1,4 +1,4 @@
-use Rattle.std.proofs.Common.{◌≡◌, ◌∙◌, List, None, ap}
+use Rattle.std.proofs.Common.{◌≡◌, ◌∙◌, List, None, ap, refl}
 use Rattle.base_types.specs.declared.entry.Entry.{Entry}
 use Rattle.base_types.specs.declared.entry.EntryState.{EntryState}
 use Rattle.base_messages.specs.declared.message.Message.TheVariants.{StatusIs}
@@ -10,6 +10,7 @@ use Rattle.world_base.specs.Requests.{says}
 use Rattle.world_base.specs.Statuses.{state_of, status_left}
 use Rattle.target_parts.specs.Knowing.{memory_of}
 use Rattle.target_resync.proofs.Silent.{silent-said}
+use Rattle.world_kinds.specs.TurnLaws.{says-none}
 use Rattle.target_resync.proofs.statuses.hear_status.Goals as goal
 
 pub returns-clause-turn : goal.returns-clause-turn
@@ -20,3 +21,6 @@ returns-clause-turn g c d at =
     silent-said (status_left (memory_of c.args.knows.now) c.args.from c.args.attempt c.args.inc) d (g.S.Store.state c.args.store.now) (g.S.Store.durable c.args.store.now) (g.S.Store.may c.args.store.now) (memory_of c.args.knows.now) at
     (says c.args.from (StatusIs c.args.attempt c.args.inc c.state_of.result) None) c.says.result c.says.ensures.did c.says.ensures.wanting
     (ap {A = EntryState} {B = TargetMemory × Did} (λ s. (memory_of c.args.knows.now, says c.args.from (StatusIs c.args.attempt c.args.inc s) None)) state)
+
+pub returns-clause-reads : goal.returns-clause-reads
+returns-clause-reads g c = says-none c.says.result c.args.from (StatusIs c.args.attempt c.args.inc c.state_of.result) None refl c.says.ensures.did

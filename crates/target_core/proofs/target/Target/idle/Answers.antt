@@ -1,10 +1,11 @@
-use Rattle.std.proofs.Common.{◌≡◌, Some, subst}
+use Rattle.std.proofs.Common.{◌≡◌, Some, subst, []}
 use Rattle.std.specs.Prelude.{IfOk}
 use Rattle.world_posts.specs.Forms.{PostsInForm}
 use Rattle.daos_model.specs.declared.durable.Durable.{Durable}
 use Rattle.target_parts.specs.Knowing.{memory_of}
 use Rattle.target_core.specs.Targets.{IdlesOrStops}
 use Rattle.target_core.proofs.Heard.{idles}
+use Rattle.world_kinds.specs.Loads.{AnswersOnce}
 use Rattle.target_core.proofs.target.Target.idle.Goals as goal
 
 pub returns-clause-turn : goal.returns-clause-turn
@@ -15,3 +16,6 @@ returns-clause-turn g c =
 
 pub returns-clause-posts : goal.returns-clause-posts
 returns-clause-posts g c = subst (λ x. IfOk c.idle_work.result (λ did. PostsInForm x.plan.targets x.memory.leader c.idle_work.new.knows.leader did.posts)) c.self.view_is c.idle_work.ensures.posts
+
+pub returns-clause-reads : goal.returns-clause-reads
+returns-clause-reads g c = subst (λ x. IfOk c.idle_work.result (λ did. AnswersOnce [] x.memory.member c.idle_work.new.knows.member.memory did.posts)) c.self.view_is c.idle_work.ensures.reads
