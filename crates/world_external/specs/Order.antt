@@ -1,0 +1,71 @@
+-- When the order of epochs is the order of real time: what a report says of attempts of which one was answered before the other began. Over
+-- the lines of a report and its script alone.
+use Rattle.std.specs.Prelude.{ℕ, ◌≡◌, ◌≤◌, ◌<◌, ◌+◌, ◌*◌, ◌++◌, ◌⊎◌, true, List, [], ◌∷◌, Contains, Some}
+use Rattle.base_types.specs.declared.epoch.Epoch.{Epoch}
+use Rattle.base_types.specs.declared.id.AttemptId.{AttemptId}
+use Rattle.base_types.specs.declared.operation.MinorWrite.{MinorWrite}
+use Rattle.base_types.specs.declared.outcome.Outcome.TheVariants.{Committed}
+use Rattle.base_types.specs.declared.path.Path.{Path}
+use Rattle.base_types.specs.declared.report.Attempt.{Attempt}
+use Rattle.base_types.specs.declared.report.Line.{Line}
+use Rattle.base_types.specs.declared.script.Script.{Script}
+use Rattle.base_types.specs.Operations.{write_path}
+use Rattle.base_types.specs.Paths.{overlaps}
+use Rattle.daos_model.specs.Accesses.{access_paths, minor_writes}
+use Rattle.daos_model.specs.Attempts.{has_own_epoch, tries}
+use Rattle.daos_model.specs.Transactions.{attempt_ops}
+
+-- An attempt was answered before another's command began: its line is one of an earlier command of the other's client, or stands before such
+-- a line. For when that line was told, the other's client had not begun the command yet.
+pub record IsAnsweredBefore (attempts : List Attempt) (x : Attempt) (y : AttemptId) : Type 0 where
+  pub before : List Attempt
+  pub earlier : Attempt
+  pub after : List Attempt
+  pub among : attempts ≡ before ++ earlier ∷ after
+  pub own : earlier.id.client ≡ y.client
+  pub past : earlier.id.command < y.command
+  pub told : Contains (before ++ earlier ∷ []) x
+
+-- an attempt has an epoch of its own, so it reads at no snapshot
+pub record HasEpoch (s : Script) (attempts : List Attempt) (x : Attempt) (e : Epoch) : Type 0 where
+  pub there : Contains attempts x
+  pub plain : has_own_epoch s x ≡ true
+  pub epoch : x.epoch ≡ Some e
+
+-- The clocks keep the bound: whoever was answered before a command began has an epoch that is above no epoch of that command's attempts by
+-- more than `epsilon` ticks.
+abbrev pub KeepsTheBound : Script → ℕ → List Line → Type 0
+KeepsTheBound s epsilon lines =
+    (x y : Attempt) (e f : Epoch) → HasEpoch s (tries lines) x e → HasEpoch s (tries lines) y f → IsAnsweredBefore (tries lines) x y.id → e.0 ≤ f.0 + 256 * epsilon
+
+-- an attempt writes on a path that overlaps one on which the other reads, asks or writes
+pub record WritesWhere (s : Script) (x y : Attempt) : Type 0 where
+  pub write : MinorWrite
+  pub writes : Contains (minor_writes 0 (attempt_ops s x.id)) write
+  pub path : Path
+  pub accesses : Contains (access_paths (attempt_ops s y.id)) path
+  pub over : overlaps (write_path write.write) path ≡ true
+
+-- two attempts conflict where one of them does
+abbrev pub Conflict : Script → Attempt → Attempt → Type 0
+Conflict s x y = WritesWhere s x y ⊎ WritesWhere s y x
+
+-- two attempts have epochs, of which the first has the smaller one
+pub record HasSmallerEpoch (x y : Attempt) : Type 0 where
+  pub first : Epoch
+  pub second : Epoch
+  pub its : x.epoch ≡ Some first
+  pub others : y.epoch ≡ Some second
+  pub smaller : first.0 < second.0
+
+-- a committed attempt that reads at no snapshot
+pub record IsCommitted (s : Script) (attempts : List Attempt) (x : Attempt) : Type 0 where
+  pub there : Contains attempts x
+  pub committed : x.outcome ≡ Committed
+  pub plain : has_own_epoch s x ≡ true
+
+-- External consistency: of two committed attempts that conflict, the one that was answered before the other began has the smaller epoch. So
+-- transactions, run one by one in the order of their epochs, are run in the order in which clients could tell them apart.
+abbrev pub AreExternallyConsistent : Script → List Line → Type 0
+AreExternallyConsistent s lines =
+    (x y : Attempt) → IsCommitted s (tries lines) x → IsCommitted s (tries lines) y → Conflict s x y → IsAnsweredBefore (tries lines) x y.id → HasSmallerEpoch x y
