@@ -2,7 +2,7 @@
 use Rattle.std.specs.Prelude.{ℕ, suc, zero, ◌≡◌, ◌≤◌, ◌<◌, ◌+◌, ◌*◌, ◌/◌, ◌%◌, ◌==◌, ◌&&◌, ◌||◌, Bool, true, false, max, nat_le, is_some, is_none, length, List, [], Contains, Option, Some, None, refl, if◌then◌else◌}
 use Rattle.std.specs.List.{list_any}
 use Rattle.std.specs.Option.{option_eq}
-use Rattle.std.proofs.Common.{sym, ◌∙◌, ap, subst, inl, inr, arith}
+use Rattle.std.proofs.Common.{sym, ◌∙◌, ap, subst, inl, arith}
 use Rattle.std.proofs.lemmas.Bool.Decides.{nat_tests}
 use Rattle.std.proofs.Math.Nat.{div-add-mod}
 use Rattle.base_types.specs.declared.id.ObjId.{ObjId}
@@ -27,7 +27,7 @@ use Rattle.daos_model.specs.Forms.{ends_at_akey, is_length, is_write_in_form}
 use Rattle.daos_model.specs.Prunes.{is_punch, touches, values_of}
 use Rattle.model_laws.specs.JoinLaws.{leads_to-dkey}
 use Rattle.model_laws.specs.Members.{Has, any-has, contains-from_has}
-use Rattle.model_laws.specs.PlaceLaws.{asked-member, leads-object}
+use Rattle.model_laws.specs.PlaceLaws.{asked-member}
 use Rattle.model_laws.specs.TargetLaws.{has-member, number_same, own-from_member, own-here}
 use Rattle.model_laws.specs.Targets.{is_own}
 use Rattle.model_laws.specs.TouchLaws.{values-path}

@@ -1,5 +1,5 @@
 -- What a target holds of a decided attempt makes it refuse accesses that would not lie behind it.
-use Rattle.std.specs.Prelude.{ℕ, ◌≡◌, ◌⊎◌, ◌≤◌, ◌<◌, ◌+◌, ◌*◌, ◌&&◌, ◌||◌, ◌==◌, Bool, true, false, max, nat_lt, nat_le, List, [], ◌∷◌, map, filter, Contains, Option, Some, None, refl}
+use Rattle.std.specs.Prelude.{ℕ, ◌≡◌, ◌⊎◌, ◌≤◌, ◌<◌, ◌+◌, ◌*◌, ◌&&◌, ◌||◌, ◌==◌, Bool, true, false, nat_lt, nat_le, List, [], ◌∷◌, filter, Contains, Option, Some, None, refl}
 use Rattle.std.proofs.Common.{sym, ◌∙◌, ap, subst, inl, inr, arith}
 use Rattle.std.proofs.lemmas.Bool.Decides.{nat_tests}
 use Rattle.std.proofs.lemmas.Bool.{cases_lt}
@@ -8,20 +8,18 @@ use Rattle.base_types.specs.declared.id.AttemptId.{AttemptId}
 use Rattle.base_types.specs.declared.id.ContId.{ContId}
 use Rattle.base_types.specs.declared.operation.MinorWrite.{MinorWrite}
 use Rattle.base_types.specs.declared.path.Path.{Path}
-use Rattle.base_types.specs.declared.shown.Shown.{Shown}
 use Rattle.base_types.specs.Operations.{write_path}
 use Rattle.base_types.specs.Paths.{leads_to, overlaps}
 use Rattle.daos_model.specs.declared.cell.Cell.{Cell}
 use Rattle.daos_model.specs.declared.durable.Durable.{Durable}
 use Rattle.daos_model.specs.declared.durable.Version.{Version}
-use Rattle.daos_model.specs.BoolLaws.{both, clash, or_left}
+use Rattle.daos_model.specs.BoolLaws.{both, clash}
 use Rattle.daos_model.specs.Durables.{row_of}
 use Rattle.daos_model.specs.Opening.{Opening, top}
 use Rattle.daos_model.specs.Prunes.{is_punch, touches}
 use Rattle.daos_model.specs.Versions.{first_between, is_between, version_path}
-use Rattle.model_laws.specs.Dated.{Dated, dated, dated_of, is_about, is_from}
-use Rattle.model_laws.specs.Decided as model
-use Rattle.model_laws.specs.Decided.{all_dated, dated_at, dated_by}
+use Rattle.model_laws.specs.Dated.{Dated, dated, dated_of, is_from}
+use Rattle.model_laws.specs.Decided.{all_dated, dated_at}
 use Rattle.model_laws.specs.DecidedLaws.{has-dated}
 use Rattle.model_laws.specs.Members.{Has, contains-from_has, has-filter, has-from_contains, has-from_filter, has-from_map, has-map}
 use Rattle.model_laws.specs.PlaceLaws.{overlaps-container}
@@ -108,7 +106,7 @@ unrefused p first f path d v none i over = by (cases_lt f.0 v.epoch.0) (cases_lt
     by (inl lt) (inr near) =
         clash (nat_lt f.0 v.epoch.0 && nat_le v.epoch.0 (uncertain_to p first f).0 && overlaps path (version_path v))
         (both (nat_lt f.0 v.epoch.0 && nat_le v.epoch.0 (uncertain_to p first f).0) (overlaps path (version_path v))
-            (both (nat_lt f.0 v.epoch.0) (nat_le v.epoch.0 (uncertain_to p first f).0) (grind (arith, nat_tests)) (grind (arith, nat_tests))) over)
+        (both (nat_lt f.0 v.epoch.0) (nat_le v.epoch.0 (uncertain_to p first f).0) (grind (arith, nat_tests)) (grind (arith, nat_tests))) over)
         off
 
 none-else : {A : Type 0} (x y : Option A) → or_else x y ≡ None → (x ≡ None) × (y ≡ None)

@@ -12,12 +12,10 @@ use Rattle.daos_model.specs.Laws.{tries-append}
 use Rattle.model_laws.specs.Members.{Has, contains-from_has}
 use Rattle.world_attempts.specs.History.{Served}
 use Rattle.world_base.specs.declared.client.ClientState.{ClientState}
-use Rattle.world_base.specs.declared.letter.Letter.{Letter}
 use Rattle.world_base.specs.declared.target.TargetState.{TargetState}
 use Rattle.world_base.specs.declared.world.World.{World}
-use Rattle.world_base.specs.ClientTurns.{Move, heard, listed, moved}
+use Rattle.world_base.specs.ClientTurns.{heard, listed, moved}
 use Rattle.world_base.specs.Events.{ClientGoes, ClientHears, Rules, client_plan, with_client, with_epoch}
-use Rattle.world_base.specs.Letters.{Takes, client}
 use Rattle.world_base.specs.StepLaws.{by-hearing, by-next}
 use Rattle.world_base.specs.Steps.{KeptByCounting, KeptByHearing, KeptByMoves, after_move, without}
 use Rattle.world_epochs.specs.Epochs.{ClientsStand, HasLine, IsPast, IsPresent, PlainEpochs, Unsnapped}

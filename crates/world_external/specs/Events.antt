@@ -1,17 +1,12 @@
 -- Whatever happens keeps that what was served or stored for a command lies behind what was answered before it began.
-use Rattle.std.specs.Prelude.{ℕ, ◌≡◌, ◌⊎◌, ◌<◌, ◌++◌, Bool, true, false, List, [], ◌∷◌, Contains, slice_get, Option, Some, refl}
+use Rattle.std.specs.Prelude.{ℕ, ◌≡◌, ◌<◌, ◌++◌, Bool, true, false, List, [], ◌∷◌, Contains, slice_get, Some, refl}
 use Rattle.std.proofs.Common.{sym, ◌∙◌, ap, subst, inl, inr}
 use Rattle.std.proofs.Math.ListN.{set}
 use Rattle.std.proofs.lemmas.List.Elements.{Contains-append_left}
-use Rattle.base_types.specs.declared.answer.Answer.{Answer}
 use Rattle.base_types.specs.declared.entry.Entry.{Entry}
 use Rattle.base_types.specs.declared.epoch.Epoch.{Epoch}
 use Rattle.base_types.specs.declared.id.AttemptId.{AttemptId}
-use Rattle.base_types.specs.declared.operation.MinorWrite.{MinorWrite}
-use Rattle.base_types.specs.declared.report.Attempt.{Attempt}
-use Rattle.base_types.specs.Operations.{read_path, write_path}
-use Rattle.base_types.specs.Paths.{overlaps}
-use Rattle.base_messages.specs.declared.message.Message.{Message}
+use Rattle.base_types.specs.Operations.{read_path}
 use Rattle.base_messages.specs.declared.message.Message.TheVariants as message
 use Rattle.base_messages.specs.declared.message.Post.{Post}
 use Rattle.base_messages.specs.declared.message.Reply.TheVariants as reply
@@ -21,7 +16,6 @@ use Rattle.daos_model.specs.Attempts.{tries}
 use Rattle.daos_model.specs.BoolLaws.{clash}
 use Rattle.daos_model.specs.Changes.{reopened}
 use Rattle.daos_model.specs.Opening.{Opening, top}
-use Rattle.dtx_base.specs.declared.member.Parked.{Parked}
 use Rattle.model_laws.specs.Members.{Has, contains-from_has, has-cases, has-left}
 use Rattle.world_attempts.specs.Counting.{has-taken}
 use Rattle.world_attempts.specs.History.{History, Served}
@@ -36,7 +30,6 @@ use Rattle.world_base.specs.Requests.{fetch_message}
 use Rattle.world_base.specs.Stops.{AtWork, CutOf, Draws, Fails, Further, GivenUp, Happening, Hearing, IdleWork, IsCut, IsInHand, Opens, Plainly}
 use Rattle.world_epochs.specs.Epochs.{ClientsStand, PlainEpochs, Unsnapped}
 use Rattle.world_epochs.specs.Sayings.{AreKnown, known-all, known-each}
-use Rattle.world_fates.specs.Facts.{Attempts}
 use Rattle.world_fates.specs.Rightly.{letters-tell}
 use Rattle.world_hearing.specs.Going.{AnswersAreServed, Before}
 use Rattle.world_outcomes.specs.Keeping.{IsOfTarget}
@@ -48,10 +41,9 @@ use Rattle.world_statuses.specs.Events.{HappensWithoutSnapshots}
 use Rattle.world_stops.specs.CutEvents.{IsWithoutSnapshots}
 use Rattle.world_stops.specs.Happenings.{rightly}
 use Rattle.world_waits.specs.Waits.{Conversation}
-use Rattle.world_external.specs.Behind.{IsBehind, WasAnswered, WritesAt}
 use Rattle.world_external.specs.Clients.{client-goes, client-hears}
 use Rattle.world_external.specs.Kept.{AreInOrder, IsServedBehind, IsStoredBehind, KeepsOrder, served-on, stored-on}
-use Rattle.world_external.specs.Serving.{AnswersAreSeen, IsAnswerSeen}
+use Rattle.world_external.specs.Serving.{IsAnswerSeen}
 use Rattle.world_external.specs.Storing.{FirstIsKnown, KnowsAnswered, behind-writes}
 use Rattle.world_external.specs.Turns.{BearsFirst, FirstsAreBorne, begins, cut-behind, further-behind, further-silent, hears-behind, hears-seen, idle-behind, idle-cut_behind}
 

@@ -1,5 +1,5 @@
 -- What every event keeps: what was served or stored for a command lies behind the attempts that were answered before it began.
-use Rattle.std.specs.Prelude.{ℕ, ◌≡◌, ◌⊎◌, ◌≤◌, ◌<◌, ◌++◌, true, max, List, [], ◌∷◌, Contains, Some, slice_get, refl}
+use Rattle.std.specs.Prelude.{ℕ, ◌≡◌, ◌≤◌, ◌<◌, ◌++◌, true, max, List, [], ◌∷◌, Contains, Some, slice_get, refl}
 use Rattle.std.proofs.Common.{sym, ◌∙◌, ap, subst, inl, inr}
 use Rattle.base_types.specs.declared.entry.Entry.{Entry}
 use Rattle.base_types.specs.declared.epoch.Epoch.{Epoch}
@@ -22,7 +22,6 @@ use Rattle.world_base.specs.Events.{Rules}
 use Rattle.world_reads.specs.Reads.{IsOfAttempt}
 use Rattle.world_reads.specs.Versions.{IsWriteAt}
 use Rattle.world_external.specs.Behind.{IsBehind, IsFar, IsFarOfFirst, IsLater, Issued, WasAnswered, WritesAt}
-use Rattle.world_external.specs.Order.{IsAnsweredBefore}
 
 -- ---- the definitions
 

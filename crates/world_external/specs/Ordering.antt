@@ -1,5 +1,5 @@
 -- Where what was served and stored lies behind what was answered before, and clocks keep the bound, epochs are in the order of real time.
-use Rattle.std.specs.Prelude.{ℕ, suc, ◌≡◌, ◌⊎◌, ◌≤◌, ◌<◌, ◌+◌, ◌*◌, ◌++◌, Bool, true, false, not, is_some, List, [], ◌∷◌, find, All, Contains, slice_get, Option, Some, None, refl}
+use Rattle.std.specs.Prelude.{ℕ, suc, ◌≡◌, ◌⊎◌, ◌≤◌, ◌<◌, ◌+◌, ◌*◌, ◌++◌, Bool, true, false, not, is_some, List, [], ◌∷◌, Contains, slice_get, Option, Some, None, refl}
 use Rattle.std.proofs.Common.{sym, ◌∙◌, ap, subst, inl, inr, arith}
 use Rattle.std.proofs.lemmas.Bool.{cases_lt}
 use Rattle.base_types.specs.declared.entry.Entry.{Entry}
@@ -17,8 +17,8 @@ use Rattle.base_types.specs.declared.path.Path.{Path}
 use Rattle.base_types.specs.declared.report.Attempt.{Attempt}
 use Rattle.base_types.specs.Operations.{act_path, read_path, write_path}
 use Rattle.base_types.specs.PathLaws.{overlaps-comm}
-use Rattle.base_types.specs.Paths.{leads_to, overlaps}
-use Rattle.base_types.specs.Placement.{ClassFits, group_of, path_members}
+use Rattle.base_types.specs.Paths.{overlaps}
+use Rattle.base_types.specs.Placement.{group_of}
 use Rattle.daos_model.specs.declared.cell.Cell.{Cell}
 use Rattle.daos_model.specs.declared.durable.Version.{Version}
 use Rattle.daos_model.specs.Accesses.{access_paths, asked_member, minor_write, minor_writes, op_path}
@@ -30,23 +30,22 @@ use Rattle.daos_model.specs.Prunes.{is_punch, touches}
 use Rattle.daos_model.specs.Transactions.{attempt_ops, read_at, read_of, read_of_op}
 use Rattle.model_laws.specs.DecidedLaws.{has-all}
 use Rattle.model_laws.specs.EntryLaws.{found-has}
-use Rattle.model_laws.specs.Members.{Has, contains-from_has, has-cases, has-from_contains, has-from_map, has-left, has-right}
+use Rattle.model_laws.specs.Members.{Has, contains-from_has, has-cases, has-from_contains, has-from_map, has-right}
 use Rattle.model_laws.specs.PlaceLaws.{leads-object}
 use Rattle.model_laws.specs.TargetLaws.{own-here}
 use Rattle.model_laws.specs.Targets.{is_own}
 use Rattle.model_laws.specs.TouchLaws.{punch-path, update-path}
-use Rattle.world_attempts.specs.Attempts.{HoldsAt, IsOther, entry_at, entry_in, leader_of, writes_of}
+use Rattle.world_attempts.specs.Attempts.{HoldsAt, IsOther, entry_in, leader_of, writes_of}
 use Rattle.world_attempts.specs.History.{Decided, History, Served}
 use Rattle.world_base.specs.declared.target.TargetState.{TargetState}
 use Rattle.world_base.specs.declared.world.World.{World}
-use Rattle.world_base.specs.Events.{Rules, client_plan}
+use Rattle.world_base.specs.Events.{Rules}
 use Rattle.world_epochs.specs.Epochs.{HasLine, IsPast, IsPresent, PlainEpochs, Unsnapped}
 use Rattle.world_epochs.specs.PlainLaws.{plain-epochs}
 use Rattle.world_epochs.specs.PlainScripts.{no-snapshots}
 use Rattle.world_gots.specs.FormLaws.{ops-form, read-askable}
 use Rattle.world_gots.specs.Gots.{Gots}
 use Rattle.world_gots.specs.Right.{IsAskable}
-use Rattle.world_outcomes.specs.Outcomes.{IsEndTrue}
 use Rattle.world_reads.specs.Given.{FitsTargets, Given}
 use Rattle.world_reads.specs.MemberLaws.{writes-member}
 use Rattle.world_reads.specs.Versions.{IsWriteAt}
@@ -56,7 +55,7 @@ use Rattle.world_whole.specs.Everything.{AreBefore}
 use Rattle.world_external.specs.Behind.{IsBehind, IsFar, IsFarOfFirst, IsLater, WasAnswered, WritesAt}
 use Rattle.world_external.specs.Cells.{IsAskedAs, MeetsAt, asked-own, group-is_asked, meets, members-under, some-own}
 use Rattle.world_external.specs.Kept.{IsStoredBehind, KeepsOrder, ReadsAt}
-use Rattle.world_external.specs.Order.{AreExternallyConsistent, Conflict, HasEpoch, HasSmallerEpoch, IsAnsweredBefore, IsCommitted, KeepsTheBound, WritesWhere}
+use Rattle.world_external.specs.Order.{AreExternallyConsistent, Conflict, HasSmallerEpoch, IsAnsweredBefore, IsCommitted, KeepsTheBound, WritesWhere}
 use Rattle.world_external.specs.Told.{IsServedAt, line-served, none-has}
 
 -- ---- accesses

@@ -1,8 +1,7 @@
 -- At each moment of a run what was served and stored lies behind what was answered before; so lines are externally consistent where clocks keep
 -- the bound.
-use Rattle.std.specs.Prelude.{ℕ, ◌≡◌, ◌≤◌, ◌<◌, ◌++◌, List, [], ◌∷◌, Contains, slice_get, Option, Some, None, refl}
-use Rattle.std.proofs.Common.{sym, ◌∙◌, ap, subst, inl, inr}
-use Rattle.base_types.specs.declared.entry.Entry.{Entry}
+use Rattle.std.specs.Prelude.{ℕ, ◌≡◌, ◌≤◌, ◌<◌, ◌++◌, List, [], ◌∷◌, Contains, Option, refl}
+use Rattle.std.proofs.Common.{sym, ◌∙◌, ap, subst, inl}
 use Rattle.base_types.specs.declared.epoch.Epoch.{Epoch}
 use Rattle.base_types.specs.declared.id.AttemptId.{AttemptId}
 use Rattle.base_types.specs.declared.report.Attempt.{Attempt}
@@ -12,23 +11,19 @@ use Rattle.base_messages.specs.declared.message.Message.TheVariants as message
 use Rattle.daos_model.specs.declared.durable.Version.{Version}
 use Rattle.daos_model.specs.Attempts.{tries}
 use Rattle.daos_model.specs.Opening.{Opening, top}
-use Rattle.dtx_base.specs.declared.member.Parked.{Parked}
 use Rattle.model_laws.specs.Members.{Has, contains-from_has, has-from_contains, has-right}
 use Rattle.world_attempts.specs.History.{GrowsBy, History, Served}
-use Rattle.world_base.specs.declared.letter.Letter.{Letter}
-use Rattle.world_base.specs.declared.target.TargetState.{TargetState}
 use Rattle.world_base.specs.declared.world.World.{World}
 use Rattle.world_base.specs.Events.{Rules}
-use Rattle.world_base.specs.Stops.{Begins, Draws, Goes, Happening, WorldEvent, WorldRun, swept}
+use Rattle.world_base.specs.Stops.{Begins, Draws, Goes, WorldEvent, WorldRun}
 use Rattle.world_causes.specs.Shown.{IsFirstOf}
-use Rattle.world_clients.specs.Snapshots.{is_at_snapshot}
 use Rattle.world_epochs.specs.Epochs.{Unsnapped}
 use Rattle.world_epochs.specs.PlainLaws.{plain-epochs}
 use Rattle.world_epochs.specs.PlainScripts.{at-none}
 use Rattle.world_fates.specs.Facts.{Attempts}
 use Rattle.world_firsts.specs.Firsts.{Firsts, GoesWith, MessageTells, WaitsSo}
 use Rattle.world_gots.specs.Gots.{Gots}
-use Rattle.world_hearing.specs.Going.{AnswersAreServed, Before}
+use Rattle.world_hearing.specs.Going.{Before}
 use Rattle.world_hearing.specs.HappeningGots.{events-keep-gots}
 use Rattle.world_outcomes.specs.Keeping.{IsOfTarget}
 use Rattle.world_requests.specs.Rows.{leaders-know}

@@ -1,5 +1,5 @@
 -- A target serves reads: with each answer it held what no later write refuses.
-use Rattle.std.specs.Prelude.{ℕ, ◌≡◌, ◌++◌, Bool, true, false, List, [], ◌∷◌, filter, Option, Some, None, refl, if◌then◌else◌}
+use Rattle.std.specs.Prelude.{ℕ, ◌≡◌, ◌++◌, Bool, true, false, List, [], ◌∷◌, filter, Option, Some, None, refl}
 use Rattle.std.proofs.Common.{sym, ◌∙◌, ap, subst, inl, inr}
 use Rattle.base_types.specs.declared.answer.Answer.{Answer}
 use Rattle.base_types.specs.declared.entry.Settle.{Settle}
@@ -8,7 +8,6 @@ use Rattle.base_types.specs.declared.entry.Verdict.TheVariants as fate
 use Rattle.base_types.specs.declared.epoch.Epoch.{Epoch}
 use Rattle.base_types.specs.declared.id.AttemptId.{AttemptId}
 use Rattle.base_types.specs.declared.outcome.Cause.{Cause}
-use Rattle.base_types.specs.declared.outcome.Outcome.{Outcome}
 use Rattle.base_types.specs.declared.shown.Shown.{Shown}
 use Rattle.base_types.specs.declared.snapshot.Snap.{Snap}
 use Rattle.base_types.specs.Operations.{read_path}
@@ -24,7 +23,7 @@ use Rattle.daos_model.specs.Opening.{Opening}
 use Rattle.dtx_base.specs.declared.member.Parked.{Parked}
 use Rattle.dtx_base.specs.Joining.{all_unresolved_told, is_waiting, unresolved, unresolved_told, verdict_heard}
 use Rattle.model_laws.specs.Members.{Has, has-cases}
-use Rattle.vos_stamp.specs.Stamps.{later_cause, or_later}
+use Rattle.vos_stamp.specs.Stamps.{or_later}
 use Rattle.world_attempts.specs.History.{History, Served}
 use Rattle.world_base.specs.declared.did.Did.{Did}
 use Rattle.world_base.specs.declared.request.FetchRequest.{FetchRequest}
@@ -39,7 +38,7 @@ use Rattle.world_base.specs.Reads as read
 use Rattle.world_base.specs.Requests.{fetch_message, request_epoch}
 use Rattle.world_base.specs.Roles.{joins_on, member_at}
 use Rattle.world_base.specs.TurnLaws.{fetch-plain}
-use Rattle.world_base.specs.Turns.{Reached, Whole}
+use Rattle.world_base.specs.Turns.{Whole}
 use Rattle.world_base.specs.VerdictLaws.{Tries, verdict-keeps}
 use Rattle.world_base.specs.Verdicts as verdict
 use Rattle.world_reads.specs.Adds.{Heard, IsAskedIn, NoneIs, Waited, is_answer}

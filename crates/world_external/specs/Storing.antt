@@ -1,6 +1,6 @@
 -- A target stores an attempt's writes: they lie behind whatever it holds and served of attempts that were answered before.
-use Rattle.std.specs.Prelude.{ℕ, ◌≡◌, ◌⊎◌, ◌≤◌, ◌<◌, ◌/◌, ◌+◌, ◌*◌, false, true, List, filter, find, Contains, Option, Some, None, refl}
-use Rattle.std.proofs.Common.{sym, ◌∙◌, ap, subst, inl, inr, arith}
+use Rattle.std.specs.Prelude.{ℕ, ◌≡◌, ◌⊎◌, ◌≤◌, ◌<◌, ◌+◌, ◌*◌, false, true, List, Contains, Option, Some, None, refl}
+use Rattle.std.proofs.Common.{sym, ◌∙◌, ap, subst, inl, inr}
 use Rattle.base_types.specs.declared.entry.Entry.{Entry}
 use Rattle.base_types.specs.declared.epoch.Epoch.{Epoch}
 use Rattle.base_types.specs.declared.id.AttemptId.{AttemptId}
@@ -18,16 +18,14 @@ use Rattle.daos_model.specs.Changes.{leased, prepared}
 use Rattle.daos_model.specs.Durables.{entry_key, row_of}
 use Rattle.daos_model.specs.Opening.{Opening, top}
 use Rattle.daos_model.specs.Ordered.{put}
-use Rattle.daos_model.specs.Versions.{version_of, version_path}
+use Rattle.daos_model.specs.Versions.{version_of}
 use Rattle.model_laws.specs.EntryLaws.{has-put, put-has}
 use Rattle.model_laws.specs.Members.{Has, contains-from_has, has-from_contains}
 use Rattle.world_attempts.specs.Attempts.{writes_of}
 use Rattle.world_attempts.specs.History.{Decided, History, Served}
 use Rattle.world_base.specs.declared.request.CommitRequest.{CommitRequest}
 use Rattle.world_base.specs.declared.request.PrepareRequest.{PrepareRequest}
-use Rattle.world_base.specs.declared.target.TargetMemory.{TargetMemory}
 use Rattle.world_base.specs.declared.target.TargetState.{TargetState}
-use Rattle.world_base.specs.declared.did.Did.{Did}
 use Rattle.world_base.specs.declared.world.World.{World}
 use Rattle.world_base.specs.ChangeLaws.{conts-made, entries-leased}
 use Rattle.world_base.specs.Changes.{Change, Kept, Steps}
@@ -42,7 +40,6 @@ use Rattle.world_base.specs.Turns.{Reached}
 use Rattle.world_epochs.specs.Sayings.{AreKnown, Known, known-all, known-each}
 use Rattle.world_reads.specs.Beginning.{TurnBegins}
 use Rattle.world_reads.specs.CommitLaws.{CommitMid, HearsCommit, MayBeStored, PrepareMid, commit-step, prepare-step}
-use Rattle.world_reads.specs.CommitLaws as commits
 use Rattle.world_reads.specs.Midway.{Sound}
 use Rattle.world_reads.specs.StoreLaws.{AreItsOwn}
 use Rattle.world_reads.specs.Versions.{IsWriteAt, VersionsStand}

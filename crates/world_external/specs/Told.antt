@@ -1,5 +1,5 @@
 -- What is known of attempts of which lines tell that they are committed: those that write are decided, and their reads were served.
-use Rattle.std.specs.Prelude.{ℕ, zero, suc, ◌≡◌, ◌≢◌, ◌⊎◌, ◌≤◌, ◌<◌, ◌+◌, ◌++◌, All, true, List, [], ◌∷◌, filter, map, Contains, slice_get, Option, Some, None, refl}
+use Rattle.std.specs.Prelude.{ℕ, zero, suc, ◌≡◌, ◌≢◌, ◌⊎◌, ◌≤◌, ◌<◌, ◌+◌, ◌++◌, true, List, [], ◌∷◌, Contains, slice_get, Option, Some, None, refl}
 use Rattle.std.proofs.Common.{sym, ◌∙◌, ap, subst, inl, inr, arith}
 use Rattle.std.proofs.lemmas.Bool.{cases_lt}
 use Rattle.base_types.specs.declared.answer.Answer.{Answer}
@@ -8,18 +8,15 @@ use Rattle.base_types.specs.declared.id.ContId.{ContId}
 use Rattle.base_types.specs.declared.id.AttemptId.{AttemptId}
 use Rattle.base_types.specs.declared.operation.Act.{Act}
 use Rattle.base_types.specs.declared.operation.Act.TheVariants as act
-use Rattle.base_types.specs.declared.operation.MinorWrite.{MinorWrite}
 use Rattle.base_types.specs.declared.operation.Op.{Op}
 use Rattle.base_types.specs.declared.operation.Read.{Read}
 use Rattle.base_types.specs.declared.outcome.FloorWhy.TheVariants as why
 use Rattle.base_types.specs.declared.outcome.Outcome.TheVariants.{Committed}
 use Rattle.base_types.specs.declared.report.Attempt.{Attempt}
-use Rattle.base_types.specs.declared.report.Line.{Line}
 use Rattle.base_types.specs.declared.report.Line.TheVariants as line
 use Rattle.base_types.specs.Operations.{read_path}
 use Rattle.daos_model.specs.Accesses.{asked_member}
 use Rattle.daos_model.specs.Attempts.{is_of_client, tries, tries_of}
-use Rattle.daos_model.specs.CausesShown.{ShowsFloor}
 use Rattle.daos_model.specs.Durables.{row_of}
 use Rattle.daos_model.specs.Opening.{Opening, top}
 use Rattle.daos_model.specs.Transactions.{attempt_ops, command_of, number_of_read, read_at, read_numbers, read_of}

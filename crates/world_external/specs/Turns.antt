@@ -1,12 +1,10 @@
 -- What a target's turn stores and serves lies behind what was answered before, also where the turn is cut.
-use Rattle.std.specs.Prelude.{ℕ, ◌≡◌, ◌≤◌, Bool, true, false, List, Contains, slice_get, Option, Some, refl}
+use Rattle.std.specs.Prelude.{ℕ, ◌≡◌, Bool, true, false, List, slice_get, Option, Some, refl}
 use Rattle.std.proofs.Common.{sym, ◌∙◌, ap, subst}
 use Rattle.base_types.specs.declared.entry.Entry.{Entry}
-use Rattle.base_types.specs.declared.entry.Verdict.{Verdict}
 use Rattle.base_types.specs.declared.epoch.Epoch.{Epoch}
 use Rattle.base_types.specs.declared.id.AttemptId.{AttemptId}
 use Rattle.base_types.specs.declared.operation.MinorWrite.{MinorWrite}
-use Rattle.base_types.specs.declared.outcome.FloorWhy.{FloorWhy}
 use Rattle.base_messages.specs.declared.message.Message.{Message, more_of-Message}
 use Rattle.base_messages.specs.declared.message.Message.TheVariants as message
 use Rattle.daos_model.specs.declared.durable.Durable.{Durable}
@@ -15,25 +13,22 @@ use Rattle.daos_model.specs.Attempts.{tries}
 use Rattle.daos_model.specs.Forms.{AreWritesInForm}
 use Rattle.daos_model.specs.Opening.{Opening}
 use Rattle.dtx_base.specs.declared.member.Parked.{Parked}
-use Rattle.dtx_base.specs.Members.{is_written_at, writes_at}
+use Rattle.dtx_base.specs.Members.{is_written_at}
 use Rattle.model_laws.specs.Members.{Has}
 use Rattle.world_attempts.specs.Attempts.{writes_of}
 use Rattle.world_attempts.specs.History.{History}
 use Rattle.world_base.specs.declared.did.Did.{Did}
 use Rattle.world_base.specs.declared.letter.Letter.{Letter}
-use Rattle.world_base.specs.declared.request.FetchRequest.{FetchRequest}
 use Rattle.world_base.specs.declared.target.Life.TheVariants.{Running}
 use Rattle.world_base.specs.declared.target.TargetMemory.{TargetMemory}
 use Rattle.world_base.specs.declared.target.TargetState.{TargetState}
 use Rattle.world_base.specs.declared.world.World.{World}
-use Rattle.world_base.specs.Acks as ack
 use Rattle.world_base.specs.Changes.{Kept}
 use Rattle.world_base.specs.Commits as commit
 use Rattle.world_base.specs.CutTurns.{Cutting, HearingIsCut, IdleWorkIsCut}
 use Rattle.world_base.specs.Events.{Rules, kept, target_plan}
 use Rattle.world_base.specs.Further.{CommitDown, HearsFurther, IsSpent, IsUnknown}
 use Rattle.world_base.specs.Letters.{target}
-use Rattle.world_base.specs.Requests.{fetch_message}
 use Rattle.world_base.specs.RightTurns.{HearsRightly}
 use Rattle.world_base.specs.Roles.{is_in_doubt, is_prepared}
 use Rattle.world_base.specs.Statuses.{status_refusal}
@@ -46,7 +41,7 @@ use Rattle.world_hearing.specs.Going.{Before}
 use Rattle.world_hearing.specs.Listening.{listens}
 use Rattle.world_hearing.specs.PlainTurns.{knows}
 use Rattle.world_hearing.specs.Saying.{AsksState, EndsHeld, EndsLost, MarksAgain, MetUnresolved, SaysFurther, TellsState}
-use Rattle.world_hearing.specs.Storing.{BringsKnown, further-kept, hearing-cut-kept, hears-kept, idle-cut-kept, idle-kept}
+use Rattle.world_hearing.specs.Storing.{further-kept, hearing-cut-kept, hears-kept, idle-cut-kept, idle-kept}
 use Rattle.world_reads.specs.Adds.{NoneIs, is_answer}
 use Rattle.world_reads.specs.Beginning.{TurnBegins}
 use Rattle.world_reads.specs.CommitLaws.{HearsCommit, prepare-own}
