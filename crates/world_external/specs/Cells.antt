@@ -152,9 +152,6 @@ pub record MeetsAt (w : Write) (q : Path) : Type 0 where
   pub under : leads_to q cell.path ≡ true
   pub keyed : is_some cell.path.dkey ≡ true
 
-at-path : Path → Cell
-at-path p = record { path = p; index = None }
-
 pub meets : (w : Write) (q : Path) → is_write_in_form w ≡ true → overlaps (write_path w) q ≡ true → MeetsAt w q
 unfolding overlaps
 meets w q form over = by (is_punch w) (leads_to (write_path w) q) refl refl

@@ -15,15 +15,20 @@ use Rattle.daos_model.specs.Accesses.{access_paths, minor_writes}
 use Rattle.daos_model.specs.Attempts.{has_own_epoch, tries}
 use Rattle.daos_model.specs.Transactions.{attempt_ops}
 
--- An attempt was answered before another's command began: its line is one of an earlier command of the other's client, or stands before such
--- a line. For when that line was told, the other's client had not begun the command yet.
+-- an attempt is one of the command that another attempt is of
+pub record IsOfCommand (y : AttemptId) (a : Attempt) : Type 0 where
+  pub client : a.id.client ≡ y.client
+  pub command : a.id.command ≡ y.command
+
+-- Attempt x was answered before the command of attempt y began: its line is a line of y's client, or stands before one, that precedes all lines
+-- of y's command; so it stands at or before the last such line. For when that line was told, y's client had not begun the command yet.
 pub record IsAnsweredBefore (attempts : List Attempt) (x : Attempt) (y : AttemptId) : Type 0 where
   pub before : List Attempt
   pub earlier : Attempt
   pub after : List Attempt
   pub among : attempts ≡ before ++ earlier ∷ after
   pub own : earlier.id.client ≡ y.client
-  pub past : earlier.id.command < y.command
+  pub precedes : (a : Attempt) → Contains (before ++ earlier ∷ []) a → IsOfCommand y a → ⊥
   pub told : Contains (before ++ earlier ∷ []) x
 
 -- an attempt has an epoch of its own, so it reads at no snapshot
@@ -32,8 +37,8 @@ pub record HasEpoch (s : Script) (attempts : List Attempt) (x : Attempt) (e : Ep
   pub plain : has_own_epoch s x ≡ true
   pub epoch : x.epoch ≡ Some e
 
--- The clocks keep the bound: whoever was answered before a command began has an epoch that is above no epoch of that command's attempts by
--- more than `epsilon` ticks.
+-- The clocks keep the bound: an attempt that was answered before a command began has an epoch that is above the least epoch of the command's
+-- attempts by `epsilon` ticks at most; that is to say, above no epoch of them by more. Attempts that read at snapshots don't count.
 abbrev pub KeepsTheBound : Script → ℕ → List Line → Type 0
 KeepsTheBound s epsilon lines =
     (x y : Attempt) (e f : Epoch) → HasEpoch s (tries lines) x e → HasEpoch s (tries lines) y f → IsAnsweredBefore (tries lines) x y.id → e.0 ≤ f.0 + 256 * epsilon

@@ -1,6 +1,6 @@
 -- Where what was served and stored lies behind what was answered before, and clocks keep the bound, epochs are in the order of real time.
 use Rattle.std.specs.Prelude.{ℕ, suc, ◌≡◌, ◌⊎◌, ◌≤◌, ◌<◌, ◌+◌, ◌*◌, ◌++◌, Bool, true, false, not, is_some, List, [], ◌∷◌, Contains, slice_get, Option, Some, None, refl}
-use Rattle.std.proofs.Common.{sym, ◌∙◌, ap, subst, inl, inr, arith}
+use Rattle.std.proofs.Common.{append_assoc, sym, ◌∙◌, ap, subst, inl, inr, arith}
 use Rattle.std.proofs.lemmas.Bool.{cases_lt}
 use Rattle.base_types.specs.declared.entry.Entry.{Entry}
 use Rattle.base_types.specs.declared.epoch.Epoch.{Epoch}
@@ -30,7 +30,7 @@ use Rattle.daos_model.specs.Prunes.{is_punch, touches}
 use Rattle.daos_model.specs.Transactions.{attempt_ops, read_at, read_of, read_of_op}
 use Rattle.model_laws.specs.DecidedLaws.{has-all}
 use Rattle.model_laws.specs.EntryLaws.{found-has}
-use Rattle.model_laws.specs.Members.{Has, contains-from_has, has-cases, has-from_contains, has-from_map, has-right}
+use Rattle.model_laws.specs.Members.{Has, contains-from_has, has-cases, has-from_contains, has-from_map, has-left, has-right}
 use Rattle.model_laws.specs.PlaceLaws.{leads-object}
 use Rattle.model_laws.specs.TargetLaws.{own-here}
 use Rattle.model_laws.specs.Targets.{is_own}
@@ -52,9 +52,9 @@ use Rattle.world_reads.specs.Versions.{IsWriteAt}
 use Rattle.world_standing.specs.Requests.{heard-right}
 use Rattle.world_standing.specs.Standing.{Standing}
 use Rattle.world_whole.specs.Everything.{AreBefore}
-use Rattle.world_external.specs.Behind.{IsBehind, IsFar, IsFarOfFirst, IsLater, WasAnswered, WritesAt}
+use Rattle.world_external.specs.Behind.{BeganAfter, IsBehind, IsFar, IsFarOfFirst, IsLater, WasAnswered, WritesAt}
 use Rattle.world_external.specs.Cells.{IsAskedAs, MeetsAt, asked-own, group-is_asked, meets, members-under, some-own}
-use Rattle.world_external.specs.Kept.{IsStoredBehind, KeepsOrder, ReadsAt}
+use Rattle.world_external.specs.Kept.{AreInOrder, IsStoredBehind, KeepsOrder, ReadsAt}
 use Rattle.world_external.specs.Order.{AreExternallyConsistent, Conflict, HasSmallerEpoch, IsAnsweredBefore, IsCommitted, KeepsTheBound, WritesWhere}
 use Rattle.world_external.specs.Told.{IsServedAt, line-served, none-has}
 
@@ -95,6 +95,43 @@ access-of ops p i = by z.0.act refl
     by (act.Fetch read) is = Reads at.0 read (ap read_of_op at.1 ∙ ap read_of is) (sym (ap act_path is) ∙ z.2)
     by (act.Change w) is = let m = writes-have 0 ops z.0 w z.1 is in Writes m.0 m.1 (ap write_path m.2 ∙ sym (ap act_path is) ∙ z.2)
 
+-- ---- when a command began
+
+split-at : {T : Type 0} (xs : List T) (x : T) → Has x xs → (before : List T) × (after : List T) × (xs ≡ before ++ x ∷ after)
+split-at [] x i = absurd i
+split-at (y ∷ xs) x (inl same) = ([], xs, ap (λ z. z ∷ xs) (sym same))
+split-at (y ∷ xs) x (inr i) = let k = split-at xs x i in (y ∷ k.0, k.1, ap (λ zs. y ∷ zs) k.2)
+
+-- a line of the client that precedes all lines of a command is of an earlier one, where lines stand in order
+began-after : (attempts : List Attempt) (x y : Attempt) → AreInOrder attempts → Contains attempts y → IsAnsweredBefore attempts x y.id → BeganAfter attempts x y.id
+began-after attempts x y order i k = record { before = k.before; earlier = k.earlier; after = k.after; among = k.among; own = k.own; past = past; told = k.told }
+  where
+    apart : y.id.command ≡ k.earlier.id.command → ⊥
+    apart same = k.precedes k.earlier (contains-from_has (k.before ++ k.earlier ∷ []) k.earlier (has-right k.before (k.earlier ∷ []) k.earlier (inl refl))) (record { client = k.own; command = sym same })
+
+    later : Has y k.after
+    later = by (has-cases k.before (k.earlier ∷ k.after) y (subst (Has y) k.among (has-from_contains attempts y i)))
+      where
+        no : Has y (k.before ++ k.earlier ∷ []) → Has y k.after
+        no j = absurd (k.precedes y (contains-from_has (k.before ++ k.earlier ∷ []) y j) (record { client = refl; command = refl }))
+
+        by : Has y k.before ⊎ Has y (k.earlier ∷ k.after) → Has y k.after
+        by (inl j) = no (has-left k.before (k.earlier ∷ []) y j)
+        by (inr (inl same)) = no (has-right k.before (k.earlier ∷ []) y (inl same))
+        by (inr (inr j)) = j
+
+    low : k.earlier.id.command ≤ y.id.command
+    low =
+        let z = split-at k.after y later in
+        order (k.before ++ k.earlier ∷ z.0) y z.1 k.earlier (k.among ∙ ap (λ zs. k.before ++ k.earlier ∷ zs) z.2 ∙ sym (append_assoc k.before (k.earlier ∷ z.0) (y ∷ z.1))) (has-right k.before (k.earlier ∷ z.0) k.earlier (inl refl)) k.own
+
+    past : k.earlier.id.command < y.id.command
+    past = by (cases_lt k.earlier.id.command y.id.command)
+      where
+        by : (k.earlier.id.command < y.id.command) ⊎ (y.id.command ≤ k.earlier.id.command) → k.earlier.id.command < y.id.command
+        by (inl lt) = lt
+        by (inr ge) = absurd (apart (omega (arith, low, ge)))
+
 -- what a write says of a cell is of its object
 touched-object : (w : Write) (c : Cell) (o : ObjId) → (write_path w).obj ≡ Some o → touches c w ≡ true → c.path.obj ≡ Some o
 touched-object w c o obj touched = by (is_punch w) refl
@@ -130,28 +167,31 @@ module _ (r : Rules) (o : Opening) (held : ℕ → List Version) (h : History) (
   -- ---- two attempts
 
   module _ (x y : Attempt) (there : Contains (tries v.lines) x) (there2 : Contains (tries v.lines) y) (answered : IsAnsweredBefore (tries v.lines) x y.id) where
+    began : BeganAfter (tries v.lines) x y.id
+    began = began-after (tries v.lines) x y K.rising there2 answered
+
     -- they are not one
     never-same : x.id ≡ y.id → ⊥
-    never-same same = by (has-cases answered.before (answered.earlier ∷ []) x (has-from_contains _ x answered.told))
+    never-same same = by (has-cases began.before (began.earlier ∷ []) x (has-from_contains _ x began.told))
       where
         command : x.id.command ≡ y.id.command
         command = ap (λ z. z.command) same
 
-        past : answered.earlier.id.command < y.id.command
-        past = answered.past
+        past : began.earlier.id.command < y.id.command
+        past = began.past
 
-        by : Has x answered.before ⊎ Has x (answered.earlier ∷ []) → ⊥
+        by : Has x began.before ⊎ Has x (began.earlier ∷ []) → ⊥
         by (inl i) =
-            let low : x.id.command ≤ answered.earlier.id.command = K.rising answered.before answered.earlier answered.after x answered.among i (ap (λ z. z.client) same ∙ sym answered.own) in
+            let low : x.id.command ≤ began.earlier.id.command = K.rising began.before began.earlier began.after x began.among i (ap (λ z. z.client) same ∙ sym began.own) in
             omega (arith, low, command, past)
-        by (inr (inl is)) = let at : x.id.command ≡ answered.earlier.id.command = ap (λ (z : Attempt). z.id.command) is in omega (arith, at, command, past)
+        by (inr (inl is)) = let at : x.id.command ≡ began.earlier.id.command = ap (λ (z : Attempt). z.id.command) is in omega (arith, at, command, past)
         by (inr (inr none)) = none
 
     module _ (bound : KeepsTheBound r.script r.epsilon v.lines) (e f : Epoch) (ex : x.epoch ≡ Some e) (fy : y.epoch ≡ Some f) where
       bounded : (z : Attempt) (g : Epoch) → Contains (tries v.lines) z → z.epoch ≡ Some g → z.id.client ≡ y.id.client → z.id.command ≡ y.id.command → e.0 ≤ g.0 + 256 * r.epsilon
       bounded z g i is client command =
           bound x z e g (record { there = there; plain = plain x; epoch = ex }) (record { there = i; plain = plain z; epoch = is })
-          (record { before = answered.before; earlier = answered.earlier; after = answered.after; among = answered.among; own = answered.own ∙ sym client; past = subst (λ n. answered.earlier.id.command < n) (sym command) answered.past; told = answered.told })
+          (record { before = answered.before; earlier = answered.earlier; after = answered.after; among = answered.among; own = answered.own ∙ sym client; precedes = λ a j of_it. answered.precedes a j (record { client = of_it.client ∙ client; command = of_it.command ∙ command }); told = answered.told })
 
       -- an attempt of the command up to this one is not the present one
       not-present : (n : ℕ) → n ≤ y.id.attempt → IsPresent r v (record y.id { attempt = n }) → ⊥
@@ -260,7 +300,7 @@ module _ (r : Rules) (o : Opening) (held : ℕ → List Version) (h : History) (
     in-order e f ex fy behind = record { first = e; second = f; its = ex; others = fy; smaller = smaller x y cx.there cy.there answered bound e f ex fy behind }
 
     was : (e : Epoch) → x.epoch ≡ Some e → WasAnswered (tries v.lines) x e y.id
-    was e ex = record { there = cx.there; committed = cx.committed; epoch = ex; before = answered }
+    was e ex = record { there = cx.there; committed = cx.committed; epoch = ex; before = began x y cx.there cy.there answered }
 
     -- both write
     both-write : (m n : MinorWrite) → Has m (writes_of r x.id) → Has n (writes_of r y.id) → overlaps (write_path m.write) (write_path n.write) ≡ true → HasSmallerEpoch x y

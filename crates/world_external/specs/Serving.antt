@@ -73,9 +73,9 @@ module _ (r : Rules) (o : Opening) (held : List Version) (h : History) (w : Worl
   pub silent-seen : (heard : Message) (posts : List Post) → NoneIs is_answer posts → AnswersAreSeen heard posts
   silent-seen heard posts silent p i is = clash (is_answer p.message) is (silent p i)
 
-  one-silent : (heard : Message) (p : Post) → is_answer p.message ≡ false → AnswersAreSeen heard (p ∷ [])
-  one-silent heard p off z (inl same) is = clash (is_answer z.message) is (ap (λ y. is_answer y.message) same ∙ off)
-  one-silent heard p off z (inr j) is = absurd j
+  one-unanswered : (heard : Message) (p : Post) → is_answer p.message ≡ false → AnswersAreSeen heard (p ∷ [])
+  one-unanswered heard p off z (inl same) is = clash (is_answer z.message) is (ap (λ y. is_answer y.message) same ∙ off)
+  one-unanswered heard p off z (inr j) is = absurd j
 
   -- ---- a Fetch
 
@@ -88,14 +88,11 @@ module _ (r : Rules) (o : Opening) (held : List Version) (h : History) (w : Worl
     abbrev MidHere : read.FetchStage → Kept → Type 0
     MidHere g k = Mid r o held h served snaps s.opening t n reading q g k × (k.durable.conts ≡ s.durable.conts)
 
-    Answered : TargetMemory × Did → Type 0
-    Answered left = AnswersAreSeen heard left.1.posts
-
     pub ends-seen : (from : ActorId) (g : read.FetchStage) (k : Kept) (left : TargetMemory × Did) → read.FetchEnds (target_plan r t) n reading q from g k left → MidHere g k → AnswersAreSeen heard left.1.posts
-    ends-seen from g k left (read.IsSpent k' z off none is) p = subst (λ (y : TargetMemory × Did). AnswersAreSeen heard y.1.posts) (sym is) (one-silent heard _ refl)
-    ends-seen from g k left (read.IsRefused k' e decided c z why is) p = subst (λ (y : TargetMemory × Did). AnswersAreSeen heard y.1.posts) (sym is) (one-silent heard _ refl)
-    ends-seen from g k left (read.MeetsUnresolved k' e decided a z none at other own is) p = subst (λ (y : TargetMemory × Did). AnswersAreSeen heard y.1.posts) (sym is) (one-silent heard _ refl)
-    ends-seen from g k left (read.IsParked k' e decided a leader z none at other is) p = subst (λ (y : TargetMemory × Did). AnswersAreSeen heard y.1.posts) (sym is) (one-silent heard _ refl)
+    ends-seen from g k left (read.IsSpent k' z off none is) p = subst (λ (y : TargetMemory × Did). AnswersAreSeen heard y.1.posts) (sym is) (one-unanswered heard _ refl)
+    ends-seen from g k left (read.IsRefused k' e decided c z why is) p = subst (λ (y : TargetMemory × Did). AnswersAreSeen heard y.1.posts) (sym is) (one-unanswered heard _ refl)
+    ends-seen from g k left (read.MeetsUnresolved k' e decided a z none at other own is) p = subst (λ (y : TargetMemory × Did). AnswersAreSeen heard y.1.posts) (sym is) (one-unanswered heard _ refl)
+    ends-seen from g k left (read.IsParked k' e decided a leader z none at other is) p = subst (λ (y : TargetMemory × Did). AnswersAreSeen heard y.1.posts) (sym is) (one-unanswered heard _ refl)
     ends-seen from g k left (read.IsServed k' e decided answer z none at is) p = subst (λ (y : TargetMemory × Did). AnswersAreSeen heard y.1.posts) (sym is) only
       where
         later : read.later_unless q.snapshot (read.later_of (target_plan r t) q.first e (read_path q.read) k.durable) ≡ None
