@@ -16,7 +16,7 @@ use Rattle.report_writer.specs.Reports.{report_text}
 use Rattle.model_reports.specs.Rooms.{FindsRoom, HasRoom}
 use Rattle.daos_run.specs.Alone.{IsOfLoneClient}
 use Rattle.daos_run.specs.Comes.{FollowsFromZeros}
-use Rattle.daos_run.specs.Legal.{IsLegal}
+use Rattle.daos_run.specs.Legal.{IsInRealTime, IsLegal}
 use Rattle.daos_status.specs.declared.status.Status.{Status}
 use Rattle.daos_status.specs.declared.status.Status.TheVariants as status
 use Rattle.daos_summary.specs.Summaries.{summary_text}
@@ -26,13 +26,14 @@ use Rattle.world_lone.specs.LoneRuns.{AreIssuedThere}
 
 -- What the report of a run is: legal for the script by the headline, over regions of zeros that nothing disturbs, whichever attempts are taken
 -- as resolved; and in the form in which a text determines its report.
--- It tells of turns in the order asked; the targets of the run issued all epochs; where there is room for all that the script writes, no attempt is
+-- It tells of turns in the order asked; the targets of the run issued all epochs, whose order is that of real time where the clocks keep the bound; where there is room for all that the script writes, no attempt is
 -- refused for want of it; and a client that is alone is never told to restart where the script asks for no stop.
 pub record IsRunReport (g : Given) (q : Report) : Type 0 where
   pub form : IsReportOf g.script q
   pub legal : IsLegal g q
   pub ordered : FollowsFromZeros g q
   pub issued : AreIssuedThere q
+  pub in_real_time : IsInRealTime g q
   pub room : HasRoom g.script g.job.attempts g.opening.free → FindsRoom q
   pub lone : HasOneClient g.script → g.script.stops ≡ [] → IsOfLoneClient g q
 

@@ -23,7 +23,7 @@ use Rattle.daos_run.specs.Starts.{IsNewStore}
 use Rattle.daos_run.specs.Stops.{HasRisen, IsOpeningFault, MayStop}
 use Rattle.daos_run.proofs.Places.{in-place, store-at, stores-many}
 use Rattle.daos_run.proofs.Unstopped.{no-down-told, no-stops-told}
-use Rattle.run_targets.specs.Ends.{IsLegal, IsOrdered, IsOutside, from-map, given_by, legal-by-any, one-there}
+use Rattle.run_targets.specs.Ends.{IsInRealTime, IsLegal, IsOrdered, IsOutside, from-map, given_by, legal-by-any, one-there}
 use Rattle.run_opening.specs.All.{AreKept}
 use Rattle.run_opening.specs.Laws.{AreUnused}
 use Rattle.run_opening.specs.Opened.{enlisted_family, keeps, lasting_snaps}
@@ -226,6 +226,9 @@ module _ {C : Type 0} (targets size_mib : ℕ) (slots : List (Option (PlainStore
 
         pub issued-there : IfOk result AreIssuedThere
         issued-there = on-ok result (λ q K. K.comes.issued) R
+
+        pub in-real-time : IfOk result (IsInRealTime (fresh s j))
+        in-real-time = on-ok result (λ q K. K.comes.in_real_time) R
 
         pub none-down : IfOk result (λ q. q.down ≡ None)
         none-down = on-ok result (λ q K. no-down-told (fresh s j) (resolved (durables_of (ordered q K).follows.last)) q (headline q K).told) R

@@ -2,7 +2,7 @@
 ghost use Rattle.std.specs.Prelude.{◌≡◌, ◌≤◌, [], replicate, IfOk, IsOkUnless, None, OnOk};
 ghost use Rattle.daos_model.specs.Opening.{fresh};
 ghost use Rattle.daos_run.specs.Comes.{FollowsFromZeros};
-ghost use Rattle.run_targets.specs.Ends.{IsLegal};
+ghost use Rattle.run_targets.specs.Ends.{IsInRealTime, IsLegal};
 ghost use Rattle.report_writer.specs.Forms.{IsReportOf};
 ghost use Rattle.model_reports.specs.Lone.{HasOneClient};
 ghost use Rattle.model_reports.specs.Rooms.{FindsRoom, HasRoom};
@@ -73,6 +73,7 @@ pub fn run_script<R: Threads + Wait + Sync, B: Rack, G: Gate + Sync>(
     ensures form { ScriptHasKeys script.now → IfOk result (IsReportOf script.now) }
     ensures ordered { IfOk result (FollowsFromZeros (fresh script.now job.now)) }
     ensures issued { IfOk result AreIssuedThere }
+    ensures in_real_time { IfOk result (IsInRealTime (fresh script.now job.now)) }
     ensures none_down { IfOk result (λ report. report.down ≡ None) }
     ensures room { HasRoom script.now job.now.attempts (fresh script.now job.now).opening.free → IfOk result FindsRoom }
     ensures lone { HasOneClient script.now → script.now.stops ≡ [] → IfOk result (IsOfLoneClient (fresh script.now job.now)) }

@@ -46,6 +46,8 @@ use Rattle.world_base.specs.Events.{Rules, target_plan}
 use Rattle.world_causes.specs.Causes.{is_try}
 use Rattle.world_legal.specs.closing.Closing.{report_over}
 use Rattle.world_ends.specs.Ends.{durable_of, durables_of, rules_of}
+use Rattle.world_external.specs.Order.{AreExternallyConsistent, KeepsTheBound}
+use Rattle.world_external.specs.Runs.{runs-are-consistent}
 use Rattle.world_facts.specs.Facts.{IsMember}
 use Rattle.world_lives.specs.Legal.{AreCaused}
 use Rattle.world_lone.specs.LoneRuns.{AreIssuedThere}
@@ -222,6 +224,12 @@ module _ {S C : Type 0} (durable : S → Option Durable) (state : S → State) (
       issued : AreIssuedThere report
       issued = subst AreIssuedThere same-report (orders-issue g first last goes)
 
+      -- where the clocks keep the bound, the order of its epochs is that of real time
+      in-real-time : KeepsTheBound g.script g.job.epsilon lines → AreExternallyConsistent g.script lines
+      in-real-time bound =
+          subst (AreExternallyConsistent g.script) (sym run.told)
+          (runs-are-consistent r g.opening first last k.simple begun (orders-are-runs r g.job.order first last run.run) (subst (KeepsTheBound g.script g.job.epsilon) run.told bound))
+
       -- a target that wasn't given up runs there
       runs-there : (t : ℕ) (z : S) (s : TargetState) → slice_get (stores_of ys) t ≡ Some z → slice_get last.targets t ≡ Some s → (Contains (down_targets lines) t → ⊥) → s.life ≡ Running
       runs-there t z s at here up = elim (leaves.targets t s here) as (λ x. s.life ≡ Running) [ inl runs ↦ runs | inr down ↦ absurd (up (down-told t s here down)) ]
@@ -305,6 +313,7 @@ module _ {S C : Type 0} (durable : S → Option Durable) (state : S → State) (
       stand = λ lasts o m outside. stand lasts m o outside;
       form = in-form some so typed byte;
       issued = issued some so;
+      in_real_time = in-real-time some so;
       running = store-runs some so;
       settled = record { entries = entries some so; held = held };
       unstopped = ends-unstopped some so;

@@ -1,7 +1,7 @@
 use Rattle.std.specs.Prelude.{◌*◌, ◌-◌, IfOk, refl}
 use Rattle.std.proofs.Common.{subst}
 use Rattle.daos_run.proofs.Lone.{is-of-lone-client}
-use Rattle.daos_run.proofs.Plain.{all-come, all-free, all-kept, all-open, all-run, follows-order, in-form, is-fresh, issued-there, legal, none-down, of-lone, on-ok, only-memory}
+use Rattle.daos_run.proofs.Plain.{all-come, all-free, all-kept, all-open, all-run, follows-order, in-form, in-real-time, is-fresh, issued-there, legal, none-down, of-lone, on-ok, only-memory}
 use Rattle.run_targets.specs.Ends.{TellsOfLoneClient}
 use Rattle.daos_run.proofs.run.run_script.Goals as goal
 
@@ -30,6 +30,11 @@ pub returns-clause-issued : goal.returns-clause-issued
 returns-clause-issued g c =
     let new = c.in_ok-set_all.ensures.set in
     issued-there c.args.job.now.targets c.args.job.now.size_mib c.set_all.new.parts new c.run_on.new.parts c.run_on.ensures.set c.run_on.ensures.served c.args.script.now c.args.job.now refl c.run_on.result (all-come c.args.job.now.targets c.args.job.now.size_mib c.set_all.new.parts new c.run_on.new.parts c.run_on.ensures.set c.run_on.ensures.served c.args.script.now c.args.job.now refl c.run_on.result (c.run_on.ensures.comes _ (all-kept c.args.job.now.targets c.args.job.now.size_mib c.set_all.new.parts new) (λ t. c.args.job.now.size_mib * 4096 - 1264) (all-free c.args.job.now.targets c.args.job.now.size_mib c.set_all.new.parts new)))
+
+pub returns-clause-in_real_time : goal.returns-clause-in_real_time
+returns-clause-in_real_time g c =
+    let new = c.in_ok-set_all.ensures.set in
+    in-real-time c.args.job.now.targets c.args.job.now.size_mib c.set_all.new.parts new c.run_on.new.parts c.run_on.ensures.set c.run_on.ensures.served c.args.script.now c.args.job.now refl c.run_on.result (all-come c.args.job.now.targets c.args.job.now.size_mib c.set_all.new.parts new c.run_on.new.parts c.run_on.ensures.set c.run_on.ensures.served c.args.script.now c.args.job.now refl c.run_on.result (c.run_on.ensures.comes _ (all-kept c.args.job.now.targets c.args.job.now.size_mib c.set_all.new.parts new) (λ t. c.args.job.now.size_mib * 4096 - 1264) (all-free c.args.job.now.targets c.args.job.now.size_mib c.set_all.new.parts new)))
 
 pub returns-clause-none_down : goal.returns-clause-none_down
 returns-clause-none_down g c =
