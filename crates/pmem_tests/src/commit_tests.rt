@@ -43,8 +43,9 @@ pub(crate) fn bytes_after<R: Region + Drop>(alloc: Global, undo: UndoRegion<R>) 
     }
 }
 
-// Commits `old`, then `new`, whose commit begins with the sixth write, and opens the region anew.
-fn row(alloc: Global, fails: &[u32], keep: Keep, fuse: u32) -> Option<(bool, [u8; 3])> {
+// Commits `old`, then `new`, whose commit begins with the sixth write, and opens the region anew: whether
+// the second commit was made, and whether the bytes are these.
+fn row(alloc: Global, fails: &[u32], keep: Keep, fuse: u32, left: &[u8]) -> Option<(bool, bool)> {
     let mut region = match MemRegion::new(alloc, SIZE, fails, keep) {
         Ok(region) => Fused::new(region),
         Err(_) => return None,
@@ -57,7 +58,7 @@ fn row(alloc: Global, fails: &[u32], keep: Keep, fuse: u32) -> Option<(bool, [u8
             let second = commit(&mut undo, b"new");
             let bytes = bytes_after(alloc, undo)?;
             match (first, second) {
-                (Some(true), Some(done)) => Some((done, bytes)),
+                (Some(true), Some(done)) => Some((done, bytes.as_slice() == left)),
                 _ => None,
             }
         }
@@ -74,8 +75,8 @@ fn leaves(
     committed: bool,
     left: &[u8],
 ) -> bool {
-    match row(alloc, fails, keep, fuse) {
-        Some((done, bytes)) => done == committed && bytes.as_slice() == left,
+    match row(alloc, fails, keep, fuse, left) {
+        Some((done, same)) => done == committed && same,
         None => false,
     }
 }
