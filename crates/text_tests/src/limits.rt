@@ -17,7 +17,7 @@ enum Found {
     Other,
 }
 
-fn found(alloc: Global, text: &[u8]) -> Found {
+fn found_in(alloc: Global, text: &[u8]) -> Found {
     match read_script(alloc, text, 1) {
         Ok(_) => Found::Script,
         Err(ScriptNo::Fault(fault)) => match fault.why {
@@ -43,7 +43,7 @@ fn found_of(alloc: Global, before: &[u8], piece: &[u8], count: u32) -> Option<Fo
     let mut text = Vec::from_slice(alloc, HEAD).ok()?;
     add(&mut text, before, 1)?;
     add(&mut text, piece, count)?;
-    Some(found(alloc, &text))
+    Some(found_in(alloc, &text))
 }
 
 #[test]
@@ -78,7 +78,7 @@ fn found_of_lines(alloc: Global, kind: u8, count: u32) -> Option<Found> {
     for number in 1..=count {
         add_line(alloc, &mut text, kind, number)?;
     }
-    Some(found(alloc, &text))
+    Some(found_in(alloc, &text))
 }
 
 #[test]
@@ -97,13 +97,13 @@ fn containers_objects_and_old_snapshots_have_limits(rt: HostRuntime) {
 fn found_of_many_bytes(alloc: Global) -> Option<[Found; 3]> {
     let mut text = Vec::new(alloc);
     add(&mut text, b"# 345678901234567890123456789 1\n", 524_288)?;
-    let most = found(alloc, &text);
+    let most = found_in(alloc, &text);
     text.push(b'\n').ok()?;
-    let more = found(alloc, &text);
+    let more = found_in(alloc, &text);
     if let Some(first) = text.first_mut() {
         *first = b'!';
     }
-    Some([most, more, found(alloc, &text)])
+    Some([most, more, found_in(alloc, &text)])
 }
 
 #[test]
@@ -122,7 +122,7 @@ fn found_of_put(alloc: Global, sign: &[u8], piece: &[u8], rest: &[u8]) -> Option
     add(&mut text, sign, 1)?;
     add(&mut text, piece, 512)?;
     add(&mut text, rest, 1)?;
-    Some(found(alloc, &text))
+    Some(found_in(alloc, &text))
 }
 
 #[test]
