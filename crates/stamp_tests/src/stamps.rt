@@ -160,12 +160,21 @@ fn two_akeys_share_a_slot(rt: HostRuntime) {
     assert!(rt; shares_with_188(rt.alloc()) == Some(294));
 }
 
-// Reads of akeys of so many other dkeys, all at 300, or each at a later epoch from 512 on.
-fn read_elsewhere(alloc: Global, stamps: &mut Stamps, many: u32, rises: bool) -> Option<()> {
+// Reads of akeys of so many other dkeys, each at one epoch.
+fn read_elsewhere(alloc: Global, stamps: &mut Stamps, many: u32) -> Option<()> {
     for number in 0..many {
         let path = elsewhere(alloc, number)?;
-        let epoch = if rises { 512 + u64::from(number) } else { 300 };
-        stamps.read(&path, Epoch(epoch), READER).ok()?;
+        stamps.read(&path, Epoch(300), READER).ok()?;
+    }
+    Some(())
+}
+
+// Reads of so many keys, one after another, each at a later epoch.
+fn read_many(alloc: Global, stamps: &mut Stamps, many: u32) -> Option<()> {
+    for number in 0..many {
+        let path = elsewhere(alloc, number)?;
+        let epoch = Epoch(512 + u64::from(number));
+        stamps.read(&path, epoch, READER).ok()?;
     }
     Some(())
 }
@@ -175,7 +184,7 @@ fn read_elsewhere(alloc: Global, stamps: &mut Stamps, many: u32, rises: bool) ->
 fn told_after(alloc: Global, others: u32) -> Option<(u64, u64, u32)> {
     let first = numbered(alloc, 188)?;
     let mut stamps = with_a_read(alloc, &first)?;
-    read_elsewhere(alloc, &mut stamps, others, false)?;
+    read_elsewhere(alloc, &mut stamps, others)?;
     let second = numbered(alloc, 294)?;
     let (one, two) = (told(&stamps, &first, 256), told(&stamps, &second, 256));
     Some((one, two, stamps.held()))
@@ -212,7 +221,7 @@ fn first_forgotten(alloc: Global, stamps: &Stamps, many: u32) -> Option<u32> {
 // How many entities are held after so many reads, each at a later epoch, and the first read that is forgotten.
 fn many_read(alloc: Global, many: u32) -> Option<(u32, u32)> {
     let mut stamps = Stamps::new(alloc).ok()?;
-    read_elsewhere(alloc, &mut stamps, many, true)?;
+    read_many(alloc, &mut stamps, many)?;
     let forgotten = first_forgotten(alloc, &stamps, many)?;
     Some((stamps.held(), forgotten))
 }
