@@ -179,15 +179,31 @@ fn read_many(alloc: Global, stamps: &mut Stamps, many: u32) -> Option<()> {
     Some(())
 }
 
-// What writes of the two akeys at 256 are told after a read of the first at 512 and so many reads of
-// akeys of other dkeys at 300, and how many entities are held then.
+// The timestamps of a read at 512, and then of so many reads of akeys of other dkeys at 300.
+fn with_others(alloc: Global, path: &Path, others: u32) -> Option<Stamps>
+    requires { is_path_in_form path.now ≡ true }
+{
+    let mut stamps = with_a_read(alloc, path)?;
+    read_elsewhere(alloc, &mut stamps, others)?;
+    Some(stamps)
+}
+
+// What writes of two paths at 256 are told after these reads, the first of which is of the first path, and how many
+// entities are held then.
+fn told_of_both(alloc: Global, first: &Path, second: &Path, others: u32) -> Option<(u64, u64, u32)>
+    requires first { is_path_in_form first.now ≡ true }
+    requires second { is_path_in_form second.now ≡ true }
+{
+    let stamps = with_others(alloc, first, others)?;
+    let (one, two) = (told(&stamps, first, 256), told(&stamps, second, 256));
+    Some((one, two, stamps.held()))
+}
+
+// The same of the two akeys that share a slot.
 fn told_after(alloc: Global, others: u32) -> Option<(u64, u64, u32)> {
     let first = numbered(alloc, 188)?;
-    let mut stamps = with_a_read(alloc, &first)?;
-    read_elsewhere(alloc, &mut stamps, others)?;
     let second = numbered(alloc, 294)?;
-    let (one, two) = (told(&stamps, &first, 256), told(&stamps, &second, 256));
-    Some((one, two, stamps.held()))
+    told_of_both(alloc, &first, &second, others)
 }
 
 // How many entities are held, and what is told, another program told.
