@@ -199,9 +199,10 @@ fn shown<L: Ledger>(
 {
     let objects = store.objects();
     let read = Read::Single(path(alloc, unit, akey)?);
-    let (pages, below) = (&mut store.pages, Epoch(below));
-    let found = objects.fetch(pages, alloc, &read, below, &store.punches, steps);
-    match found.ok()? {
+    match objects
+        .fetch(&mut store.pages, alloc, &read, Epoch(below), steps)
+        .ok()?
+    {
         Answer::Bytes(bytes) => bytes.as_slice().first().copied(),
         _ => Some(0),
     }

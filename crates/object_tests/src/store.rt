@@ -13,8 +13,6 @@ use pmem_tree::tree::Tree;
 use std::alloc::Global;
 use std::sync::ledger::Ledger;
 use vos_object::object::Objects;
-use vos_punches::punches::Punches;
-use vos_values::keys::Moment;
 
 /// The attempt that writes.
 pub(crate) const BY: AttemptId = AttemptId {
@@ -23,23 +21,18 @@ pub(crate) const BY: AttemptId = AttemptId {
     attempt: 3,
 };
 
-/// Objects on trees, by the root of theirs, and the punches that were made of them.
+/// Objects on trees, by the root of theirs.
 #[derive(Drop)]
 pub(crate) struct Store {
     pub pages: MemPages,
     pub root: u32,
-    pub punches: Punches,
 }
 
 impl Store {
     /// No object yet, in so many blocks.
     pub(crate) fn empty(alloc: Global, blocks: u32) -> Option<Store> {
         let pages = MemPages::new(alloc, blocks).ok()?;
-        Some(Store {
-            pages,
-            root: 0,
-            punches: Punches::new(alloc),
-        })
+        Some(Store { pages, root: 0 })
     }
 
     /// The objects.
@@ -74,7 +67,6 @@ impl Store {
     /// Makes a punch.
     pub(crate) fn punch<L: Ledger>(
         &mut self,
-        alloc: Global,
         epoch: u64,
         write: &MinorWrite,
         steps: &mut Steps<L>,
@@ -86,17 +78,6 @@ impl Store {
         let mut objects = self.objects();
         let made = objects.punch(&mut self.pages, Epoch(epoch), BY, write, steps);
         self.root = objects.tree.root;
-        made.ok()?;
-        self.note(alloc, Epoch(epoch), write)
-    }
-
-    // Notes where and when a punch was made.
-    fn note(&mut self, alloc: Global, epoch: Epoch, write: &MinorWrite) -> Option<()> {
-        let path = write.write.path().copy().ok()?;
-        let at = Moment {
-            epoch,
-            minor: write.minor,
-        };
-        self.punches.add(alloc, path, at).ok()
+        made.ok()
     }
 }
