@@ -7,3 +7,4 @@ pub mod Paths
 pub mod Placement
 pub mod PlacementLaws
 pub mod Scripts
+pub mod Tags

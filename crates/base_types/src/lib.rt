@@ -18,3 +18,4 @@ pub mod script;
 pub mod shown;
 pub mod slot;
 pub mod snapshot;
+pub mod tag;

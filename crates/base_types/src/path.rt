@@ -41,8 +41,8 @@ impl Level {
     }
 }
 
-// Whether two objects, or none, are the same.
-fn same_objects(one: Option<ObjId>, other: Option<ObjId>) -> bool
+/// Whether two objects, or none, are the same.
+pub fn same_objects(one: Option<ObjId>, other: Option<ObjId>) -> bool
     ensures { result ≡ option_eq same_object one other }
 {
     match (one, other) {
@@ -52,8 +52,8 @@ fn same_objects(one: Option<ObjId>, other: Option<ObjId>) -> bool
     }
 }
 
-// Whether two keys, or none, are the same.
-fn same_keys(one: &Option<Key>, other: &Option<Key>) -> bool
+/// Whether two keys, or none, are the same.
+pub fn same_keys(one: &Option<Key>, other: &Option<Key>) -> bool
     ensures { result ≡ option_eq same_key one.now other.now }
 {
     match (one, other) {

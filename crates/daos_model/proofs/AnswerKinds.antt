@@ -16,7 +16,7 @@ use Rattle.base_types.specs.declared.path.Path.{Path}
 use Rattle.base_types.specs.Paths.{leads_to, record_size, same_path}
 use Rattle.daos_model.specs.declared.cell.CellValue.{CellValue}
 use Rattle.daos_model.specs.declared.durable.Version.{Version}
-use Rattle.daos_model.specs.Answers.{answer, has_cell_below, hole_before, index_before, pieces, record_at, record_before, record_of, value_answer, yes_or_no}
+use Rattle.daos_model.specs.Answers.{akeys_below, answer, dkeys_below, has_cell_below, hole_before, index_before, pieces, record_at, record_before, record_of, value_answer, yes_or_no}
 use Rattle.daos_model.specs.BoolLaws.{and_left, and_right, both}
 use Rattle.daos_model.specs.Cells.{index_cell, same_cell, single_cell, value_at}
 use Rattle.daos_model.specs.Durables.{is_version_in_form}
@@ -24,6 +24,7 @@ use Rattle.daos_model.specs.Effect.{effect, effects, record_cells, records_of, w
 use Rattle.daos_model.specs.ExtentForms.{read-size}
 use Rattle.daos_model.specs.Forms.{ends_at_akey, is_length, is_read_in_form, is_write_in_form}
 use Rattle.daos_model.specs.Kinds.{are_joined, are_pieces, is_of_kind, is_piece, pieces_length}
+use Rattle.daos_model.specs.OrderLaws.{rising-names}
 use Rattle.daos_model.specs.Versions.{map_below, sees, writes_in}
 
 -- ---- values of maps
@@ -228,6 +229,6 @@ pub kind-answer : (r : Read) (vs : List Version) (e : ℕ) → is_read_in_form r
 unfolding is_of_kind
 kind-answer (read.Single p) vs e k f = single_kind p (value_at (map_below vs e) (single_cell p)) (single_value (map_below vs e) p (map_values vs e f))
 kind-answer (read.Extent p low len) vs e k f = are_pieces-pieces p low len (map_below vs e) (read-size p low len k)
-kind-answer (read.Dkeys p) vs e k f = refl
-kind-answer (read.Akeys p) vs e k f = refl
+kind-answer (read.Dkeys p) vs e k f = rising-names (dkeys_below p (map_below vs e))
+kind-answer (read.Akeys p) vs e k f = rising-names (akeys_below p (map_below vs e))
 kind-answer (read.Exists p) vs e k f = yes_kind p (has_cell_below p (map_below vs e))

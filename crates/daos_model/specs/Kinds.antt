@@ -9,6 +9,7 @@ use Rattle.base_types.specs.declared.operation.Read.{Read}
 use Rattle.base_types.specs.declared.operation.Read.TheVariants as read
 use Rattle.base_types.specs.Paths.{record_size}
 use Rattle.daos_model.specs.Forms.{is_length}
+use Rattle.daos_model.specs.Ordered.{is_rising}
 
 -- the number of records of a size that a piece has
 abbrev pub piece_length : ℕ → Piece → ℕ
@@ -43,12 +44,14 @@ are_joined (p ∷ q ∷ ps) = are_unlike p q && are_joined (q ∷ ps)
 abbrev pub are_pieces : ℕ → ℕ → List Piece → Bool
 are_pieces size len ps = (pieces_length size ps == len) && list_all (is_piece size) ps && are_joined ps
 
+-- The read that an answer answers: a value has a length that values have, an array's pieces are as many records as were asked, and names stand in
+-- byte order, each once.
 unfoldable pub is_of_kind : Read → Answer → Bool
 is_of_kind (read.Single p) (Bytes bytes) = is_length (length bytes)
 is_of_kind (read.Single p) Absent = true
 is_of_kind (read.Extent p low len) (Parts ps) = are_pieces (record_size p) len ps
-is_of_kind (read.Dkeys p) (Names ks) = true
-is_of_kind (read.Akeys p) (Names ks) = true
+is_of_kind (read.Dkeys p) (Names ks) = is_rising (λ k. k) ks
+is_of_kind (read.Akeys p) (Names ks) = is_rising (λ k. k) ks
 is_of_kind (read.Exists p) Yes = true
 is_of_kind (read.Exists p) No = true
 is_of_kind r a = false

@@ -9,7 +9,7 @@ pub mod effect;
 pub mod laws;
 pub mod map;
 pub mod moments;
-mod names;
+pub mod names;
 mod pieces;
 pub mod prunes;
 pub mod records;

@@ -29,9 +29,10 @@ use Rattle.daos_model.specs.Forms.{ends_at_akey, is_length, is_write_in_form}
 use Rattle.daos_model.specs.Prunes.{touches, values_of}
 use Rattle.daos_model.specs.Ordered.{is_rising}
 use Rattle.daos_model.specs.Sameness.{same_cell-Decides}
+use Rattle.daos_model.specs.OrderLaws.{rising-names}
 use Rattle.model_laws.specs.Groups.{DkeysAreJoined, DkeysHaveOneGroup, ExistsIsJoined, GroupPartsAreParts, HasDkeys, IsPartUnder, WritesKeepDkeys, group_part, is_dkey_of_group, is_in_group, join_all, join_more}
 use Rattle.model_laws.specs.Members.{Has, any-has, has-any, has-cases, has-left, has-right}
-use Rattle.model_laws.specs.NameLaws.{has-from_names, has-names, rising-names}
+use Rattle.model_laws.specs.NameLaws.{has-from_names, has-names}
 use Rattle.model_laws.specs.ReadLaws.{Held, Named, dkey_name, answer-same, dkeys-has, has-dkeys, has-under, held-same, under-has}
 use Rattle.model_laws.specs.RisingLaws.{rising-same}
 use Rattle.model_laws.specs.WriteLaws.{after_write, value-effect}

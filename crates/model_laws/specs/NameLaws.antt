@@ -2,11 +2,9 @@
 use Rattle.std.specs.Prelude.{ℕ, ◌≡◌, Bool, true, false, List, [], ◌∷◌, if◌then◌else◌, refl}
 use Rattle.std.proofs.Common.{◌∙◌, ap, inl, inr}
 use Rattle.daos_model.specs.Answers.{in_byte_order, is_before, name_among}
-use Rattle.daos_model.specs.BoolLaws.{and_left, and_right, both}
-use Rattle.daos_model.specs.OrderLaws.{before-total, before-trans}
-use Rattle.daos_model.specs.Ordered.{all_after, is_rising}
+use Rattle.daos_model.specs.OrderLaws.{before-total, rising-names}
 use Rattle.model_laws.specs.Members.{Has}
-use Rattle.model_laws.specs.RisingLaws.{after-all, after-has, rising-same}
+use Rattle.model_laws.specs.RisingLaws.{rising-same}
 
 abbrev itself : List ℕ → List ℕ
 itself k = k
@@ -37,38 +35,7 @@ has-from_among k (n ∷ ns) x h = by (has-from_among k ns x) (is_before k n) (is
     by rest false true (inr i) = deeper (rest i)
     by rest false false h = inr h
 
-rising-among : (k : List ℕ) (ns : List (List ℕ)) → is_rising itself ns ≡ true → is_rising itself (name_among k ns) ≡ true
-rising-among k [] r = refl
-rising-among k (n ∷ ns) r = by (rising-among k ns) (is_before k n) (is_before n k) refl refl
-  where
-    after : all_after itself n ns ≡ true
-    after = and_left (all_after itself n ns) (is_rising itself ns) r
-
-    rest : is_rising itself ns ≡ true
-    rest = and_right (all_after itself n ns) (is_rising itself ns) r
-
-    all_later : is_before k n ≡ true → (x : List ℕ) → Has x (n ∷ ns) → is_before k x ≡ true
-    all_later e x (inl same) = ap (is_before k) same ∙ e
-    all_later e x (inr i) = before-trans k n x e (after-has itself n ns x after i)
-
-    among_later : is_before n k ≡ true → (x : List ℕ) → Has x (k ∷ ns) → is_before n x ≡ true
-    among_later f x (inl same) = ap (is_before n) same ∙ f
-    among_later f x (inr i) = after-has itself n ns x after i
-
-    by : (is_rising itself ns ≡ true → is_rising itself (name_among k ns) ≡ true) → (a b : Bool) → is_before k n ≡ a → is_before n k ≡ b → is_rising itself (if a then k ∷ n ∷ ns else if b then n ∷ name_among k ns else n ∷ ns) ≡ true
-    by more true b e f = both (all_after itself k (n ∷ ns)) (is_rising itself (n ∷ ns)) (after-all itself k (n ∷ ns) (all_later e)) r
-    by more false true e f =
-        both (all_after itself n (name_among k ns)) (is_rising itself (name_among k ns))
-        (after-all itself n (name_among k ns) (λ x i. among_later f x (has-from_among k ns x i))) (more rest)
-    by more false false e f = r
-
--- names in byte order rise
-pub rising-names : (ks : List (List ℕ)) → is_rising (λ k. k) (in_byte_order ks) ≡ true
-unfolding in_byte_order
-rising-names [] = refl
-rising-names (k ∷ ks) = rising-among k (in_byte_order ks) (rising-names ks)
-
--- and are those that were given
+-- names in byte order are those that were given
 pub has-names : (ks : List (List ℕ)) (x : List ℕ) → Has x ks → Has x (in_byte_order ks)
 unfolding in_byte_order
 has-names [] x h = h

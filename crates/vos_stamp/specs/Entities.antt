@@ -1,12 +1,11 @@
 -- The numbers that stand for entities, and what a read raises at the entities on its path.
 use Rattle.std.specs.Prelude.{ℕ, ◌≡◌, ◌≤◌, ◌+◌, ◌*◌, ◌/◌, ◌++◌, Bool, true, false, nat_le, nat_lt, nat_eq, List, [], ◌∷◌, Option, Some, None, Contains, if◌then◌else◌}
-use Rattle.base_types.specs.declared.id.ObjId.{ObjId}
 use Rattle.base_types.specs.declared.path.Level.{Level}
 use Rattle.base_types.specs.declared.path.Level.TheVariants.{Cont, Obj, Dkey, Akey}
 use Rattle.base_types.specs.declared.path.Path.{Path}
 use Rattle.base_types.specs.declared.shown.Shown.{Shown}
-use Rattle.base_types.specs.Hash.{fnv1a, hash_step}
-use Rattle.base_types.specs.Paths.{class_number, cont_bytes, cut_at, depth, level_of, slot}
+use Rattle.base_types.specs.Paths.{cut_at, depth, level_of, slot}
+use Rattle.base_types.specs.Tags.{tag}
 use Rattle.daos_model.specs.Forms.{is_path_in_form}
 use Rattle.vos_stamp.specs.declared.entity.TheConstants.{SLOTS}
 use Rattle.vos_stamp.specs.declared.marks.Raise.{Raise}
@@ -14,18 +13,6 @@ use Rattle.vos_stamp.specs.declared.table.TheConstants.{OWN}
 use Rattle.vos_stamp.specs.Raised.{AnswersAt, Marked}
 
 -- ---- the number of an entity
-
--- the parts of a path are hashed one after another, as words of 64 bits
-abbrev pub object_tag : ℕ → Option ObjId → ℕ
-object_tag tag None = tag
-object_tag tag (Some o) = hash_step (hash_step (hash_step tag (class_number o.class)) o.unit) o.number
-
-abbrev pub key_tag : ℕ → Option (List ℕ) → ℕ
-key_tag tag None = tag
-key_tag tag (Some k) = hash_step tag (fnv1a k)
-
-abbrev pub tag : Path → ℕ
-tag p = key_tag (key_tag (object_tag (fnv1a (cont_bytes p.cont)) p.obj) p.dkey) p.akey
 
 -- 64 bits that stand for an entity: the last twelve are its slot, the others are of the hash of its parts
 abbrev pub entity : Path → ℕ

@@ -34,6 +34,7 @@ use Rattle.daos_model.specs.Conditions.{holds_where}
 use Rattle.daos_model.specs.Durables.{same_attempt}
 use Rattle.daos_model.specs.EntryLaws.{same_attempt-itself}
 use Rattle.daos_model.specs.Kinds.{is_of_kind}
+use Rattle.daos_model.specs.OrderLaws.{rising-names}
 use Rattle.daos_model.specs.Transactions.{numbered, ops_of, ops_or_none, read_of, read_of_op}
 use Rattle.model_laws.specs.EntryLaws.{same-attempt}
 use Rattle.model_laws.specs.Groups.{join_two}
@@ -375,8 +376,8 @@ moved-fitting p c attempts w told k = by (waits c) refl
 -- what two groups answer joins to an answer of that kind
 join-kind : (r : Read) (a b : Answer) → is_of_kind r a ≡ true → is_of_kind r b ≡ true → is_of_kind r (join_two a b) ≡ true
 unfolding is_of_kind
-join-kind (read.Dkeys p) (answer.Names ks) (answer.Names ls) h k = refl
-join-kind (read.Akeys p) (answer.Names ks) (answer.Names ls) h k = refl
+join-kind (read.Dkeys p) (answer.Names ks) (answer.Names ls) h k = rising-names (ks ++ ls)
+join-kind (read.Akeys p) (answer.Names ks) (answer.Names ls) h k = rising-names (ks ++ ls)
 join-kind (read.Single p) (answer.Names ks) b h k = let no : ⊥ = cc in absurd no
 join-kind (read.Extent p low len) (answer.Names ks) b h k = let no : ⊥ = cc in absurd no
 join-kind (read.Exists p) (answer.Names ks) b h k = let no : ⊥ = cc in absurd no
