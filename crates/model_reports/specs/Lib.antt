@@ -1,4 +1,5 @@
 pub mod Alone
+pub mod Certain
 pub mod Counts
 pub mod Ends
 pub mod Lines
