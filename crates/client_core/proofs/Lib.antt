@@ -7,3 +7,4 @@ pub mod Kept
 pub mod Lighter
 pub mod TurnSteps
 pub mod Plans
+pub mod Taken

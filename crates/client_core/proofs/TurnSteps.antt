@@ -1,14 +1,14 @@
 -- A turn, move by move.
-use Rattle.std.proofs.Common.{◌≡◌, ◌++◌, List, [], None, true, false, refl, sym, ◌∙◌, ap, subst, append_assoc, ◌<◌, rules, Result, Ok, Err, IfOk}
+use Rattle.std.proofs.Common.{◌≡◌, ◌++◌, List, [], None, true, false, refl, sym, ◌∙◌, ap, subst, append_assoc, append-nil, ◌<◌, rules, Result, Ok, Err, IfOk}
 use Rattle.base_types.specs.declared.report.Line.{Line}
 use Rattle.base_messages.specs.declared.message.Message.{Message}
 use Rattle.base_messages.specs.declared.message.Post.{Post}
 use Rattle.world_base.specs.declared.client.ClientPlan.{ClientPlan}
 use Rattle.world_base.specs.declared.client.ClientState.{ClientState}
 use Rattle.world_base.specs.declared.did.Did.{Did}
-use Rattle.world_base.specs.ClientTurns.{ClientDid, HearTurn, Ended_by, Heard_on, Move, Moves, None_yet, One_more, heard, listed, moved}
+use Rattle.world_base.specs.ClientTurns.{ClientDid, HearTurn, Ended_by, Heard_on, Move, Moves, None_yet, One_more, goes, heard, listed, moved}
 use Rattle.client_core.specs.declared.turns.Turn.{Turn}
-use Rattle.client_core.specs.Clients.{GoesOnFrom, IsInPlace, PlanFits}
+use Rattle.client_core.specs.Clients.{GoesOnFrom, IsInPlace, PlanFits, staged}
 use Rattle.client_core.proofs.Kept.{heard_kept, moved_kept}
 use Rattle.client_core.proofs.Lighter.{lighter, weight}
 
@@ -46,6 +46,18 @@ so_far_more p start did after s m so is on adds = subst (λ x. SoFar p start aft
   place = moved_kept p s so.place;
 })
 
+pub lighter_on : (p : ClientPlan) (s : ClientState) (m : Move) → PlanFits p → m ≡ moved p s → m.over ≡ false → weight p m.state < weight p s
+lighter_on p s m fits is on = subst (λ x. weight p x.state < weight p s) (sym is) (lighter p s fits (sym (ap (λ (x : Move). x.over) is) ∙ on))
+
+-- a move that just goes to the next stage adds nothing
+pub so_far_quiet : (p : ClientPlan) (start : Turn) (did : Did) (s t : ClientState) → SoFar p start did s → t ≡ staged s → goes (staged s) ≡ moved p s → SoFar p start did t
+so_far_quiet p start did s t so is quiet =
+    subst (SoFar p start did) (sym is)
+    (so_far_more p start did did s (goes (staged s)) so quiet refl (record { posts = sym (append-nil did.posts); lines = sym (append-nil did.lines); issued = refl }))
+
+pub lighter_quiet : (p : ClientPlan) (s t : ClientState) → PlanFits p → t ≡ staged s → goes (staged s) ≡ moved p s → weight p t < weight p s
+lighter_quiet p s t fits is quiet = subst (λ x. weight p x < weight p s) (sym is) (lighter_on p s (goes (staged s)) fits quiet refl)
+
 -- a move that ends the turn is its last
 pub so_far_last :
     (p : ClientPlan) (start : Turn) (did after : Did) (s : ClientState) (m : Move)
@@ -74,9 +86,6 @@ so_far_last p start did after s m so is over adds = record {
 
 pub kept_last : (p : ClientPlan) (s : ClientState) (m : Move) → IsInPlace p s → m ≡ moved p s → IsInPlace p m.state
 kept_last p s m place is = subst (λ x. IsInPlace p x.state) (sym is) (moved_kept p s place)
-
-pub lighter_on : (p : ClientPlan) (s : ClientState) (m : Move) → PlanFits p → m ≡ moved p s → m.over ≡ false → weight p m.state < weight p s
-lighter_on p s m fits is on = subst (λ x. weight p x.state < weight p s) (sym is) (lighter p s fits (sym (ap (λ (x : Move). x.over) is) ∙ on))
 
 -- ---- a turn in which a message is heard
 

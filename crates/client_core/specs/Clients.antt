@@ -15,6 +15,7 @@ use Rattle.world_base.specs.ClientTurns.{command_at}
 use Rattle.world_base.specs.ClientTurns as turns
 use Rattle.world_base.specs.declared.client.ClientPlan.{ClientPlan}
 use Rattle.world_base.specs.declared.client.ClientState.{ClientState}
+use Rattle.world_base.specs.declared.client.Present.{Present}
 use Rattle.world_base.specs.declared.did.Did.{Did}
 use Rattle.client_core.specs.declared.step.Move.{Move}
 use Rattle.client_core.specs.declared.turns.Turn.{Turn}
@@ -27,6 +28,19 @@ pub record ClientNow : Type 0 where
 -- a move, as the definition of a turn has it
 abbrev pub move_of : Move → turns.Move
 move_of m = record { post = m.post; line = m.line; over = m.over; state = m.state }
+
+-- a client without the attempt that it is at
+abbrev pub at_none : ClientState → ClientState
+at_none c = record c { present = None }
+
+-- an attempt at its next stage, if there is one
+abbrev pub staged_attempt : Option Present → Option Present
+staged_attempt None = None
+staged_attempt (Some a) = Some (turns.next_stage a.stage a)
+
+-- a client whose attempt is at its next stage
+abbrev pub staged : ClientState → ClientState
+staged c = record c { present = staged_attempt c.present }
 
 -- the class of an object, if there is one, fits the targets
 abbrev pub ObjFits : ℕ → Option ObjId → Type 0

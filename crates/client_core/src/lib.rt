@@ -8,5 +8,6 @@ mod ends;
 mod hears;
 mod joins;
 mod moves;
+mod quiet;
 mod step;
 mod turns;

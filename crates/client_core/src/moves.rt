@@ -8,9 +8,8 @@ ghost use Rattle.world_base.specs.declared.client.ClientPlan.{ClientPlan};
 ghost use Rattle.world_base.specs.declared.client.Stage.TheVariants as stage;
 
 use crate::asks::{asks_read, minor_writes, path_leader, question};
-use crate::copies::copy_present;
 use crate::ends::{begins, ends, next_place};
-use crate::step::{Move, at_present, attempt_id};
+use crate::step::{Move, at_present, attempt_id, taken};
 use base_messages::actor::ActorId;
 use base_messages::message::{Message, Post};
 use base_types::epoch::Epoch;
@@ -84,7 +83,7 @@ fn next_stage(present: Present) -> Present
 }
 
 // The turns to skip before an operation, or before the end.
-fn skip_at(turns: &Skips, op: u8) -> u64
+pub(crate) fn skip_at(turns: &Skips, op: u8) -> u64
     ensures { result ≡ skip_at turns.now op }
 {
     turns.as_slice().get(usize::from(op)).copied().unwrap_or(0)
@@ -300,7 +299,8 @@ pub(crate) fn moved(alloc: Global, plan: &ClientPlan, state: ClientState) -> Res
     let Some(command) = command_at(plan, &state) else {
         return Ok(Move::rests(state));
     };
-    match copy_present(alloc, &state.present)? {
+    let (present, state) = taken(state);
+    match present {
         None => Ok(command_moves(alloc, plan, command, state)),
         Some(present) => attempt_moves(alloc, plan, command, state, present),
     }

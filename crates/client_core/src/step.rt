@@ -1,6 +1,6 @@
 // A move of a client, and its kinds.
 ghost use Rattle.std.specs.Prelude.{◌≡◌};
-ghost use Rattle.client_core.specs.Clients.{move_of};
+ghost use Rattle.client_core.specs.Clients.{at_none, move_of};
 ghost use Rattle.world_base.specs.ClientTurns.{asks, at_present, attempt_id, goes, rests, skips};
 
 use base_messages::actor::ActorId;
@@ -43,6 +43,30 @@ pub(crate) fn at_present(present: Present, state: ClientState) -> ClientState
         present: Some(present),
         known: state.known,
     }
+}
+
+// The attempt that a client is at, if it is at one, and the client without it.
+pub(crate) fn taken(state: ClientState) -> (Option<Present>, ClientState)
+    ensures present { result.0 ≡ state.present }
+    ensures rest { result.1 ≡ at_none state }
+{
+    let ClientState {
+        place,
+        command,
+        tracker,
+        skip,
+        present,
+        known,
+    } = state;
+    let rest = ClientState {
+        place,
+        command,
+        tracker,
+        skip,
+        present: None,
+        known,
+    };
+    (present, rest)
 }
 
 impl Move {

@@ -5,6 +5,7 @@ ghost use Rattle.world_base.specs.ClientTurns.{HearTurn, NextTurn, listed};
 
 use crate::hears::heard;
 use crate::moves::moved;
+use crate::quiet::{is_quiet, stage_on};
 use crate::step::Move;
 use base_messages::message::{Message, Post};
 use base_types::items::{Items, Memory};
@@ -56,6 +57,10 @@ pub(crate) fn goes_on(alloc: Global, plan: &ClientPlan, start: Turn) -> Result<T
 {
     let Turn { mut did, mut state } = start;
     loop {
+        if is_quiet(plan, &state) {
+            stage_on(&mut state);
+            continue;
+        }
         let Move {
             post,
             line,

@@ -1,7 +1,9 @@
 use Rattle.std.proofs.Common.{◌≡◌, sym, ◌∙◌, ap, subst, IfOk}
 use Rattle.std.specs.Option.{option_copied}
-use Rattle.client_core.specs.Clients.{move_of}
+use Rattle.world_base.specs.ClientTurns.{attempt_moves, command_moves}
+use Rattle.client_core.specs.Clients.{IsAt, move_of}
 use Rattle.client_core.proofs.Places.{command_fits, is_at, moved_begins, moved_done, moved_on, moved_waits, numbered_at}
+use Rattle.client_core.proofs.Taken.{attempt_taken, none_taken}
 use Rattle.client_core.proofs.moves.moved.Goals as goal
 
 pub returns-then-waits : goal.returns-then-waits
@@ -14,19 +16,21 @@ returns-in_default c =
 
 pub command_moves-requires-clause-at : goal.command_moves-requires-clause-at
 command_moves-requires-clause-at c =
-    λ numbered. is_at c.args.plan.now c.args.state c.in-Some.command.now c.requires.place (sym c.command_at.ensures.exact ∙ ap option_copied c.in-Some.is) c.in-Some.ensures.within numbered
+    λ numbered. subst (λ s. IsAt c.args.plan.now.commands s.place s.command c.in-Some.command.now) (sym c.taken-present.ensures.rest)
+    (is_at c.args.plan.now c.args.state c.in-Some.command.now c.requires.place (sym c.command_at.ensures.exact ∙ ap option_copied c.in-Some.is) c.in-Some.ensures.within numbered)
 
 pub attempt_moves-requires-clause-at : goal.attempt_moves-requires-clause-at
 attempt_moves-requires-clause-at c =
     let is = sym c.command_at.ensures.exact ∙ ap option_copied c.in-Some.is in
-    let present = sym c.in_ok-copy_present.ensures ∙ c.in-Some-2.is in
-    is_at c.args.plan.now c.args.state c.in-Some.command.now c.requires.place is c.in-Some.ensures.within
-    (numbered_at c.args.plan.now c.args.state c.in-Some.command.now c.in-Some-2.present c.requires.place is present)
+    let present = sym c.taken-present.ensures.present ∙ c.in-Some-present.is in
+    subst (λ s. IsAt c.args.plan.now.commands s.place s.command c.in-Some.command.now) (sym c.taken-present.ensures.rest)
+    (is_at c.args.plan.now c.args.state c.in-Some.command.now c.requires.place is c.in-Some.ensures.within
+    (numbered_at c.args.plan.now c.args.state c.in-Some.command.now c.in-Some-present.present c.requires.place is present))
 
 pub attempt_moves-requires-clause-numbered : goal.attempt_moves-requires-clause-numbered
 attempt_moves-requires-clause-numbered c =
-    numbered_at c.args.plan.now c.args.state c.in-Some.command.now c.in-Some-2.present c.requires.place
-    (sym c.command_at.ensures.exact ∙ ap option_copied c.in-Some.is) (sym c.in_ok-copy_present.ensures ∙ c.in-Some-2.is)
+    numbered_at c.args.plan.now c.args.state c.in-Some.command.now c.in-Some-present.present c.requires.place
+    (sym c.command_at.ensures.exact ∙ ap option_copied c.in-Some.is) (sym c.taken-present.ensures.present ∙ c.in-Some-present.is)
 
 pub attempt_moves-requires-clause-fits : goal.attempt_moves-requires-clause-fits
 attempt_moves-requires-clause-fits c =
@@ -34,13 +38,21 @@ attempt_moves-requires-clause-fits c =
 
 pub returns-in-None : goal.returns-in-None
 returns-in-None c =
+    let none = sym c.taken-present.ensures.present ∙ c.in-None.is in
     c.command_moves.ensures
+    ∙ ap (λ s. command_moves c.args.plan.now s c.in-Some.command.now) (c.taken-present.ensures.rest ∙ none_taken c.args.state none)
     ∙ moved_begins c.args.plan.now c.args.state c.in-Some.command.now (sym c.waits.ensures ∙ c.if-waits.false)
-    (sym c.command_at.ensures.exact ∙ ap option_copied c.in-Some.is) (sym c.in_ok-copy_present.ensures ∙ c.in-None.is)
+    (sym c.command_at.ensures.exact ∙ ap option_copied c.in-Some.is) none
 
-pub returns-in-Some-2 : goal.returns-in-Some-2
-returns-in-Some-2 c =
+pub returns-in-Some-present : goal.returns-in-Some-present
+returns-in-Some-present c =
+    let p = c.args.plan.now in
+    let d = c.in-Some.command.now in
+    let a = c.in-Some-present.present in
+    let is = sym c.command_at.ensures.exact ∙ ap option_copied c.in-Some.is in
+    let present = sym c.taken-present.ensures.present ∙ c.in-Some-present.is in
     subst (λ x. IfOk c.attempt_moves.result (λ m. move_of m ≡ x))
-    (moved_on c.args.plan.now c.args.state c.in-Some.command.now c.in-Some-2.present (sym c.waits.ensures ∙ c.if-waits.false)
-    (sym c.command_at.ensures.exact ∙ ap option_copied c.in-Some.is) (sym c.in_ok-copy_present.ensures ∙ c.in-Some-2.is))
+    (ap (λ s. attempt_moves p s a d) c.taken-present.ensures.rest
+    ∙ attempt_taken p c.args.state a d (numbered_at p c.args.state d a c.requires.place is present)
+    ∙ moved_on p c.args.state d a (sym c.waits.ensures ∙ c.if-waits.false) is present)
     c.attempt_moves.ensures
