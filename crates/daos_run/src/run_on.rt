@@ -36,9 +36,9 @@ use vos_store::store::Fuse;
 /// after those that the script drops. They are opened first: they get the script's containers, and nothing is
 /// left to settle. Fuses that are set are taken away; while the script runs, a store has those of its
 /// target's stop lines, one after another; in the end it has none. The stores and the clocks are set again at
-/// every ending, each at its place; a clock is then the one that was given, after so many readings. Where the
-/// stores tell nothing of what they keep, the report is bound by the order of each client's attempts and by
-/// the kinds of its answers alone; the run is safe, and errors are told as of any others.
+/// every ending, each at its place; a clock is then the one that was given, after so many readings. Where a
+/// store tells nothing of what it keeps, only `told`, `in_turn` and `kinds` bind what the report tells; the
+/// run is safe, and errors are told as of any others.
 ///
 /// The report names the least of the targets that were given up, if one was; the store of such a one is
 /// stopped.

@@ -143,15 +143,15 @@ pub record BreaksOffSo {S : Type 0} (durable : S → Option Durable) (may : S �
 
 -- ---- all of it
 
--- where the clocks keep the bound, the order of epochs is that of real time
+-- where the clocks keep the bound, conflicting committed attempts have epochs in the order of real time
 abbrev pub IsInRealTime : Given → Report → Type 0
 IsInRealTime g q = KeepsTheBound g.script g.job.epsilon q.lines → AreExternallyConsistent g.script q.lines
 
 -- What a run of these targets, which begins so, comes to. Whatever the next openings of their stores find, these stand for what the report
 -- tells, which is legal, by the headline, for each outside that may have failed them so. The report is in form where names and keys are keys;
--- one of the targets issued each epoch of which it tells, and the order of epochs is that of real time where clocks keep the bound; stores of targets that weren't given up run, and nothing is left to settle there; what is
--- kept is sound again, and may be opened again; and the report tells of the turns in the order asked, where just so many blocks were free at the
--- beginning.
+-- one of the targets issued each epoch of which it tells, and conflicting committed attempts have epochs in the order of real time where clocks
+-- keep the bound; stores of targets that weren't given up run, and nothing is left to settle there; what is kept is sound again, and may be opened
+-- again; and the report tells of the turns in the order asked, where just so many blocks were free at the beginning.
 pub record ComesTo {S : Type 0} (durable : S → Option Durable) (state : S → State) (may : S → Durable → Type 0) (g : Given) (xs ys : List S) (q : Report) : Type 0 where
   pub stand : (lasts : List Durable) (o : Outside) → MayBeFound may ys lasts → IsOutside state o xs ys → HeadlineOver g o lasts q
   pub form : ScriptHasKeys g.script → MapHasKeys g.opening.stand.now → IsReportOf g.script q

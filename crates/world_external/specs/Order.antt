@@ -69,8 +69,8 @@ pub record IsCommitted (s : Script) (attempts : List Attempt) (x : Attempt) : Ty
   pub committed : x.outcome ≡ Committed
   pub plain : has_own_epoch s x ≡ true
 
--- External consistency: of two committed attempts that conflict, the one that was answered before the other began has the smaller epoch. So
--- transactions, run one by one in the order of their epochs, are run in the order in which clients could tell them apart.
+-- External consistency: of two committed attempts that conflict, the one that was answered before the other began has the smaller epoch. Of two
+-- that don't conflict nothing is said, so this is less than strict serializability.
 abbrev pub AreExternallyConsistent : Script → List Line → Type 0
 AreExternallyConsistent s lines =
     (x y : Attempt) → IsCommitted s (tries lines) x → IsCommitted s (tries lines) y → Conflict s x y → IsAnsweredBefore (tries lines) x y.id → HasSmallerEpoch x y
