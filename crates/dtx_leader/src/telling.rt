@@ -13,7 +13,7 @@ use base_types::items::Memory;
 use dtx_base::leading::Undecided;
 use dtx_table::batch::{batch_of, is_due};
 use dtx_table::bits::first_down;
-use dtx_table::led::{find_led, led_by};
+use dtx_table::led::find_led;
 use dtx_table::rows::{find, is_among, remove};
 use dtx_table::seat::Seat;
 
@@ -30,8 +30,7 @@ impl Decisions {
         ensures ok { IfOk result (λ posts. (self.new, posts) ≡ came (batched (leader_of seat entries.now self.old))) }
         ensures err { OnErr result (self.new ≡ self.old) }
     {
-        let led = led_by(self.alloc, seat.me, entries)?;
-        let batch = batch_of(self.alloc, seat.incarnation, self.down, &self.named, &led)?;
+        let batch = batch_of(self.alloc, seat, self.down, &self.named, entries)?;
         self.named.extend_from_slice(&batch.named)?;
         Ok(batch.posts)
     }

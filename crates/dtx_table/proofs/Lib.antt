@@ -1,3 +1,4 @@
 pub mod Batches
 pub mod Dues
 pub mod Groups
+pub mod Owing

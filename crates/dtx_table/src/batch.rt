@@ -1,13 +1,14 @@
 // The Marks that idle work sends.
-ghost use Rattle.std.specs.Prelude.{ℕ, ◌≡◌, true, filter, IfOk};
+ghost use Rattle.std.specs.Prelude.{◌≡◌, filter, IfOk};
 ghost use Rattle.std.specs.List.{list_any};
 ghost use Rattle.dtx_base.specs.Leading.{is_due_to, is_led, marks_for, names_for};
-ghost use Rattle.dtx_base.specs.Members.{all_targets, has_target, is_other_member};
-ghost use Rattle.dtx_table.specs.Due.{is_owed_at, is_owed_somewhere};
+ghost use Rattle.dtx_base.specs.Members.{all_targets};
+ghost use Rattle.dtx_table.specs.Due.{bit_of, is_owed_at, is_owed_somewhere, may_owe, with_members};
 
-use crate::bits::{has_target, with_target};
+use crate::bits::has_target;
 use crate::marks::{is_owed, name, owed};
 use crate::posts::push_commits;
+use crate::seat::Seat;
 use base_messages::message::Posts;
 use base_types::entry::Entry;
 use base_types::epoch::TargetId;
@@ -22,10 +23,53 @@ pub struct Batch {
     pub named: Vec<Naming>,
 }
 
-/// One Mark for each target that is to be told of commits, in the order of their numbers: by a leader
-/// of this incarnation, with these targets known to be down, these names in Marks that are without an
-/// answer, and these entries.
-pub fn batch_of(
+// The bit of a target, which a number from 64 on hasn't.
+fn bit_of(target: TargetId) -> u64
+    ensures { result ≡ bit_of target }
+{
+    if target < 64 {
+        return 1u64 << target;
+    }
+    0
+}
+
+// Whether this target leads an attempt, of whose commit others may have to be told: its members aren't
+// just this one and those that have confirmed it.
+#[tactic(auto, unfolding(crate::specs::Due::may_owe))]
+fn may_owe(me: TargetId, own: u64, entry: &Entry) -> bool
+    requires { own ≡ bit_of me }
+    ensures { result ≡ may_owe me entry.now }
+{
+    entry.members != entry.confirmed | own && entry.leader == me && entry.committed
+}
+
+// The entries of commits that this target leads, of which others may have to be told.
+fn owing_of(alloc: Global, me: TargetId, entries: &[Entry]) -> Result<Vec<Entry>, Memory>
+    ensures { IfOk result (λ owing. owing.items ≡ filter (may_owe me) entries.now) }
+{
+    let own = bit_of(me);
+    let mut owing = Vec::new(alloc);
+    for entry in entries {
+        if may_owe(me, own, entry) {
+            owing.push(*entry)?;
+        }
+    }
+    Ok(owing)
+}
+
+// The members of any of these entries.
+fn members_of(entries: &[Entry]) -> u64
+    ensures { result ≡ with_members 0 entries.now }
+{
+    let mut members = 0;
+    for entry in entries {
+        members |= entry.members;
+    }
+    members
+}
+
+// One Mark for each target that is to be told of some of these commits. Only their members can be such.
+fn marks_of(
     alloc: Global,
     incarnation: u64,
     down: u64,
@@ -35,12 +79,15 @@ pub fn batch_of(
     ensures posts { IfOk result (λ batch. batch.posts ≡ marks_for incarnation down named.now entries.now all_targets) }
     ensures named { IfOk result (λ batch. batch.named.items ≡ names_for incarnation down named.now entries.now all_targets) }
 {
+    let members = members_of(entries);
     let mut posts = Items::new(alloc);
     let mut names = Vec::new(alloc);
     for target in 0..64 {
-        let told = owed(alloc, entries, named, down, target)?;
-        push_commits(alloc, &mut posts, incarnation, target, &told)?;
-        name(&mut names, target, incarnation, &told)?;
+        if has_target(members, target) {
+            let told = owed(alloc, entries, named, down, target)?;
+            push_commits(alloc, &mut posts, incarnation, target, &told)?;
+            name(&mut names, target, incarnation, &told)?;
+        }
     }
     Ok(Batch {
         posts,
@@ -48,11 +95,22 @@ pub fn batch_of(
     })
 }
 
-// Whether surely all other members have confirmed a commit.
-fn is_confirmed(entry: &Entry) -> bool
-    ensures { result ≡ true → (t : ℕ) → is_other_member entry.now t ≡ true → has_target entry.now.confirmed t ≡ true }
+/// One Mark for each target that is to be told of commits of attempts that this one leads, in the order
+/// of their numbers: by a leader of this number and incarnation, with these targets known to be down,
+/// these names in Marks that are without an answer, and these entries kept. Entries that all have
+/// confirmed cost one test each.
+pub fn batch_of(
+    alloc: Global,
+    seat: Seat,
+    down: u64,
+    named: &[Naming],
+    entries: &[Entry],
+) -> Result<Batch, Memory>
+    ensures posts { IfOk result (λ batch. batch.posts ≡ marks_for seat.incarnation down named.now (filter (is_led seat.me) entries.now) all_targets) }
+    ensures named { IfOk result (λ batch. batch.named.items ≡ names_for seat.incarnation down named.now (filter (is_led seat.me) entries.now) all_targets) }
 {
-    entry.leader < 64 && entry.members == with_target(entry.confirmed, entry.leader)
+    let owing = owing_of(alloc, seat.me, entries)?;
+    marks_of(alloc, seat.incarnation, down, named, &owing)
 }
 
 // Whether a target is to be told of a commit: it isn't down, and the commit is owed to it.
@@ -66,12 +124,6 @@ fn is_owed_at(down: u64, named: &[Naming], entry: &Entry, target: TargetId) -> b
 fn is_owed_somewhere(down: u64, named: &[Naming], entry: &Entry) -> bool
     ensures { result ≡ is_owed_somewhere down named.now entry.now }
 {
-    if !entry.committed {
-        return false;
-    }
-    if is_confirmed(entry) {
-        return false;
-    }
     for target in 0..64 {
         let is_here = is_owed_at(down, named, entry, target);
         if is_here {
@@ -83,10 +135,11 @@ fn is_owed_somewhere(down: u64, named: &[Naming], entry: &Entry) -> bool
 
 // Whether some target is to be told of some commit of this leader, entry by entry.
 fn is_some_owed(me: TargetId, down: u64, named: &[Naming], entries: &[Entry]) -> bool
-    ensures { result ≡ list_any (is_owed_somewhere down named.now) (filter (is_led me) entries.now) }
+    ensures { result ≡ list_any (is_owed_somewhere down named.now) (filter (may_owe me) entries.now) }
 {
+    let own = bit_of(me);
     for entry in entries {
-        if entry.leader == me && is_owed_somewhere(down, named, entry) {
+        if may_owe(me, own, entry) && is_owed_somewhere(down, named, entry) {
             return true;
         }
     }

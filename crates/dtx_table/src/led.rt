@@ -3,11 +3,11 @@ ghost use Rattle.std.specs.Prelude.{◌≡◌, filter, find, IfOk};
 ghost use Rattle.daos_model.specs.Durables.{is_entry_of};
 ghost use Rattle.dtx_base.specs.Leading.{is_led};
 
+use crate::rows::is_same;
 use base_types::entry::Entry;
 use base_types::epoch::TargetId;
 use base_types::id::AttemptId;
 use base_types::items::Memory;
-use daos_model::durable::is_same_attempt;
 use std::alloc::Global;
 
 /// The entries that a target leads.
@@ -28,7 +28,7 @@ pub fn find_led(entries: &[Entry], me: TargetId, attempt: AttemptId) -> Option<E
     ensures { result ≡ find (is_entry_of attempt) (filter (is_led me) entries.now) }
 {
     for entry in entries {
-        if entry.leader == me && is_same_attempt(entry.attempt, attempt) {
+        if is_same(entry.attempt, attempt) && entry.leader == me {
             return Some(*entry);
         }
     }

@@ -3,12 +3,11 @@ ghost use Rattle.std.specs.Prelude.{◌≡◌, ◌++◌, filter, map, IfOk, OnOk
 ghost use Rattle.dtx_base.specs.Leading.{answered, attempts_of, entry_attempt, is_named, is_not_named_in, is_owed, naming, naming_to, owed};
 
 use crate::bits::{has_target, is_other_member};
-use crate::rows::is_among;
+use crate::rows::{is_among, is_same};
 use base_types::entry::Entry;
 use base_types::epoch::TargetId;
 use base_types::id::AttemptId;
 use base_types::items::Memory;
-use daos_model::durable::is_same_attempt;
 use dtx_base::leading::Naming;
 use std::alloc::Global;
 
@@ -97,7 +96,7 @@ fn is_named(named: &[Naming], member: TargetId, attempt: AttemptId) -> bool
     ensures { result ≡ is_named member attempt named.now }
 {
     for naming in named {
-        if naming.member == member && is_same_attempt(naming.attempt, attempt) {
+        if naming.member == member && is_same(naming.attempt, attempt) {
             return true;
         }
     }

@@ -1,11 +1,11 @@
 // A leader hears what members answer.
-ghost use Rattle.std.specs.Prelude.{◌≡◌, ◌==◌, [], if◌then◌else◌, IfOk, OnOk, Some, true, false};
+ghost use Rattle.std.specs.Prelude.{◌≡◌, ◌==◌, [], if◌then◌else◌, IfOk, OnErr, OnOk, Some, true, false};
 ghost use Rattle.world_kinds.specs.Loads.{AnswersOnce};
 ghost use Rattle.std.specs.Option.{ForSome};
 ghost use Rattle.base_types.specs.declared.entry.Settle.TheVariants as step;
 ghost use Rattle.daos_model.specs.declared.durable.Durable.{Durable};
-ghost use Rattle.dtx_base.specs.Leading.{entry_led, may_confirm};
-ghost use Rattle.dtx_table.specs.Seats.{leader_of};
+ghost use Rattle.dtx_base.specs.Leading.{ack_heard, entry_led, may_confirm};
+ghost use Rattle.dtx_table.specs.Seats.{came, leader_of};
 ghost use Rattle.vos_store.specs.Conditions.{CanSettle};
 ghost use Rattle.vos_store.specs.Refusals.{always_stop};
 ghost use Rattle.world_base.specs.declared.target.TargetMemory.{TargetMemory};
@@ -21,18 +21,19 @@ ghost use Rattle.target_parts.specs.Stops.{Turn, never};
 ghost use Rattle.target_dtx.specs.Dtx.{GoesThrough};
 ghost use Rattle.target_parts.specs.Standing.{IsTarget, Keeps, TurnRuns};
 
-use base_types::entry::{Entry, Settle};
+use base_messages::message::Posts;
+use base_types::entry::Settle;
 use base_types::epoch::TargetId;
 use base_types::id::AttemptId;
-use base_types::items::Items;
+use base_types::items::{Items, Memory};
 use base_types::outcome::Outcome;
+use dtx_entries::table::EntryTable;
 use dtx_leader::decisions::Decisions;
 use dtx_table::bits::{has_number, is_other_number};
-use dtx_table::led::find_led;
 use dtx_table::seat::Seat;
 use std::alloc::Global;
 use target_parts::halt::Halt;
-use target_parts::kept::{seat_of, settle};
+use target_parts::kept::{entry_led, seat_of, settle};
 use target_parts::knows::Knows;
 use target_parts::stop::{TargetStop, stop_of};
 use target_parts::telling::sends;
@@ -47,24 +48,41 @@ use world_base::target::TargetPlan;
 fn is_refusing(
     leader: &Decisions,
     seat: Seat,
-    entries: &[Entry],
+    entries: &EntryTable,
     member: u16,
     attempt: AttemptId,
     inc: u64,
     refusal: &Option<Outcome>,
 ) -> bool
-    ensures { result ≡ ack.is_refusing member attempt inc refusal.now (leader_of seat entries.now leader.now) }
+    ensures { result ≡ ack.is_refusing member attempt inc refusal.now (leader_of seat entries.now.items leader.now) }
 {
     if inc != seat.incarnation {
         return false;
     }
-    let Some(entry) = find_led(entries, seat.me, attempt) else {
+    let Some(entry) = entry_led(entries, seat.me, attempt) else {
         return false;
     };
     if leader.undecided(attempt).is_none() {
         return false;
     }
     is_other_number(&entry, member) && refusal.is_some()
+}
+
+// The leader hears an Ack: of the entries it looks at none but that of the attempt.
+fn count(
+    leader: &mut Decisions,
+    seat: Seat,
+    entries: &EntryTable,
+    member: u16,
+    attempt: AttemptId,
+    inc: u64,
+    refusal: &Option<Outcome>,
+) -> Result<Posts, Memory>
+    ensures ok { IfOk result (λ posts. (leader.new, posts) ≡ came (ack_heard member attempt inc refusal.now (leader_of seat entries.now.items leader.old))) }
+    ensures err { OnErr result (leader.new ≡ leader.old) }
+{
+    let own = entries.of_attempt(attempt);
+    leader.hear_ack(seat, own, member, attempt, inc, refusal)
 }
 
 // An attempt is aborted in the store, where that is so.
@@ -121,9 +139,8 @@ pub fn hear_ack<S: Store>(
     let seat = seat_of(plan, store);
     let entries = &knows.entries;
     let refuses = is_refusing(&knows.leader, seat, entries, member, attempt, inc, refusal);
-    let posts = knows
-        .leader
-        .hear_ack(seat, entries, member, attempt, inc, refusal)?;
+    let leader = &mut knows.leader;
+    let posts = count(leader, seat, entries, member, attempt, inc, refusal)?;
     match abort_if(store, plan, knows, attempt, refuses) {
         Ok(()) => Ok(sends(alloc, posts, None)),
         Err(Stopped) => Err(stop_of(alloc, Halt::Stopped, None)),
@@ -145,7 +162,7 @@ fn confirm<S: Store>(
     ensures leader { knows.new.leader ≡ knows.old.leader }
     ensures keeps { Keeps plan always_stop result (S.state store.old) (S.state store.new) (S.durable store.old) (S.durable store.new) knows.old knows.new }
 {
-    let Some(entry) = find_led(&knows.entries, plan.me, attempt) else {
+    let Some(entry) = entry_led(&knows.entries, plan.me, attempt) else {
         return Ok(());
     };
     if entry.committed && has_number(entry.members, member) {

@@ -4,6 +4,8 @@ ghost use Rattle.world_kinds.specs.Loads.{AnswersOnce};
 ghost use Rattle.std.specs.Option.{ForSome};
 ghost use Rattle.daos_model.specs.declared.durable.Durable.{Durable};
 ghost use Rattle.dtx_base.specs.Joining.{member_step};
+ghost use Rattle.dtx_base.specs.Leading.{batched, is_batch_due};
+ghost use Rattle.dtx_table.specs.Seats.{came, leader_of};
 ghost use Rattle.vos_store.specs.Refusals.{always_stop};
 ghost use Rattle.world_base.specs.Idle.{IdleEnds, IdleNext, has_idle, idle_memory, idle_told};
 ghost use Rattle.world_base.specs.Turns.{Whole};
@@ -16,8 +18,11 @@ ghost use Rattle.target_parts.specs.Standing.{IsTarget, Keeps, TurnRuns};
 
 use base_messages::message::Posts;
 use base_types::entry::Entry;
-use base_types::items::Items;
+use base_types::items::{Items, Memory};
+use dtx_entries::table::EntryTable;
+use dtx_leader::decisions::Decisions;
 use dtx_member::member::Member;
+use dtx_table::seat::Seat;
 use std::alloc::Global;
 use target_parts::halt::Halt;
 use target_parts::kept::{seat_of, settle_decided};
@@ -63,6 +68,21 @@ fn inquiries(
     Ok(member.inquire(entries)?)
 }
 
+// The leader tells of commits: of the entries it looks at the owing ones alone.
+fn batch(leader: &mut Decisions, seat: Seat, entries: &EntryTable) -> Result<Posts, Memory>
+    ensures ok { IfOk result (λ posts. (leader.new, posts) ≡ came (batched (leader_of seat entries.now.items leader.old))) }
+    ensures err { OnErr result (leader.new ≡ leader.old) }
+{
+    leader.batch(seat, entries.owing())
+}
+
+// Whether the leader has a commit to tell of.
+fn has_batch(leader: &Decisions, seat: Seat, entries: &EntryTable) -> bool
+    ensures { result ≡ is_batch_due (leader_of seat entries.now.items leader.now) }
+{
+    leader.has_batch(seat, entries.owing())
+}
+
 // What it tells and asks, once all that it decided is settled.
 fn tell<S: Store>(
     alloc: Global,
@@ -83,8 +103,8 @@ fn tell<S: Store>(
     ensures target { IsTarget plan (S.state store.now) (S.durable store.now) knows.new }
 {
     let seat = seat_of(plan, store);
-    let mut posts = knows.leader.batch(seat, &knows.entries)?;
-    let asks = inquiries(alloc, &mut knows.member, &knows.entries, settling)?;
+    let mut posts = batch(&mut knows.leader, seat, &knows.entries)?;
+    let asks = inquiries(alloc, &mut knows.member, knows.entries.rows(), settling)?;
     push_all(&mut posts, asks)?;
     Ok(sends(alloc, posts, None))
 }
@@ -129,8 +149,8 @@ pub fn has_idle_work<S: Store>(plan: TargetPlan, store: &S, knows: &Knows, settl
     if !knows.leader.decided().is_empty() {
         return true;
     }
-    if knows.leader.has_batch(seat_of(plan, store), &knows.entries) {
+    if has_batch(&knows.leader, seat_of(plan, store), &knows.entries) {
         return true;
     }
-    settling && knows.member.has_inquiry(&knows.entries)
+    settling && knows.member.has_inquiry(knows.entries.rows())
 }

@@ -50,7 +50,8 @@ pub fn hear_query<S: Store>(
     ensures reads { IfOk result (λ did. CarryNone did.posts) }
 {
     let seat = seat_of(plan, store);
-    let verdict = knows.leader.answer_query(seat, &knows.entries, attempt);
+    let entries = knows.entries.of_attempt(attempt);
+    let verdict = knows.leader.answer_query(seat, entries, attempt);
     let answer = Message::Verdict {
         attempt,
         ask,

@@ -28,7 +28,7 @@ use Rattle.dtx_base.specs.LeaderLaws.{same-is}
 use Rattle.dtx_base.specs.Leading.{forgotten, undecided_attempt}
 use Rattle.dtx_base.specs.RowLaws.{row-is, row-map, row-without}
 use Rattle.dtx_base.specs.Rows.{itself, without_row}
-use Rattle.dtx_table.specs.Tables.{entries_settled}
+use Rattle.dtx_entries.specs.Settling.{entries_settled}
 use Rattle.world_base.specs.declared.target.TargetMemory.{TargetMemory}
 use Rattle.world_base.specs.declared.target.TargetPlan.{TargetPlan}
 use Rattle.vos_store.specs.Conditions.{CanSettle}

@@ -7,7 +7,7 @@ use Rattle.base_types.specs.declared.entry.Settle.{Settle}
 use Rattle.base_types.specs.declared.id.AttemptId.{AttemptId}
 use Rattle.daos_model.specs.declared.durable.Durable.{Durable}
 use Rattle.daos_model.specs.Changes.{settled}
-use Rattle.dtx_table.specs.Tables.{entries_settled}
+use Rattle.dtx_entries.specs.Settling.{entries_settled}
 use Rattle.vos_store.specs.Calls.{State}
 use Rattle.vos_store.specs.declared.refusal.Stopped.{Stopped}
 use Rattle.world_base.specs.declared.target.TargetMemory.{TargetMemory}

@@ -1,12 +1,13 @@
 // The entries that a store keeps, as a target knows them, and the steps of attempts.
-ghost use Rattle.std.specs.Prelude.{◌≡◌, OnOk, Some, false};
+ghost use Rattle.std.specs.Prelude.{◌≡◌, filter, find, OnOk, Some, false};
 ghost use Rattle.std.specs.Option.{ForSome};
 ghost use Rattle.base_types.specs.declared.entry.Settle.TheVariants as settle;
 ghost use Rattle.model_laws.specs.Members.{Has};
 ghost use Rattle.daos_model.specs.declared.durable.Durable.{Durable};
-ghost use Rattle.dtx_base.specs.Leading.{forgotten};
+ghost use Rattle.daos_model.specs.Durables.{is_entry_of};
+ghost use Rattle.dtx_base.specs.Leading.{forgotten, is_led};
 ghost use Rattle.dtx_base.specs.Rows.{itself, without_row};
-ghost use Rattle.dtx_table.specs.Tables.{entries_settled, entry_in};
+ghost use Rattle.dtx_entries.specs.Settling.{entries_settled, entry_in};
 ghost use Rattle.vos_store.specs.Conditions.{CanSettle, IsStep};
 ghost use Rattle.vos_store.specs.Refusals.{always_stop};
 ghost use Rattle.world_base.specs.Changes.{Settles};
@@ -20,9 +21,9 @@ use crate::knows::Knows;
 use base_types::entry::{Entry, Settle};
 use base_types::epoch::TargetId;
 use base_types::id::AttemptId;
-use dtx_table::rows::find;
+use dtx_entries::table::EntryTable;
+use dtx_table::led::find_led;
 use dtx_table::seat::Seat;
-use dtx_table::table::settle_rows;
 use vos_store::refusal::Stopped;
 use vos_store::store::Store;
 use world_base::target::TargetPlan;
@@ -34,7 +35,7 @@ use world_base::target::TargetPlan;
 /// `Stopped` where the store stopped.
 pub fn settle<S: Store>(
     store: &mut S,
-    entries: &mut Vec<Entry>,
+    entries: &mut EntryTable,
     attempt: AttemptId,
     step: Settle,
 ) -> Result<(), Stopped>
@@ -47,25 +48,25 @@ pub fn settle<S: Store>(
     ensures entries { OnOk result (entries.new.items ≡ entries_settled attempt step entries.old.items) }
 {
     store.settle(attempt, step)?;
-    settle_rows(entries, attempt, step);
+    entries.settle(attempt, step);
     Ok(())
 }
 
 /// Whether an attempt is prepared here: it has an entry that isn't committed.
-pub fn is_prepared(entries: &[Entry], attempt: AttemptId) -> bool
-    ensures { result ≡ is_open_entry (entry_in entries.now attempt) }
+pub fn is_prepared(entries: &EntryTable, attempt: AttemptId) -> bool
+    ensures { result ≡ is_open_entry (entry_in entries.now.items attempt) }
 {
-    match find(entries, attempt) {
+    match entries.find(attempt) {
         None => false,
         Some(entry) => !entry.committed,
     }
 }
 
 /// The other target that leads an attempt which has an entry here.
-pub fn other_leader(me: TargetId, entries: &[Entry], attempt: AttemptId) -> Option<TargetId>
-    ensures { result ≡ other_leader_of me (entry_in entries.now attempt) }
+pub fn other_leader(me: TargetId, entries: &EntryTable, attempt: AttemptId) -> Option<TargetId>
+    ensures { result ≡ other_leader_of me (entry_in entries.now.items attempt) }
 {
-    match find(entries, attempt) {
+    match entries.find(attempt) {
         None => None,
         Some(entry) => {
             if entry.leader == me {
@@ -75,6 +76,13 @@ pub fn other_leader(me: TargetId, entries: &[Entry], attempt: AttemptId) -> Opti
             }
         }
     }
+}
+
+/// The entry of an attempt, where this target leads it.
+pub fn entry_led(entries: &EntryTable, me: TargetId, attempt: AttemptId) -> Option<Entry>
+    ensures { result ≡ find (is_entry_of attempt) (filter (is_led me) entries.now.items) }
+{
+    find_led(entries.of_attempt(attempt), me, attempt)
 }
 
 /// Where a target is as a leader.

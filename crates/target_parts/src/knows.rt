@@ -1,6 +1,6 @@
 // What a target knows until it stops.
-use base_types::entry::Entry;
 use daos_hlc::clock::Hlc;
+use dtx_entries::table::EntryTable;
 use dtx_leader::decisions::Decisions;
 use dtx_member::member::Member;
 use vos_stamp::stamps::Stamps;
@@ -11,7 +11,7 @@ use vos_stamp::stamps::Stamps;
 pub struct Knows {
     pub hlc: Hlc,
     pub stamps: Stamps,
-    pub entries: Vec<Entry>,
+    pub entries: EntryTable,
     pub leader: Decisions,
     pub member: Member,
 }

@@ -17,11 +17,11 @@ ghost use Rattle.target_reads.specs.Meets.{Meets, MeetsKind, Serves, ServesKind,
 ghost use Rattle.target_parts.specs.Standing.{Keeps};
 
 use base_types::answer::Answer;
-use base_types::entry::Entry;
 use base_types::epoch::{Epoch, TargetId};
 use base_types::id::AttemptId;
 use base_types::outcome::{Cause, FloorWhy};
 use base_types::shown::Shown;
+use dtx_entries::table::EntryTable;
 use target_parts::halt::Halt;
 use target_parts::kept::{other_leader, settle_decided};
 use target_parts::knows::Knows;
@@ -116,8 +116,8 @@ fn is_one(attempts: &[AttemptId], attempt: AttemptId) -> bool
 }
 
 // What a read comes to that meets an attempt which isn't settled, and isn't one of the decided ones.
-fn served_beside(me: TargetId, entries: &[Entry], other: AttemptId) -> Served
-    ensures { result ≡ beside_of other (other_leader_of me (entry_in entries.now other)) }
+fn served_beside(me: TargetId, entries: &EntryTable, other: AttemptId) -> Served
+    ensures { result ≡ beside_of other (other_leader_of me (entry_in entries.now.items other)) }
 {
     match other_leader(me, entries, other) {
         Some(leader) => Served::Waits { on: other, leader },

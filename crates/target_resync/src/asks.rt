@@ -49,6 +49,8 @@ pub fn hear_ask<S: Store>(
     ensures target { IsTarget plan (S.state store.now) (S.durable store.now) knows.new }
 {
     let seat = seat_of(plan, store);
-    let posts = knows.leader.hear_ask(seat, &knows.entries, attempt, from)?;
+    let posts = knows
+        .leader
+        .hear_ask(seat, knows.entries.rows(), attempt, from)?;
     Ok(sends(alloc, posts, None))
 }

@@ -12,6 +12,7 @@ use base_types::epoch::Epoch;
 use base_types::items::Items;
 use base_types::report::{Line, Lines};
 use daos_hlc::clock::Hlc;
+use dtx_entries::table::EntryTable;
 use dtx_leader::decisions::Decisions;
 use dtx_member::member::Member;
 use dtx_resync::statuses::opening_posts;
@@ -47,7 +48,7 @@ pub fn first_knows(
         stamps: Stamps::new(alloc)?,
         leader: Decisions::new(alloc, plan.me, &entries)?,
         member: Member::new(alloc, plan.me, plan.targets)?,
-        entries,
+        entries: EntryTable::of_rows(alloc, entries)?,
     })
 }
 

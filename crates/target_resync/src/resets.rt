@@ -54,7 +54,7 @@ pub fn hear_reset<S: Store>(
     let seat = seat_of(plan, store);
     let mut posts = knows
         .leader
-        .hear_reset(seat, &knows.entries, target, down, message)?;
+        .hear_reset(seat, knows.entries.rows(), target, down, message)?;
     let freed = knows.member.hear_reset(down, message)?;
     push_all(&mut posts, freed.posts)?;
     Ok(sends(alloc, posts, None))

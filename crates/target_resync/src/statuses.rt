@@ -18,7 +18,6 @@ use base_messages::message::Message;
 use base_types::entry::EntryState;
 use base_types::id::AttemptId;
 use dtx_resync::statuses::{state_of, status_refusal};
-use dtx_table::rows::find;
 use std::alloc::Global;
 use target_dtx::acks::hear_ack;
 use target_parts::knows::Knows;
@@ -59,7 +58,7 @@ pub fn hear_status<S: Store>(
     let answer = Message::StatusIs {
         attempt,
         inc,
-        state: state_of(find(&knows.entries, attempt)),
+        state: state_of(knows.entries.find(attempt)),
     };
     says(alloc, from, answer, None)
 }

@@ -21,7 +21,7 @@ use base_types::operation::MinorWrite;
 use base_types::outcome::{Cause, Outcome};
 use base_types::path::Path;
 use daos_model::accounts::blocks;
-use dtx_table::rows::put;
+use dtx_entries::table::EntryTable;
 use target_parts::halt::Halt;
 use target_parts::knows::Knows;
 use target_parts::later::later_write;
@@ -91,7 +91,7 @@ fn no_space(target: TargetId, need: u32, free: u32) -> Outcome
 fn store_writes<S: Store>(
     store: &mut S,
     plan: TargetPlan,
-    entries: &mut Vec<Entry>,
+    entries: &mut EntryTable,
     entry: &Entry,
     writes: &[MinorWrite],
 ) -> Result<Option<Outcome>, Halt>
@@ -111,10 +111,10 @@ fn store_writes<S: Store>(
     if free < need {
         return Ok(Some(no_space(plan.me, need, free)));
     }
-    entries.reserve(1)?;
+    entries.reserve()?;
     match store.prepare(entry, writes) {
         Ok(()) => {
-            put(entries, *entry);
+            entries.put(*entry);
             Ok(None)
         }
         Err(PrepareNo::NoSpace { .. }) => unreachable!(),

@@ -1,14 +1,7 @@
-use Rattle.std.proofs.Common.{◌≡◌, ◌∙◌, arith, false, refl, rules, sym, true}
+use Rattle.std.proofs.Common.{◌≡◌, ◌∙◌, arith, false, refl, sym, true}
 use Rattle.dtx_table.specs.Due.{is_owed_at, is_owed_somewhere}
 use Rattle.dtx_table.specs.Ranges.{any_here, any_later, none_anywhere}
-use Rattle.dtx_table.proofs.Dues.{confirmed-owes, uncommitted-owes}
 use Rattle.dtx_table.proofs.batch.is_owed_somewhere.Goals as goal
-
-pub returns-then-not-entry : goal.returns-then-not-entry
-returns-then-not-entry c = uncommitted-owes c.args.down c.args.named.now c.args.entry.now (search rules)
-
-pub returns-then-is_confirmed : goal.returns-then-is_confirmed
-returns-then-is_confirmed c = confirmed-owes c.args.down c.args.named.now c.args.entry.now (c.is_confirmed.ensures (search rules))
 
 pub loop-target-init : goal.loop-target-init
 unfolding is_owed_somewhere

@@ -29,16 +29,16 @@ returns-in_err-posts-clause-turn g c d at =
 pub abort_if-requires-clause-can : goal.abort_if-requires-clause-can
 abort_if-requires-clause-can g c d at refused =
     let seat = c.seat_of-seat.ensures in
-    let known = leader-known c.args.plan (memory_of c.args.knows.now) c.seat_of-seat.result c.deref.result.now d seat.me seat.targets (seat.incarnation c.requires.running d at) (c.deref.ensures.value ∙ (c.requires.target.leads c.requires.running d at).entries) in
+    let known = leader-known c.args.plan (memory_of c.args.knows.now) c.seat_of-seat.result c.args.knows.now.entries.items d seat.me seat.targets (seat.incarnation c.requires.running d at) ((c.requires.target.leads c.requires.running d at).entries) in
     refused-can c.args.plan (memory_of c.args.knows.now) c.args.member c.args.attempt c.args.inc c.args.refusal.now d (c.requires.target.leads c.requires.running d at).rows
     (sym (c.is_refusing-refuses.ensures ∙ ap (is_refusing c.args.member c.args.attempt c.args.inc c.args.refusal.now) known) ∙ refused)
 
 pub abort_if-requires-clause-apart : goal.abort_if-requires-clause-apart
 abort_if-requires-clause-apart g c d at refused =
     let seat = c.seat_of-seat.ensures in
-    let known = leader-known c.args.plan (memory_of c.args.knows.now) c.seat_of-seat.result c.deref.result.now d seat.me seat.targets (seat.incarnation c.requires.running d at) (c.deref.ensures.value ∙ (c.requires.target.leads c.requires.running d at).entries) in
-    let known_too = leader-known c.args.plan (memory_of c.args.knows.now) c.seat_of-seat.result c.deref-2.result.now d seat.me seat.targets (seat.incarnation c.requires.running d at) (c.deref-2.ensures.value ∙ (c.requires.target.leads c.requires.running d at).entries) in
-    let came = stepped c.args.plan (memory_of c.args.knows.now) c.args.member c.args.attempt c.args.inc c.args.refusal.now d _ c.hear_ack.new.self _ known_too c.in_ok-posts.ensures.ok in
+    let known = leader-known c.args.plan (memory_of c.args.knows.now) c.seat_of-seat.result c.args.knows.now.entries.items d seat.me seat.targets (seat.incarnation c.requires.running d at) ((c.requires.target.leads c.requires.running d at).entries) in
+    let known_too = leader-known c.args.plan (memory_of c.args.knows.now) c.seat_of-seat.result c.args.knows.now.entries.items d seat.me seat.targets (seat.incarnation c.requires.running d at) ((c.requires.target.leads c.requires.running d at).entries) in
+    let came = stepped c.args.plan (memory_of c.args.knows.now) c.args.member c.args.attempt c.args.inc c.args.refusal.now d _ c.count.new.leader _ known_too c.in_ok-posts.ensures.ok in
     subst (IsApart c.args.attempt) (sym came.0)
     (refused-apart c.args.plan (memory_of c.args.knows.now) c.args.member c.args.attempt c.args.inc c.args.refusal.now d (c.requires.target.leads c.requires.running d at).rows
     (sym (c.is_refusing-refuses.ensures ∙ ap (is_refusing c.args.member c.args.attempt c.args.inc c.args.refusal.now) known) ∙ refused))
@@ -46,8 +46,8 @@ abort_if-requires-clause-apart g c d at refused =
 pub abort_if-requires-clause-leads : goal.abort_if-requires-clause-leads
 abort_if-requires-clause-leads g c d at =
     let seat = c.seat_of-seat.ensures in
-    let known_too = leader-known c.args.plan (memory_of c.args.knows.now) c.seat_of-seat.result c.deref-2.result.now d seat.me seat.targets (seat.incarnation c.requires.running d at) (c.deref-2.ensures.value ∙ (c.requires.target.leads c.requires.running d at).entries) in
-    let came = stepped c.args.plan (memory_of c.args.knows.now) c.args.member c.args.attempt c.args.inc c.args.refusal.now d _ c.hear_ack.new.self _ known_too c.in_ok-posts.ensures.ok in
+    let known_too = leader-known c.args.plan (memory_of c.args.knows.now) c.seat_of-seat.result c.args.knows.now.entries.items d seat.me seat.targets (seat.incarnation c.requires.running d at) ((c.requires.target.leads c.requires.running d at).entries) in
+    let came = stepped c.args.plan (memory_of c.args.knows.now) c.args.member c.args.attempt c.args.inc c.args.refusal.now d _ c.count.new.leader _ known_too c.in_ok-posts.ensures.ok in
     leads-same c.args.plan (leads_on (step c.args.plan (memory_of c.args.knows.now) c.args.member c.args.attempt c.args.inc c.args.refusal.now d) (memory_of c.args.knows.now)) _ c.args.knows.now.entries.items _ d
     (ap (λ l. record (memory_of c.args.knows.now) { leader = l }) came.0) refl
     (leads-acked c.args.plan (memory_of c.args.knows.now) c.args.member c.args.attempt c.args.inc c.args.refusal.now d c.args.knows.now.entries.items (c.requires.target.leads c.requires.running d at))
@@ -55,9 +55,9 @@ abort_if-requires-clause-leads g c d at =
 pub returns-in-Ok-clause-turn : goal.returns-in-Ok-clause-turn
 returns-in-Ok-clause-turn g c d at =
     let seat = c.seat_of-seat.ensures in
-    let known = leader-known c.args.plan (memory_of c.args.knows.now) c.seat_of-seat.result c.deref.result.now d seat.me seat.targets (seat.incarnation c.requires.running d at) (c.deref.ensures.value ∙ (c.requires.target.leads c.requires.running d at).entries) in
-    let known_too = leader-known c.args.plan (memory_of c.args.knows.now) c.seat_of-seat.result c.deref-2.result.now d seat.me seat.targets (seat.incarnation c.requires.running d at) (c.deref-2.ensures.value ∙ (c.requires.target.leads c.requires.running d at).entries) in
-    let came = stepped c.args.plan (memory_of c.args.knows.now) c.args.member c.args.attempt c.args.inc c.args.refusal.now d _ c.hear_ack.new.self _ known_too c.in_ok-posts.ensures.ok in
+    let known = leader-known c.args.plan (memory_of c.args.knows.now) c.seat_of-seat.result c.args.knows.now.entries.items d seat.me seat.targets (seat.incarnation c.requires.running d at) ((c.requires.target.leads c.requires.running d at).entries) in
+    let known_too = leader-known c.args.plan (memory_of c.args.knows.now) c.seat_of-seat.result c.args.knows.now.entries.items d seat.me seat.targets (seat.incarnation c.requires.running d at) ((c.requires.target.leads c.requires.running d at).entries) in
+    let came = stepped c.args.plan (memory_of c.args.knows.now) c.args.member c.args.attempt c.args.inc c.args.refusal.now d _ c.count.new.leader _ known_too c.in_ok-posts.ensures.ok in
     let beside = c.in-Ok.ensures.keeps.beside in
     ack-done c.args.plan (memory_of c.args.knows.now) c.args.member c.args.attempt c.args.inc c.args.refusal.now d (g.S.Store.state c.args.store.now) _ _ c.is_refusing-refuses.result (g.S.Store.may c.abort_if.new.store)
     (memory_of c.abort_if.new.knows) c.sends.result c.in_ok-posts.posts (c.is_refusing-refuses.ensures ∙ ap (is_refusing c.args.member c.args.attempt c.args.inc c.args.refusal.now) known) (c.in-Ok.ensures.made d at)
@@ -71,7 +71,7 @@ returns-in-Ok-clause-target g c =
 pub returns-in-Err-clause-turn : goal.returns-in-Err-clause-turn
 returns-in-Err-clause-turn g c d at =
     let seat = c.seat_of-seat.ensures in
-    let known = leader-known c.args.plan (memory_of c.args.knows.now) c.seat_of-seat.result c.deref.result.now d seat.me seat.targets (seat.incarnation c.requires.running d at) (c.deref.ensures.value ∙ (c.requires.target.leads c.requires.running d at).entries) in
+    let known = leader-known c.args.plan (memory_of c.args.knows.now) c.seat_of-seat.result c.args.knows.now.entries.items d seat.me seat.targets (seat.incarnation c.requires.running d at) ((c.requires.target.leads c.requires.running d at).entries) in
     turn_cut (AckNext c.args.plan (memory_of c.args.knows.now) c.args.member c.args.attempt c.args.inc c.args.refusal.now) never Heard (kept d (g.S.Store.state c.args.store.now))
     (g.S.Store.durable c.abort_if.new.store) (g.S.Store.state c.abort_if.new.store) (g.S.Store.may c.abort_if.new.store)
     (λ did l. Whole (AckNext c.args.plan (memory_of c.args.knows.now) c.args.member c.args.attempt c.args.inc c.args.refusal.now) (AckEnds (memory_of c.args.knows.now)) Heard (kept d (g.S.Store.state c.args.store.now)) l (memory_of c.abort_if.new.knows, did)) (Err c.stop_of.result) (λ s. refl) (ap (λ e. Err e) c.stop_of.ensures)
@@ -85,13 +85,13 @@ returns-in-Err-clause-target g c =
 
 pub returns-in-Ok-clause-posts : goal.returns-in-Ok-clause-posts
 returns-in-Ok-clause-posts g c =
-    let leader = leader_of c.seat_of-seat.result c.deref-2.result.now c.args.knows.now.leader in
-    posted-by c.args.plan.targets (ack_heard c.args.member c.args.attempt c.args.inc c.args.refusal.now leader) c.args.knows.now.leader c.hear_ack.new.self c.abort_if.new.knows.leader c.in_ok-posts.posts c.sends.result.posts
+    let leader = leader_of c.seat_of-seat.result c.args.knows.now.entries.items c.args.knows.now.leader in
+    posted-by c.args.plan.targets (ack_heard c.args.member c.args.attempt c.args.inc c.args.refusal.now leader) c.args.knows.now.leader c.count.new.leader c.abort_if.new.knows.leader c.in_ok-posts.posts c.sends.result.posts
     (acks-post-in-form c.args.plan.targets c.args.member c.args.attempt c.args.inc c.args.refusal.now leader) c.in_ok-posts.ensures.ok c.in-Ok.ensures.leader (ap (λ did. did.posts) c.sends.ensures)
 
 pub returns-in-Ok-clause-reads : goal.returns-in-Ok-clause-reads
 returns-in-Ok-clause-reads g c =
-    let leader = leader_of c.seat_of-seat.result c.deref-2.result.now c.args.knows.now.leader in
+    let leader = leader_of c.seat_of-seat.result c.args.knows.now.entries.items c.args.knows.now.leader in
     unread-answers [] c.args.knows.now.member.memory c.abort_if.new.knows.member.memory c.sends.result.posts (ap (λ m. m.memory.parked) c.in-Ok.ensures.keeps.beside.member)
-    (sent-by (ack_heard c.args.member c.args.attempt c.args.inc c.args.refusal.now leader) c.hear_ack.new.self c.in_ok-posts.posts c.sends.result.posts (acks-carry c.args.member c.args.attempt c.args.inc c.args.refusal.now leader)
+    (sent-by (ack_heard c.args.member c.args.attempt c.args.inc c.args.refusal.now leader) c.count.new.leader c.in_ok-posts.posts c.sends.result.posts (acks-carry c.args.member c.args.attempt c.args.inc c.args.refusal.now leader)
     c.in_ok-posts.ensures.ok (ap (λ did. did.posts) c.sends.ensures))

@@ -20,5 +20,5 @@ returns-clause-made g c d at = record {
   free = c.in_ok-settle.ensures.call.free;
 }
 
-pub settle_rows-requires : goal.settle_rows-requires
-settle_rows-requires g c = step-of_table c.args.step c.requires.step
+pub settle-requires-2 : goal.settle-requires-2
+settle-requires-2 g c = step-of_table c.args.step c.requires.step

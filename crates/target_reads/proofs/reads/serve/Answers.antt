@@ -60,7 +60,7 @@ returns-then-not-is_one-clause-served g c d at m reading =
     let found : c.is_one.result ≡ true = c.is_one.ensures.1 (subst (λ xs. Contains xs c.in-Unsettled.other) (sym c.decided.ensures) among) in
     let n : ⊥ = cc in n) in
     serves_beside c.args.plan m reading c.args.request.now c.args.epoch _ _ c.loop-answer.knows.leader.decided c.in-Unsettled.other _ _ _ now.durable _ _ _ now.holds (c.in_ok-answer.ensures.met now.durable now.kept_is) c.in-Unsettled.is apart
-    (other-known c.args.plan c.in-Unsettled.other _ now.durable (c.loop-answer.invariant.leads now.durable now.kept_is).entries) (c.served_beside.ensures ∙ ap (λ es. beside_of c.in-Unsettled.other (other_leader_of c.args.plan.me (entry_in es c.in-Unsettled.other))) c.deref.ensures.value)
+    (other-known c.args.plan c.in-Unsettled.other _ now.durable (c.loop-answer.invariant.leads now.durable now.kept_is).entries) c.served_beside.ensures
 
 pub returns-then-not-is_one-clause-keeps : goal.returns-then-not-is_one-clause-keeps
 returns-then-not-is_one-clause-keeps g c = record {

@@ -25,15 +25,15 @@ returns-in_err-posts-clause-turn g c d at =
 pub returns-clause-turn : goal.returns-clause-turn
 returns-clause-turn g c d at =
     let seat = c.seat_of-seat.ensures in
-    let known = leader-known c.args.plan (memory_of c.args.knows.now) c.seat_of-seat.result c.deref.result.now d seat.me seat.targets (seat.incarnation c.requires.running d at) (c.deref.ensures.value ∙ (c.requires.target.leads c.requires.running d at).entries) in
+    let known = leader-known c.args.plan (memory_of c.args.knows.now) c.seat_of-seat.result c.rows.result.now d seat.me seat.targets (seat.incarnation c.requires.running d at) (c.rows.ensures ∙ (c.requires.target.leads c.requires.running d at).entries) in
     silent-done (ask_left c.args.plan (memory_of c.args.knows.now) c.args.from c.args.attempt) d (g.S.Store.state c.args.store.now) (g.S.Store.durable c.args.store.now) (g.S.Store.may c.args.store.now)
     (memory_of (record c.args.knows.now { leader = c.hear_ask.new.self })) at c.sends.result
     (ap {A = Did} {B = TargetMemory × Did} (λ x. (memory_of (record c.args.knows.now { leader = c.hear_ask.new.self }), x)) c.sends.ensures
-    ∙ ask-left c.args.plan (memory_of c.args.knows.now) c.args.from c.args.attempt (kept d (g.S.Store.state c.args.store.now)) (leader_of c.seat_of-seat.result c.deref.result.now c.args.knows.now.leader) c.hear_ask.new.self c.in_ok-posts.posts known c.in_ok-posts.ensures.ok)
+    ∙ ask-left c.args.plan (memory_of c.args.knows.now) c.args.from c.args.attempt (kept d (g.S.Store.state c.args.store.now)) (leader_of c.seat_of-seat.result c.rows.result.now c.args.knows.now.leader) c.hear_ask.new.self c.in_ok-posts.posts known c.in_ok-posts.ensures.ok)
 
 pub returns-clause-posts : goal.returns-clause-posts
 returns-clause-posts g c client =
-    let leader = leader_of c.seat_of-seat.result c.deref.result.now c.args.knows.now.leader in
+    let leader = leader_of c.seat_of-seat.result c.rows.result.now c.args.knows.now.leader in
     posted-by c.args.plan.targets (ask_heard c.args.attempt c.args.from leader) c.args.knows.now.leader c.hear_ask.new.self c.hear_ask.new.self c.in_ok-posts.posts c.sends.result.posts
     (ask-posts c.args.plan.targets c.args.attempt c.args.from leader client) c.in_ok-posts.ensures.ok refl (ap (λ did. did.posts) c.sends.ensures)
 
@@ -44,13 +44,13 @@ returns-clause-target g c =
     (record { clock = own.clock; member = own.member; parked = own.parked })
     (λ d k. record {
       entries = k.entries;
-      rows = asked-rows c.args.plan.me d c.args.attempt c.args.from (leader_of c.seat_of-seat.result c.deref.result.now c.args.knows.now.leader) c.hear_ask.new.self c.in_ok-posts.posts c.in_ok-posts.ensures.ok k.rows;
+      rows = asked-rows c.args.plan.me d c.args.attempt c.args.from (leader_of c.seat_of-seat.result c.rows.result.now c.args.knows.now.leader) c.hear_ask.new.self c.in_ok-posts.posts c.in_ok-posts.ensures.ok k.rows;
       heard = k.heard;
       asks = k.asks;
     })
 
 pub returns-clause-reads : goal.returns-clause-reads
 returns-clause-reads g c =
-    let leader = leader_of c.seat_of-seat.result c.deref.result.now c.args.knows.now.leader in
+    let leader = leader_of c.seat_of-seat.result c.rows.result.now c.args.knows.now.leader in
     unread-answers [] c.args.knows.now.member.memory c.args.knows.now.member.memory c.sends.result.posts refl
     (sent-by (ask_heard c.args.attempt c.args.from leader) c.hear_ask.new.self c.in_ok-posts.posts c.sends.result.posts (asks-carry c.args.attempt c.args.from leader) c.in_ok-posts.ensures.ok (ap (λ did. did.posts) c.sends.ensures))

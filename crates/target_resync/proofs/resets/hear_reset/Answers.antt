@@ -43,7 +43,7 @@ returns-in_err-freed-clause-target g c =
     let freed = nothing-freed c.args.knows.now.member c.hear_reset-2.new.self c.in_err-freed.ensures.err in
     target-known c.args.plan (g.S.Store.state c.args.store.now) (g.S.Store.durable c.args.store.now) c.args.knows.now new c.requires.target
     (own-reset c.args.plan c.args.knows.now new refl freed c.requires.target.own)
-    (λ d k. leads-reset c.args.plan c.args.knows.now new refl freed d (rows-by c.args.plan.me d c.args.target c.args.down c.args.message.now (leader_of c.seat_of-seat.result c.deref.result.now c.args.knows.now.leader) c.hear_reset.new.self c.in_ok-posts.posts c.in_ok-posts.ensures.ok k.rows) refl k)
+    (λ d k. leads-reset c.args.plan c.args.knows.now new refl freed d (rows-by c.args.plan.me d c.args.target c.args.down c.args.message.now (leader_of c.seat_of-seat.result c.rows.result.now c.args.knows.now.leader) c.hear_reset.new.self c.in_ok-posts.posts c.in_ok-posts.ensures.ok k.rows) refl k)
 
 pub returns-in_err-push_all-clause-target : goal.returns-in_err-push_all-clause-target
 returns-in_err-push_all-clause-target g c =
@@ -51,7 +51,7 @@ returns-in_err-push_all-clause-target g c =
     let freed = freed-by c.args.down c.args.message.now c.args.knows.now.member c.hear_reset-2.new.self c.in_ok-freed.freed c.in_ok-freed.ensures.ok in
     target-known c.args.plan (g.S.Store.state c.args.store.now) (g.S.Store.durable c.args.store.now) c.args.knows.now new c.requires.target
     (own-reset c.args.plan c.args.knows.now new refl freed c.requires.target.own)
-    (λ d k. leads-reset c.args.plan c.args.knows.now new refl freed d (rows-by c.args.plan.me d c.args.target c.args.down c.args.message.now (leader_of c.seat_of-seat.result c.deref.result.now c.args.knows.now.leader) c.hear_reset.new.self c.in_ok-posts.posts c.in_ok-posts.ensures.ok k.rows) refl k)
+    (λ d k. leads-reset c.args.plan c.args.knows.now new refl freed d (rows-by c.args.plan.me d c.args.target c.args.down c.args.message.now (leader_of c.seat_of-seat.result c.rows.result.now c.args.knows.now.leader) c.hear_reset.new.self c.in_ok-posts.posts c.in_ok-posts.ensures.ok k.rows) refl k)
 
 pub returns-clause-target : goal.returns-clause-target
 returns-clause-target g c =
@@ -59,30 +59,30 @@ returns-clause-target g c =
     let freed = freed-by c.args.down c.args.message.now c.args.knows.now.member c.hear_reset-2.new.self c.in_ok-freed.freed c.in_ok-freed.ensures.ok in
     target-known c.args.plan (g.S.Store.state c.args.store.now) (g.S.Store.durable c.args.store.now) c.args.knows.now new c.requires.target
     (own-reset c.args.plan c.args.knows.now new refl freed c.requires.target.own)
-    (λ d k. leads-reset c.args.plan c.args.knows.now new refl freed d (rows-by c.args.plan.me d c.args.target c.args.down c.args.message.now (leader_of c.seat_of-seat.result c.deref.result.now c.args.knows.now.leader) c.hear_reset.new.self c.in_ok-posts.posts c.in_ok-posts.ensures.ok k.rows) refl k)
+    (λ d k. leads-reset c.args.plan c.args.knows.now new refl freed d (rows-by c.args.plan.me d c.args.target c.args.down c.args.message.now (leader_of c.seat_of-seat.result c.rows.result.now c.args.knows.now.leader) c.hear_reset.new.self c.in_ok-posts.posts c.in_ok-posts.ensures.ok k.rows) refl k)
 
 -- it is done
 
 pub returns-clause-turn : goal.returns-clause-turn
 returns-clause-turn g c d at =
     let seat = c.seat_of-seat.ensures in
-    let known = leader-known c.args.plan (memory_of c.args.knows.now) c.seat_of-seat.result c.deref.result.now d seat.me seat.targets (seat.incarnation c.requires.running d at) (c.deref.ensures.value ∙ (c.requires.target.leads c.requires.running d at).entries) in
+    let known = leader-known c.args.plan (memory_of c.args.knows.now) c.seat_of-seat.result c.rows.result.now d seat.me seat.targets (seat.incarnation c.requires.running d at) (c.rows.ensures ∙ (c.requires.target.leads c.requires.running d at).entries) in
     silent-done (reset_left c.args.plan (memory_of c.args.knows.now) c.args.target c.args.down c.args.message.now) d (g.S.Store.state c.args.store.now) (g.S.Store.durable c.args.store.now) (g.S.Store.may c.args.store.now)
     (memory_of (record c.args.knows.now { leader = c.hear_reset.new.self; member = c.hear_reset-2.new.self })) at c.sends.result
     (ap {A = Did} {B = TargetMemory × Did} (λ x. (memory_of (record c.args.knows.now { leader = c.hear_reset.new.self; member = c.hear_reset-2.new.self }), x)) c.sends.ensures
-    ∙ reset-left_so c.args.plan (memory_of c.args.knows.now) c.args.target c.args.down c.args.message.now (kept d (g.S.Store.state c.args.store.now)) (leader_of c.seat_of-seat.result c.deref.result.now c.args.knows.now.leader) c.hear_reset.new.self
+    ∙ reset-left_so c.args.plan (memory_of c.args.knows.now) c.args.target c.args.down c.args.message.now (kept d (g.S.Store.state c.args.store.now)) (leader_of c.seat_of-seat.result c.rows.result.now c.args.knows.now.leader) c.hear_reset.new.self
     c.in_ok-posts.posts c.args.knows.now.member c.hear_reset-2.new.self c.in_ok-freed.freed c.push_all.new.posts known c.in_ok-posts.ensures.ok (member-known c.args.plan c.args.knows.now c.requires.target.own) c.in_ok-freed.ensures.ok c.in_ok-push_all.ensures)
 
 -- what is sent has its form
 
 pub returns-clause-posts : goal.returns-clause-posts
 returns-clause-posts g c =
-    reset-posts c.args.plan.targets c.args.target c.args.down c.args.message.now (leader_of c.seat_of-seat.result c.deref.result.now c.args.knows.now.leader) c.hear_reset.new.self c.in_ok-posts.posts c.args.knows.now.member c.hear_reset-2.new.self
+    reset-posts c.args.plan.targets c.args.target c.args.down c.args.message.now (leader_of c.seat_of-seat.result c.rows.result.now c.args.knows.now.leader) c.hear_reset.new.self c.in_ok-posts.posts c.args.knows.now.member c.hear_reset-2.new.self
     c.in_ok-freed.freed c.push_all.new.posts c.sends.result.posts c.in_ok-posts.ensures.ok c.in_ok-freed.ensures.ok c.in_ok-push_all.ensures (ap (λ did. did.posts) c.sends.ensures)
 
 pub returns-clause-reads : goal.returns-clause-reads
 returns-clause-reads g c =
-    let leader = leader_of c.seat_of-seat.result c.deref.result.now c.args.knows.now.leader in
+    let leader = leader_of c.seat_of-seat.result c.rows.result.now c.args.knows.now.leader in
     reset-answers c.args.down c.args.message.now c.args.knows.now.member c.hear_reset-2.new.self c.in_ok-freed.freed c.in_ok-posts.posts c.push_all.new.posts c.sends.result.posts c.in_ok-freed.ensures.ok
     (sent-by (reset_heard c.args.target c.args.down c.args.message.now leader) c.hear_reset.new.self c.in_ok-posts.posts c.in_ok-posts.posts (resets-carry c.args.target c.args.down c.args.message.now leader) c.in_ok-posts.ensures.ok refl)
     c.in_ok-push_all.ensures (ap (λ did. did.posts) c.sends.ensures)

@@ -16,7 +16,7 @@ use Rattle.target_resync.proofs.statuses.hear_status.Goals as goal
 pub returns-clause-turn : goal.returns-clause-turn
 unfolding entry_of
 returns-clause-turn g c d at =
-    let entries = c.deref.ensures.value ∙ (c.requires.target.leads c.requires.running d at).entries in
+    let entries = (c.requires.target.leads c.requires.running d at).entries in
     let state : c.state_of.result ≡ state_of (entry_of d c.args.attempt) = c.state_of.ensures ∙ ap state_of c.find.ensures ∙ ap {A = List Entry} {B = EntryState} (λ es. state_of (entry_in es c.args.attempt)) entries in
     silent-said (status_left (memory_of c.args.knows.now) c.args.from c.args.attempt c.args.inc) d (g.S.Store.state c.args.store.now) (g.S.Store.durable c.args.store.now) (g.S.Store.may c.args.store.now) (memory_of c.args.knows.now) at
     (says c.args.from (StatusIs c.args.attempt c.args.inc c.state_of.result) None) c.says.result c.says.ensures.did c.says.ensures.wanting

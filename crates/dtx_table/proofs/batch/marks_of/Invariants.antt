@@ -2,7 +2,7 @@ use Rattle.std.specs.Prelude.{◌≡◌, ◌++◌, ◌-◌}
 use Rattle.std.specs.List.{range_with_len}
 use Rattle.dtx_base.specs.Leading.{marks_for, names_for}
 use Rattle.dtx_base.specs.Members.{all_targets}
-use Rattle.dtx_table.proofs.batch.batch_of.Given as goal
+use Rattle.dtx_table.proofs.batch.marks_of.Given as goal
 
 abbrev pub invariant-loop-target : goal.invariant-loop-target
 invariant-loop-target l = record {

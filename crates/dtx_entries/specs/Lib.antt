@@ -1,0 +1,4 @@
+pub mod Owing
+pub mod Places
+pub mod Settling
+pub mod Tables
