@@ -7,11 +7,12 @@ ghost use Rattle.pmem_tree_base.specs.Nodes.{entry_of};
 ghost use Rattle.pmem_tree.specs.Ends.{GrowsAtEnd};
 ghost use Rattle.pmem_tree.specs.Grow.{SomeGrows, OfGrowing, Grown, GrowsCheaply};
 
-use crate::rejoin::rejoin;
+use crate::rejoin::rejoin_in;
+use pmem_pages::BLOCK;
 use pmem_pages::codec::compare;
 use pmem_pages::pages::Pages;
 use pmem_pages::steps::Steps;
-use pmem_tree_base::read::{Spot, Sub, pair_in, read_at, sub_at};
+use pmem_tree_base::read::{Spot, Sub, read_in, sub_at};
 use pmem_tree_base::refusal::TreeNo;
 use pmem_tree_base::write::stage_fork;
 use std::cmp::Ordering;
@@ -55,24 +56,20 @@ pub fn insert_at<P: Pages, L: Ledger>(
     if depth == 0 {
         return Err(TreeNo::TooMuch);
     }
-    let node = read_at(pages, fresh.kind, at, steps)?;
-    let pair = pair_in(&node);
-    let spot = Spot {
-        kind: fresh.kind,
-        at,
-        pair,
-    };
-    match compare(&fresh.pair.key, &node.key) {
+    let mut block = [0; BLOCK];
+    let node = read_in(pages, fresh.kind, at, &mut block, steps)?;
+    let here = node.key;
+    match compare(&fresh.pair.key, &here) {
         Ordering::Less => {
             let right = sub_at(pages, fresh.kind, node.right, steps)?;
             let left = insert_at(pages, fresh, node.left, depth - 1, steps)?;
-            rejoin(pages, &spot, &node, left, right, steps)
+            rejoin_in(pages, fresh.kind, at, &block, left, right, steps)
         }
         Ordering::Equal => Err(TreeNo::TooMuch),
         Ordering::Greater => {
             let left = sub_at(pages, fresh.kind, node.left, steps)?;
             let right = insert_at(pages, fresh, node.right, depth - 1, steps)?;
-            rejoin(pages, &spot, &node, left, right, steps)
+            rejoin_in(pages, fresh.kind, at, &block, left, right, steps)
         }
     }
 }

@@ -5,10 +5,11 @@ ghost use Rattle.pmem_tree_base.specs.declared.refusal.TreeNo.{TreeNo};
 ghost use Rattle.pmem_tree_base.specs.Calls.{Goes};
 ghost use Rattle.pmem_tree_base.specs.Put.{SomePuts, OfPutting, OfSame, Put};
 
-use crate::read::read_at;
+use crate::read::read_in;
 use crate::refusal::TreeNo;
 use crate::write::stage_node;
-use pmem_pages::codec::compare;
+use pmem_pages::BLOCK;
+use pmem_pages::codec::{compare, read_node};
 use pmem_pages::node::{Node, Pair, Value};
 use pmem_pages::pages::Pages;
 use pmem_pages::steps::Steps;
@@ -66,14 +67,17 @@ pub fn put_at<P: Pages, L: Ledger>(
     if at == 0 || depth == 0 {
         return Ok(());
     }
-    let node = read_at(pages, kind, at, steps)?;
-    match compare(&pair.key, &node.key) {
+    let mut block = [0; BLOCK];
+    let node = read_in(pages, kind, at, &mut block, steps)?;
+    let here = node.key;
+    match compare(&pair.key, &here) {
         Ordering::Less => put_at(pages, kind, node.left, depth - 1, pair, steps),
         Ordering::Equal => {
-            if is_same(&node.value, &pair.value) {
+            let whole = read_node(kind, &block);
+            if is_same(&whole.value, &pair.value) {
                 return Ok(());
             }
-            let changed = with_value(&node, &pair.value);
+            let changed = with_value(&whole, &pair.value);
             stage_node(pages, kind, at, &changed)?;
             Ok(())
         }

@@ -1,5 +1,6 @@
 // A node is read.
 ghost use Rattle.std.specs.Prelude.{◌≡◌, ◌≤◌, ◌+◌, true, IfOk, OnOk, OnErr, IsTrue};
+ghost use Rattle.pmem_pages.specs.Node.{node_of};
 ghost use Rattle.pmem_pages.specs.Shape.{Shape};
 ghost use Rattle.pmem_tree_base.specs.Calls.{Goes};
 ghost use Rattle.pmem_tree_base.specs.Nodes.{SomeNode, IsNodeAt, IsSub, StandsAt, SomeStandsAt, OpensAt};
@@ -59,6 +60,33 @@ pub fn read_at<P: Pages, L: Ledger>(
     let mut block = [0; BLOCK];
     pages.read_block(at, &mut block, steps)?;
     Ok(read_node(kind, &block))
+}
+
+/// Reads the node in a block, in one step, and keeps its bytes.
+///
+/// # Errors
+///
+/// `Stopped` comes only where the pages answered it.
+pub fn read_in<P: Pages, L: Ledger>(
+    pages: &mut P,
+    kind: u8,
+    at: u32,
+    to: &mut [u8; 256],
+    steps: &mut Steps<L>,
+) -> Result<Node, Stopped>
+    requires { IsTrue P.tells → SomeNode (P.blocks pages.old) kind at }
+    ensures node { IfOk result (λ n. IsTrue P.tells → IsNodeAt (P.blocks pages.old) kind at n) }
+    ensures bytes { IfOk result (λ n. n ≡ node_of kind to.new) }
+    ensures key { IfOk result (λ n. n.key.len ≤ 64) }
+    ensures kept { IsTrue P.tells → P.blocks pages.new ≡ P.blocks pages.old }
+    ensures budget { P.budget pages.new ≡ P.budget pages.old }
+    ensures step { steps.new ≡ steps.old + 1 }
+    ensures goes { Goes P.stopped P.count P.burns pages.old pages.new }
+    ensures stopped { OnErr result (P.stopped pages.new ≡ true) }
+    ensures went_on { OnOk result (P.stopped pages.new ≡ P.stopped pages.old) }
+{
+    pages.read_block(at, to, steps)?;
+    Ok(read_node(kind, to))
 }
 
 /// The root and the height of the tree below a block, in at most one step.
