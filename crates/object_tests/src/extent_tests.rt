@@ -102,7 +102,7 @@ fn punch_akey<L: Ledger>(
 {
     let path = path(alloc, unit)?;
     let write = Write::PunchAkey(path);
-    store.punch(epoch, &MinorWrite { minor: 0, write }, steps)
+    store.punch(alloc, epoch, &MinorWrite { minor: 0, write }, steps)
 }
 
 // Extents that lie over one another, and a punch.
@@ -165,7 +165,8 @@ fn read_below<L: Ledger>(
 {
     let read = read(alloc, unit, 0, 12)?;
     let objects = store.objects();
-    let found = objects.fetch(&mut store.pages, alloc, &read, Epoch(below), steps);
+    let (pages, below) = (&mut store.pages, Epoch(below));
+    let found = objects.fetch(pages, alloc, &read, below, &store.punches, steps);
     Some(sizes(&found.ok()?))
 }
 

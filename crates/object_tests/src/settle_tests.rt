@@ -32,13 +32,13 @@ const OTHER: AttemptId = AttemptId {
 };
 
 // So many blocks there are, and a value has two.
-const BLOCKS: u32 = 200;
+pub(crate) const BLOCKS: u32 = 200;
 
 const LENGTH: usize = 300;
 
 /// What is done with the value of one akey of one epoch, and whose turn it is.
 #[derive(Clone, Copy)]
-enum Step {
+pub(crate) enum Step {
     Write,
     Commit,
     CommitOther,
@@ -166,7 +166,7 @@ fn change<L: Ledger>(
 }
 
 // A step on the trees.
-fn make<L: Ledger>(
+pub(crate) fn make<L: Ledger>(
     store: &mut Store,
     alloc: Global,
     unit: u8,
@@ -187,7 +187,7 @@ fn make<L: Ledger>(
 
 // The first byte of what an akey holds below an epoch, or 0 where it holds nothing.
 #[tactic(auto, unfolding(daos_model::specs::Forms::is_read_in_form))]
-fn shown<L: Ledger>(
+pub(crate) fn shown<L: Ledger>(
     store: &mut Store,
     alloc: Global,
     unit: u8,
@@ -199,10 +199,9 @@ fn shown<L: Ledger>(
 {
     let objects = store.objects();
     let read = Read::Single(path(alloc, unit, akey)?);
-    match objects
-        .fetch(&mut store.pages, alloc, &read, Epoch(below), steps)
-        .ok()?
-    {
+    let (pages, below) = (&mut store.pages, Epoch(below));
+    let found = objects.fetch(pages, alloc, &read, below, &store.punches, steps);
+    match found.ok()? {
         Answer::Bytes(bytes) => bytes.as_slice().first().copied(),
         _ => Some(0),
     }

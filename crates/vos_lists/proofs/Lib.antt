@@ -1,5 +1,5 @@
-mod Walking
-mod Reading
+pub mod Walking
+pub mod Reading
 mod Alive
 mod Naming
 mod Full

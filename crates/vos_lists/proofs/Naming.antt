@@ -11,8 +11,9 @@ use Rattle.std.proofs.lemmas.Cmp.{same_from_slice_cmp}
 use Rattle.daos_model.specs.Answers.{in_byte_order, is_before}
 use Rattle.daos_model.specs.BoolLaws.{both, clash}
 use Rattle.daos_model.specs.Ordered.{all_after, is_rising}
+use Rattle.daos_model.specs.OrderLaws.{rising-names}
 use Rattle.model_laws.specs.Members.{Has, has-filter, has-from_filter}
-use Rattle.model_laws.specs.NameLaws.{has-from_names, has-names, rising-names}
+use Rattle.model_laws.specs.NameLaws.{has-from_names, has-names}
 use Rattle.model_laws.specs.RisingLaws.{rising-same}
 use Rattle.pmem_pages.specs.Blocks.{Blocks}
 use Rattle.pmem_pages.specs.Node.{key_cmp}

@@ -1,2 +1,3 @@
 mod ReadForms
 mod Settled
+mod Punching

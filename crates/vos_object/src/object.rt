@@ -1,5 +1,5 @@
-// Objects in a tree: updates, punches, reads of values, and listings.
-ghost use Rattle.std.specs.Prelude.{◌≡◌, ◌≤◌, ◌<◌, ◌+◌, true, false, ℕ, IfOk, OnOk, IsErrOf, IsTrue};
+// Objects in a tree: updates, punches, reads of values, listings, and the punches that reads ask for.
+ghost use Rattle.std.specs.Prelude.{◌≡◌, ◌≤◌, ◌<◌, ◌+◌, true, false, ℕ, IfOk, OnOk, IsErrOf, IsTrue, ⊤};
 ghost use Rattle.base_types.specs.Operations.{read_path};
 ghost use Rattle.base_types.specs.Paths.{record_size};
 ghost use Rattle.base_types.specs.declared.answer.Answer.TheVariants.{Names};
@@ -19,6 +19,8 @@ ghost use Rattle.vos_chain.specs.declared.refusal.PiecesNo.TheVariants.{Stopped 
 ghost use Rattle.vos_path.specs.Calls.{LacksFor, SpendsAtMost, for_pair};
 ghost use Rattle.vos_path.specs.Objects.{objects_owner, objects_versions};
 ghost use Rattle.vos_path.specs.Writes.{IsNewIn, NamesAreKeys, ObjectsAreSmall, below_object_pairs, data_blocks, is_update, object_pairs};
+ghost use Rattle.vos_punches.specs.Punches.{ArePunchesOf};
+ghost use Rattle.vos_punches.specs.Rows.{moments_at};
 ghost use Rattle.vos_reads.specs.Cost.{OfNames, StepsToExtents, StepsToSingle};
 ghost use Rattle.vos_reads.specs.Ways.{IsSettled};
 ghost use Rattle.vos_object.specs.Updates.{Added, IsWritable, is_value_read, listing, most_blocks, new_version};
@@ -35,10 +37,12 @@ use pmem_tree::tree::Tree;
 use std::alloc::Global;
 use std::sync::ledger::Ledger;
 use vos_chain::refusal::PiecesNo;
+use vos_gather::objects::gather_punches;
 use vos_lists::exists::fetch_exists;
 use vos_lists::list::{list_akeys, list_dkeys};
 use vos_path::objects::write_objects;
 use vos_path::stamp::Stamp;
+use vos_punches::punches::Punches;
 use vos_reads::extent::fetch_extent;
 use vos_reads::single::fetch_single;
 use vos_values::keys::Moment;
@@ -124,9 +128,34 @@ impl Objects {
         write_objects(&mut self.tree, pages, Stamp { at, by }, &write.write, steps)
     }
 
+    /// The punches of all versions of the objects, settled or not: those that `fetch` asks for. They are
+    /// gathered by a walk over all objects, dkeys and akeys and their logs; `laws_of_punches` says how they stay
+    /// those of the versions where writes come, are settled or go.
+    ///
+    /// # Errors
+    ///
+    /// `Stopped` comes only where the pages answered it.
+    pub fn punches<P: Pages, L: Ledger>(
+        &self,
+        pages: &mut P,
+        alloc: Global,
+        steps: &mut Steps<L>,
+    ) -> Result<Punches, PiecesNo>
+        requires kind { self.now.tree.kind ≡ 1 }
+        requires here { HasThing P.tells objects_owner hung_root (P.blocks pages.old) self.now.tree.root (λ g. ⊤) }
+        ensures gathered { IfOk result (λ punches. OfThing P.tells objects_owner hung_root (P.blocks pages.old) self.now.tree.root (λ g. ArePunchesOf (objects_versions g) (moments_at punches))) }
+        ensures kept { IsTrue P.tells → P.blocks pages.new ≡ P.blocks pages.old }
+        ensures budget { P.budget pages.new ≡ P.budget pages.old }
+        ensures goes { Goes P.stopped P.count P.burns pages.old pages.new }
+        ensures stopped { IsErrOf result stopped_no → P.stopped pages.new ≡ true }
+        ensures went_on { OnOk result (P.stopped pages.new ≡ P.stopped pages.old) }
+    {
+        gather_punches(self.tree, pages, alloc, steps)
+    }
+
     /// What a read of a single value or of an array, or of whether there is a cell below a path, is answered
     /// below an epoch, where every version below it that overlaps the path is settled: what the map of the
-    /// versions below is answered.
+    /// versions below is answered. The punches are those of all versions of the objects.
     ///
     /// # Errors
     ///
@@ -137,6 +166,7 @@ impl Objects {
         alloc: Global,
         read: &Read,
         below: Epoch,
+        punches: &Punches,
         steps: &mut Steps<L>,
     ) -> Result<Answer, PiecesNo>
         requires kind { self.now.tree.kind ≡ 1 }
@@ -145,7 +175,8 @@ impl Objects {
         requires size { is_unit (record_size (read_path read.now)) ≡ true }
         requires names { NamesAreKeys (read_path read.now) }
         requires here { HasThing P.tells objects_owner hung_root (P.blocks pages.old) self.now.tree.root (IsSettled (read_path read.now) below) }
-        ensures found { IfOk result (λ a. OfThing P.tells objects_owner hung_root (P.blocks pages.old) self.now.tree.root (λ g. IsSettled (read_path read.now) below g → a ≡ answer read.now (map_below (in_order version_key (objects_versions g)) below.0))) }
+        requires punches { HasThing P.tells objects_owner hung_root (P.blocks pages.old) self.now.tree.root (λ g. ArePunchesOf (objects_versions g) (moments_at punches.now)) }
+        ensures found { IfOk result (λ a. OfThing P.tells objects_owner hung_root (P.blocks pages.old) self.now.tree.root (λ g. IsSettled (read_path read.now) below g → ArePunchesOf (objects_versions g) (moments_at punches.now) → a ≡ answer read.now (map_below (in_order version_key (objects_versions g)) below.0))) }
         ensures single { (p : PathOf) → read.now ≡ single_read p → OfThing P.tells objects_owner hung_root (P.blocks pages.old) self.now.tree.root (λ g. OfNames p (λ o k a. StepsToSingle o k a g steps.old steps.new)) }
         ensures extent { (p : PathOf) (low len : ℕ) → read.now ≡ extent_read p low len → OfThing P.tells objects_owner hung_root (P.blocks pages.old) self.now.tree.root (λ g. OfNames p (λ o k a. StepsToExtents low (low + len) o k a g steps.old steps.new)) }
         ensures kept { IsTrue P.tells → P.blocks pages.new ≡ P.blocks pages.old }
@@ -155,10 +186,12 @@ impl Objects {
         ensures went_on { OnOk result (P.stopped pages.new ≡ P.stopped pages.old) }
     {
         match read {
-            Read::Single(path) => fetch_single(self.tree, pages, alloc, path, below, steps),
-            Read::Extent(path, low, len) => {
-                fetch_extent(self.tree, pages, alloc, path, *low, *len, below, steps)
+            Read::Single(path) => {
+                fetch_single(self.tree, pages, alloc, path, below, punches, steps)
             }
+            Read::Extent(path, low, len) => fetch_extent(
+                self.tree, pages, alloc, path, *low, *len, below, punches, steps,
+            ),
             Read::Exists(path) => fetch_exists(self.tree, pages, alloc, path, below, steps),
             Read::Dkeys(_) | Read::Akeys(_) => Ok(Answer::Absent),
         }

@@ -1,5 +1,5 @@
 -- What stands in buckets at a path, where one of them was changed or added.
-use Rattle.std.proofs.Common.{◌≡◌, ℕ, ◌==◌, cond, nat_eq, Bool, true, false, List, [], Option, Some, None, refl, sym, ap, ◌∙◌, arith}
+use Rattle.std.proofs.Common.{◌≡◌, ℕ, cond, nat_eq, Bool, true, false, List, [], Option, Some, None, refl, sym, ap, ◌∙◌, arith}
 use Rattle.std.specs.Prelude.{if◌then◌else◌, OnErr, Result, Ok, Err}
 use Rattle.std.proofs.lemmas.Bool.Decides.{nat_tests}
 use Rattle.base_types.specs.PathLaws.{same_path-Decides}
@@ -8,7 +8,7 @@ use Rattle.base_types.specs.declared.path.Path.{Path}
 use Rattle.vos_values.specs.declared.keys.Moment.{Moment}
 use Rattle.vos_punches.specs.declared.bucket.Bucket.{Bucket}
 use Rattle.vos_punches.specs.Moments.{without_moment}
-use Rattle.vos_punches.specs.Names.{tag}
+use Rattle.base_types.specs.Tags.{tag}
 use Rattle.vos_punches.specs.Rows.{in_bucket, in_found}
 
 clash : {X : Type 0} (b : Bool) → b ≡ true → b ≡ false → X

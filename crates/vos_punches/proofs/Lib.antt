@@ -3,3 +3,4 @@ pub mod Places
 pub mod Found
 pub mod Changed
 pub mod Kept
+pub mod Covering

@@ -1,4 +1,3 @@
 pub mod Moments
-pub mod Names
 pub mod Punches
 pub mod Rows

@@ -1,15 +1,15 @@
 -- The punches of versions, by where and when they were made.
-use Rattle.std.specs.Prelude.{◌≡◌, ◌&&◌, Bool, true, List, Option, if◌then◌else◌}
+use Rattle.std.specs.Prelude.{◌≡◌, ◌&&◌, All, Bool, true, false, nat_lt, List, Option, Some, None, if◌then◌else◌}
 use Rattle.std.specs.List.{list_any}
 use Rattle.base_types.specs.declared.epoch.Epoch.{Epoch}
 use Rattle.base_types.specs.declared.path.Level.TheVariants.{Obj, Dkey}
 use Rattle.base_types.specs.declared.path.Path.{Path}
-use Rattle.base_types.specs.Paths.{cut_at, same_path}
+use Rattle.base_types.specs.Paths.{cut_at, leads_to, same_path}
 use Rattle.daos_model.specs.declared.durable.Version.{Version}
 use Rattle.daos_model.specs.Prunes.{is_punch}
 use Rattle.daos_model.specs.Versions.{version_path}
 use Rattle.vos_values.specs.declared.keys.Moment.{Moment}
-use Rattle.vos_levels.specs.Moments.{same_moment}
+use Rattle.vos_levels.specs.Moments.{is_earlier, same_moment}
 use Rattle.vos_punches.specs.Moments.{AreInOrder, has_moment, last_below, later_moment, with_moment, without_moment}
 
 -- for each path the moments of its punches, in order
@@ -31,6 +31,20 @@ pub record ArePunchesOf (vs : List Version) (f : PunchesAt) : Type 0 where
 -- the last punch below an epoch that covers a path: of its object, its dkey or the path itself
 abbrev pub covering : Epoch → Path → PunchesAt → Option Moment
 covering e p f = later_moment (last_below e (f (cut_at Obj p))) (later_moment (last_below e (f (cut_at Dkey p))) (last_below e (f p)))
+
+-- a version is a punch below an epoch that covers a path: one of the path itself, or of what the path lies under
+abbrev pub covers : Epoch → Path → Version → Bool
+covers e p v = is_punch v.write && (nat_lt v.epoch.0 e.0 && leads_to (version_path v) p)
+
+-- Of the versions that pass a test one was made at a moment, and none later.
+pub record IsLast (test : Version → Bool) (m : Moment) (vs : List Version) : Type 0 where
+  pub there : list_any (λ v. test v && same_moment (moment_of v) m) vs ≡ true
+  pub last : All (λ v. test v ≡ true → is_earlier m (moment_of v) ≡ false) vs
+
+-- the last punch of the versions that covers a path below an epoch was made at this moment, or there is none
+abbrev pub IsLastOver : Option Moment → Epoch → Path → List Version → Type 0
+IsLastOver None e p vs = list_any (covers e p) vs ≡ false
+IsLastOver (Some m) e p vs = IsLast (covers e p) m vs
 
 -- ---- changes
 

@@ -1,5 +1,5 @@
 -- How the punches are kept: rows of paths in buckets, which are found by the paths' numbers.
-use Rattle.std.specs.Prelude.{ℕ, nat_eq, Bool, List, [], ◌∷◌, Option, Some, None, if◌then◌else◌}
+use Rattle.std.specs.Prelude.{nat_eq, Bool, List, [], ◌∷◌, Option, Some, None, if◌then◌else◌}
 use Rattle.std.specs.HashMap.{get}
 use Rattle.base_types.specs.declared.path.Path.{Path}
 use Rattle.base_types.specs.Paths.{same_path}
@@ -7,7 +7,7 @@ use Rattle.vos_values.specs.declared.keys.Moment.{Moment}
 use Rattle.vos_punches.specs.declared.bucket.Bucket.{Bucket}
 use Rattle.vos_punches.specs.declared.bucket.Row.{Row}
 use Rattle.vos_punches.specs.declared.punches.Punches.{Punches}
-use Rattle.vos_punches.specs.Names.{tag}
+use Rattle.base_types.specs.Tags.{tag}
 
 abbrev pub is_row_of : Path → Row → Bool
 is_row_of p r = same_path r.path p

@@ -6,8 +6,8 @@ ghost use Rattle.vos_punches.specs.Moments.{last_below};
 ghost use Rattle.vos_punches.specs.Punches.{IsAdded, IsRemoved, IsSame};
 ghost use Rattle.vos_punches.specs.Rows.{in_bucket, is_row_of};
 
+use crate::cut::is_cut;
 use crate::moments::Moments;
-use crate::name::is_cut;
 use base_types::epoch::Epoch;
 use base_types::items::Memory;
 use base_types::path::{Level, Path};

@@ -1,13 +1,21 @@
-// What becomes of the punches of versions where the versions change.
+// The last punch that covers a path, and what becomes of the punches of versions where the versions change.
 ghost use Rattle.std.specs.Prelude.{◌≡◌, All, Bool, List, filter, map, true, false};
+ghost use Rattle.base_types.specs.declared.epoch.Epoch.{Epoch as EpochOf};
 ghost use Rattle.base_types.specs.declared.id.AttemptId.{AttemptId as AttemptIdOf};
 ghost use Rattle.base_types.specs.declared.path.Path.{Path as PathOf};
 ghost use Rattle.daos_model.specs.declared.durable.Version.{Version as VersionOf};
+ghost use Rattle.daos_model.specs.Forms.{is_write_in_form};
 ghost use Rattle.daos_model.specs.Prunes.{is_punch};
 ghost use Rattle.daos_model.specs.Versions.{done_by, version_path};
 ghost use Rattle.vos_values.specs.declared.keys.Moment.{Moment as MomentOf};
 ghost use Rattle.vos_levels.specs.Levels.{HasMore, map_those, without_those};
-ghost use Rattle.vos_punches.specs.Punches.{ArePunchesOf, IsAdded, IsRemoved, PunchesAt, is_punch_of, made_done, moment_of};
+ghost use Rattle.vos_punches.specs.Punches.{ArePunchesOf, IsAdded, IsLastOver, IsRemoved, PunchesAt, covering, is_punch_of, made_done, moment_of};
+
+/// The last punch that is found to cover a path is the last of the versions' punches, below the epoch, of the
+/// path or of what it lies under.
+pub fn law_of_covering()
+    ensures { (e : EpochOf) (p : PathOf) (vs : List VersionOf) (f : PunchesAt) → All (λ v. is_write_in_form v.write ≡ true) vs → ArePunchesOf vs f → IsLastOver (covering e p f) e p vs }
+{}
 
 /// A version more: where it is an update the punches are as they were, and where it is a punch it comes to
 /// them.

@@ -2,7 +2,7 @@
 #![tactic(auto)]
 
 mod bucket;
+mod cut;
 pub mod laws;
 pub mod moments;
-mod name;
 pub mod punches;

@@ -8,10 +8,10 @@ ghost use Rattle.base_types.specs.declared.path.Path.{Path as PathOf};
 
 use crate::bucket::Bucket;
 use crate::moments::later_moment;
-use crate::name::tag_at;
 use base_types::epoch::Epoch;
 use base_types::items::Memory;
 use base_types::path::{Level, Path};
+use base_types::tag::tag_at;
 use std::alloc::Global;
 use std::collections::HashMap;
 use vos_values::keys::Moment;

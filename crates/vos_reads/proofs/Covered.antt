@@ -247,10 +247,10 @@ module _ (m : Blocks) (g : Objects) (o : ObjectKey) (d a : List ℕ) (held : Hol
   abbrev b2 : Values
   b2 = below_akey a b1.1
 
-  holds0 : Holds (below_owner dkey_level) m b0
+  pub holds0 : Holds (below_owner dkey_level) m b0
   holds0 = object_holds m g o held
 
-  holds1 : Holds (below_owner akey_level) m b1
+  pub holds1 : Holds (below_owner akey_level) m b1
   holds1 = dkey_holds m b0.1 d (holds_second log_owner (hung dkey_level) m b0 holds0)
 
   pub holds2 : Holds values_owner m b2
@@ -258,19 +258,19 @@ module _ (m : Blocks) (g : Objects) (o : ObjectKey) (d a : List ℕ) (held : Hol
 
   -- ---- from all versions to those of the akey
 
-  listed0 : listed object_versions (find (is_level object_level (object_key o)) (things g)) ≡ below_object_versions o b0
+  pub listed0 : listed object_versions (find (is_level object_level (object_key o)) (things g)) ≡ below_object_versions o b0
   listed0 = listed_found 1 held_below (below_owner dkey_level) object_level.key object_level.value object_level.Good (object_key o) m g held no_below object_versions (below_object_versions o) refl (λ b ok level. ap (λ z. below_object_versions z b.holds) (objects_exact o object b ok level))
 
   dkey_exact : (b : Dkey) → IsName b.name → is_level dkey_level (name_key d) b ≡ true → b.name ≡ d
   dkey_exact b ok level = sym (name_exact d b.name dkey ok (level_equal dkey_level (name_key d) b level))
 
-  listed1 : listed (dkey_versions o) (find (is_level dkey_level (name_key d)) (things b0.1)) ≡ below_dkey_versions o d b1
+  pub listed1 : listed (dkey_versions o) (find (is_level dkey_level (name_key d)) (things b0.1)) ≡ below_dkey_versions o d b1
   listed1 = listed_found 2 held_below (below_owner akey_level) dkey_level.key dkey_level.value dkey_level.Good (name_key d) m b0.1 (holds_second log_owner (hung dkey_level) m b0 holds0) no_below (dkey_versions o) (below_dkey_versions o d) refl (λ b ok level. ap (λ z. below_dkey_versions o z b.holds) (dkey_exact b ok level))
 
   akey_exact : (b : Akey) → IsName b.name → is_level akey_level (name_key a) b ≡ true → b.name ≡ a
   akey_exact b ok level = sym (name_exact a b.name akey ok (level_equal akey_level (name_key a) b level))
 
-  listed2 : listed (akey_versions o d) (find (is_level akey_level (name_key a)) (things b1.1)) ≡ values_versions (akey_path o d a) b2
+  pub listed2 : listed (akey_versions o d) (find (is_level akey_level (name_key a)) (things b1.1)) ≡ values_versions (akey_path o d a) b2
   listed2 = listed_found 3 held_values values_owner akey_level.key akey_level.value akey_level.Good (name_key a) m b1.1 (holds_second log_owner (hung akey_level) m b1 holds1) no_values (akey_versions o d) (values_versions (akey_path o d a)) refl (λ b ok level. ap (λ z. values_versions (akey_path o d z) b.holds) (akey_exact b ok level))
 
   quiet0 : (x : Object) → object_level.Good x → is_level object_level (object_key o) x ≡ false → list_any (speaks e.0 c) (object_versions x) ≡ false

@@ -4,3 +4,4 @@ pub mod Covered
 pub mod Going
 pub mod Arrays
 pub mod Costs
+pub mod Indexed

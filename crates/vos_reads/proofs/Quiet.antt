@@ -87,7 +87,7 @@ all_map : {A V : Type 0} (P : V → Type 0) (f : A → V) (xs : List A) → ((a 
 all_map P f [] h = All-nil P
 all_map P f (x ∷ xs) h = All-cons P (f x) (map f xs) (h x) (all_map P f xs h)
 
-all_together : {A V : Type 0} (P : V → Type 0) (f : A → List V) (xs : List A) → ((a : A) → All P (f a)) → All P (together f xs)
+pub all_together : {A V : Type 0} (P : V → Type 0) (f : A → List V) (xs : List A) → ((a : A) → All P (f a)) → All P (together f xs)
 all_together P f [] h = All-nil P
 all_together P f (x ∷ xs) h = All-append P (f x) (together f xs) (h x) (all_together P f xs h)
 

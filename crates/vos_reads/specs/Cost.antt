@@ -3,8 +3,6 @@ use Rattle.std.specs.Prelude.{◌≡◌, ◌≤◌, ◌<◌, ◌+◌, ◌*◌, �
 use Rattle.base_types.specs.declared.path.Path.{Path}
 use Rattle.pmem_pages.specs.Shape.{Shape, entries}
 use Rattle.vos_values.specs.declared.keys.ObjectKey.{ObjectKey}
-use Rattle.vos_levels.specs.Levels.{things}
-use Rattle.vos_ilog.specs.Logs.{Log}
 use Rattle.vos_extent.specs.Extents.{extents}
 use Rattle.vos_extent.specs.Shown.{near}
 use Rattle.vos_path.specs.Objects.{Objects, akey_path}
@@ -24,30 +22,14 @@ pub record WayHasDigits (d : ℕ) (o : ObjectKey) (k : List ℕ) (g : Objects) :
 abbrev pub StepsToAkey : ObjectKey → List ℕ → Objects → ℕ → ℕ → Type 0
 StepsToAkey o k g before now = (d : ℕ) → WayHasDigits d o k g → now ≤ before + 6 * d
 
--- for each entry of three logs, and once more in each, a look-up
-abbrev pub StepsDownEach : Log → Log → Log → ℕ → ℕ → Type 0
-StepsDownEach x y z before now = (d : ℕ) → HasDigits d x.0 → HasDigits d y.0 → HasDigits d z.0 → now ≤ before + (length (things x) + length (things y) + length (things z) + 3) * (2 * d)
-
--- so have the ways to an akey, and the logs of the object, the dkey and the akey
-pub record LogsHaveDigits (d : ℕ) (o : ObjectKey) (k a : List ℕ) (g : Objects) : Type 0 where
-  pub way : WayHasDigits d o k g
-  pub object_log : HasDigits d (below_object o g).0.0
-  pub dkey_log : HasDigits d (dkey_of o k g).0.0
-  pub akey_log : HasDigits d (akey_of o k a g).0.0
-
--- how many entries these logs have
-abbrev pub logged : ObjectKey → List ℕ → List ℕ → Objects → ℕ
-logged o k a g = length (things (below_object o g).0) + length (things (dkey_of o k g).0) + length (things (akey_of o k a g).0)
-
--- A single value: four look-ups and at most five blocks of bytes, whatever the number of its versions; and for
--- each entry of the three logs, and once more in each, a look-up.
+-- A single value: four look-ups and at most five blocks of bytes, whatever the number of its versions and of all others.
 abbrev pub StepsToSingle : ObjectKey → List ℕ → List ℕ → Objects → ℕ → ℕ → Type 0
-StepsToSingle o k a g before now = (d : ℕ) → LogsHaveDigits d o k a g → HasDigits d (akey_of o k a g).1.0.0 → now ≤ before + (8 * d + 5 + (logged o k a g + 3) * (2 * d))
+StepsToSingle o k a g before now = (d : ℕ) → WayHasDigits d o k g → HasDigits d (akey_of o k a g).1.0.0 → now ≤ before + (8 * d + 5)
 
--- A stretch of an array: three look-ups, for each extent that may reach into it, and once more, a look-up and at
--- most five blocks of bytes, and the same of the logs.
+-- A stretch of an array: three look-ups, and for each extent that may reach into it, and once more, a look-up and at
+-- most five blocks of bytes.
 abbrev pub StepsToExtents : ℕ → ℕ → ObjectKey → List ℕ → List ℕ → Objects → ℕ → ℕ → Type 0
-StepsToExtents low high o k a g before now = (d : ℕ) → LogsHaveDigits d o k a g → HasDigits d (akey_of o k a g).1.1.0 → now ≤ before + (6 * d + (near low high (extents (akey_of o k a g).1.1) + 1) * (2 * d + 5) + (logged o k a g + 3) * (2 * d))
+StepsToExtents low high o k a g before now = (d : ℕ) → WayHasDigits d o k g → HasDigits d (akey_of o k a g).1.1.0 → now ≤ before + (6 * d + (near low high (extents (akey_of o k a g).1.1) + 1) * (2 * d + 5))
 
 -- what this comes to for the path of an akey
 abbrev pub OfNames : Path → (ObjectKey → List ℕ → List ℕ → Type 0) → Type 0

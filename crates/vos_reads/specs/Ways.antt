@@ -10,13 +10,12 @@ use Rattle.daos_model.specs.Versions.{first_blocking}
 use Rattle.vos_values.specs.declared.keys.Moment.{Moment}
 use Rattle.vos_values.specs.declared.keys.ObjectKey.{ObjectKey}
 use Rattle.vos_values.specs.Keys.{name_key, object_key}
-use Rattle.vos_levels.specs.Levels.{Hung, find_last, hung_root, is_level, things}
-use Rattle.vos_levels.specs.Moments.{is_earlier}
+use Rattle.vos_levels.specs.Levels.{Hung, find_last, is_level, things}
 use Rattle.vos_ilog.specs.Logs.{Log, is_punch_below, moment_of}
 use Rattle.vos_single.specs.declared.single.SingleVersion.{SingleVersion}
 use Rattle.vos_extent.specs.Shown.{hides}
-use Rattle.vos_path.specs.Objects.{Akey, Below, Dkey, Objects, Values, akey_level, below_or_none, dkey_level, object_level, objects_versions, values_or_none, values_roots}
-use Rattle.vos_reads.specs.declared.way.Way.{Way}
+use Rattle.vos_path.specs.Objects.{Akey, Below, Dkey, Objects, Values, akey_level, below_or_none, dkey_level, object_level, objects_versions, values_or_none}
+pub use Rattle.vos_punches.specs.Moments.{later_moment}
 
 -- what stands below an object, a dkey, an akey of this name: nothing where it isn't there
 abbrev pub below_object : ObjectKey → Objects → Below Dkey
@@ -35,10 +34,6 @@ dkey_of o d g = below_dkey d (below_object o g).1
 abbrev pub akey_of : ObjectKey → List ℕ → List ℕ → Objects → Values
 akey_of o d a g = below_akey a (dkey_of o d g).1
 
--- the roots on the way to an akey
-abbrev pub way_to : ObjectKey → List ℕ → List ℕ → Objects → Way
-way_to o d a g = record { object_log = hung_root (below_object o g).0; dkey_log = hung_root (dkey_of o d g).0; akey = values_roots (akey_of o d a g) }
-
 -- ---- punches
 
 -- the first moment of an epoch: what lies before it lies below the epoch
@@ -48,12 +43,6 @@ start_of e = record { epoch = e; minor = 0 }
 -- when the last punch of a log below an epoch was made
 abbrev pub punched_at : Epoch → Log → Option Moment
 punched_at e g = option_map moment_of (find_last (is_punch_below (start_of e)) (things g))
-
--- the later of two moments
-abbrev pub later_moment : Option Moment → Option Moment → Option Moment
-later_moment None y = y
-later_moment (Some a) None = Some a
-later_moment (Some a) (Some b) = if is_earlier b a then Some a else Some b
 
 -- the last punch of three logs
 abbrev pub last_punch : Epoch → Log → Log → Log → Option Moment

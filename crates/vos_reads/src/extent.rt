@@ -13,10 +13,11 @@ ghost use Rattle.vos_levels.specs.Levels.{hung_root};
 ghost use Rattle.vos_chain.specs.declared.refusal.PiecesNo.TheVariants.{Stopped as stopped_no};
 ghost use Rattle.vos_path.specs.Objects.{objects_owner, objects_versions};
 ghost use Rattle.vos_path.specs.Writes.{NamesAreKeys};
+ghost use Rattle.vos_punches.specs.Punches.{ArePunchesOf};
+ghost use Rattle.vos_punches.specs.Rows.{moments_at};
 ghost use Rattle.vos_reads.specs.Cost.{OfNames, StepsToExtents};
 ghost use Rattle.vos_reads.specs.Ways.{IsSettled};
 
-use crate::punch::last_punch;
 use crate::way::way_down;
 use base_types::answer::Answer;
 use base_types::epoch::Epoch;
@@ -28,10 +29,12 @@ use std::alloc::Global;
 use std::sync::ledger::Ledger;
 use vos_chain::refusal::PiecesNo;
 use vos_extent::extent::Extents;
+use vos_punches::punches::Punches;
 use vos_values::keys::ObjectKey;
 
 /// What a read of so many indexes of an array, from one on, is answered below an epoch, where every version below it that
-/// overlaps the path is settled: what the map of the versions below is answered.
+/// overlaps the path is settled: what the map of the versions below is answered. The punches are those of all
+/// versions of the objects.
 ///
 /// # Errors
 ///
@@ -44,6 +47,7 @@ pub fn fetch_extent<P: Pages, L: Ledger>(
     low: u32,
     len: u32,
     below: Epoch,
+    punches: &Punches,
     steps: &mut Steps<L>,
 ) -> Result<Answer, PiecesNo>
     requires kind { objects.kind ≡ 1 }
@@ -52,7 +56,8 @@ pub fn fetch_extent<P: Pages, L: Ledger>(
     requires end { low + len < 2 ^ 32 }
     requires names { NamesAreKeys path.now }
     requires here { HasThing P.tells objects_owner hung_root (P.blocks pages.old) objects.root (IsSettled path.now below) }
-    ensures found { IfOk result (λ a. OfThing P.tells objects_owner hung_root (P.blocks pages.old) objects.root (λ g. IsSettled path.now below g → a ≡ answer (extent_read path.now low len) (map_below (in_order version_key (objects_versions g)) below.0))) }
+    requires punches { HasThing P.tells objects_owner hung_root (P.blocks pages.old) objects.root (λ g. ArePunchesOf (objects_versions g) (moments_at punches.now)) }
+    ensures found { IfOk result (λ a. OfThing P.tells objects_owner hung_root (P.blocks pages.old) objects.root (λ g. IsSettled path.now below g → ArePunchesOf (objects_versions g) (moments_at punches.now) → a ≡ answer (extent_read path.now low len) (map_below (in_order version_key (objects_versions g)) below.0))) }
     ensures steps { OfThing P.tells objects_owner hung_root (P.blocks pages.old) objects.root (λ g. OfNames path.now (λ o k a. StepsToExtents low (low + len) o k a g steps.old steps.new)) }
     ensures kept { IsTrue P.tells → P.blocks pages.new ≡ P.blocks pages.old }
     ensures budget { P.budget pages.new ≡ P.budget pages.old }
@@ -67,12 +72,12 @@ pub fn fetch_extent<P: Pages, L: Ledger>(
         cont: path.cont,
         obj,
     };
-    let way = way_down(objects, pages, object, dkey, akey, steps)?;
-    let punched = last_punch(&way, pages, below, steps)?;
+    let roots = way_down(objects, pages, object, dkey, akey, steps)?;
+    let punched = punches.covering(path, below);
     let extents = Extents {
         tree: Tree {
             kind: 6,
-            root: way.akey.extents,
+            root: roots.extents,
         },
     };
     let pieces = extents.pieces(

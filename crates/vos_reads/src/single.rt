@@ -16,10 +16,12 @@ ghost use Rattle.vos_chain.specs.declared.refusal.PiecesNo.TheVariants.{Stopped 
 ghost use Rattle.vos_single.specs.Singles.{is_under, single_owner, version_of};
 ghost use Rattle.vos_path.specs.Objects.{objects_owner, objects_versions};
 ghost use Rattle.vos_path.specs.Writes.{NamesAreKeys};
+ghost use Rattle.vos_punches.specs.Punches.{ArePunchesOf};
+ghost use Rattle.vos_punches.specs.Rows.{moments_at};
 ghost use Rattle.vos_reads.specs.Cost.{OfNames, StepsToSingle};
 ghost use Rattle.vos_reads.specs.Ways.{IsSettled, single_answer, start_of};
 
-use crate::punch::{hides, last_punch};
+use crate::punch::hides;
 use crate::way::way_down;
 use base_types::answer::Answer;
 use base_types::epoch::Epoch;
@@ -30,6 +32,7 @@ use pmem_tree::tree::Tree;
 use std::alloc::Global;
 use std::sync::ledger::Ledger;
 use vos_chain::refusal::PiecesNo;
+use vos_punches::punches::Punches;
 use vos_single::single::{Single, SingleVersion};
 use vos_values::keys::{Moment, ObjectKey};
 
@@ -77,7 +80,8 @@ fn newest_single<P: Pages, L: Ledger>(
 }
 
 /// What a read of the single value of an akey is answered below an epoch, where every version below it that
-/// overlaps the path is settled: what the map of the versions below is answered.
+/// overlaps the path is settled: what the map of the versions below is answered. The punches are those of all
+/// versions of the objects.
 ///
 /// # Errors
 ///
@@ -88,6 +92,7 @@ pub fn fetch_single<P: Pages, L: Ledger>(
     alloc: Global,
     path: &Path,
     below: Epoch,
+    punches: &Punches,
     steps: &mut Steps<L>,
 ) -> Result<Answer, PiecesNo>
     requires kind { objects.kind ≡ 1 }
@@ -95,7 +100,8 @@ pub fn fetch_single<P: Pages, L: Ledger>(
     requires size { is_unit (record_size path.now) ≡ true }
     requires names { NamesAreKeys path.now }
     requires here { HasThing P.tells objects_owner hung_root (P.blocks pages.old) objects.root (IsSettled path.now below) }
-    ensures found { IfOk result (λ a. OfThing P.tells objects_owner hung_root (P.blocks pages.old) objects.root (λ g. IsSettled path.now below g → a ≡ answer (single_read path.now) (map_below (in_order version_key (objects_versions g)) below.0))) }
+    requires punches { HasThing P.tells objects_owner hung_root (P.blocks pages.old) objects.root (λ g. ArePunchesOf (objects_versions g) (moments_at punches.now)) }
+    ensures found { IfOk result (λ a. OfThing P.tells objects_owner hung_root (P.blocks pages.old) objects.root (λ g. IsSettled path.now below g → ArePunchesOf (objects_versions g) (moments_at punches.now) → a ≡ answer (single_read path.now) (map_below (in_order version_key (objects_versions g)) below.0))) }
     ensures steps { OfThing P.tells objects_owner hung_root (P.blocks pages.old) objects.root (λ g. OfNames path.now (λ o k a. StepsToSingle o k a g steps.old steps.new)) }
     ensures kept { IsTrue P.tells → P.blocks pages.new ≡ P.blocks pages.old }
     ensures budget { P.budget pages.new ≡ P.budget pages.old }
@@ -110,7 +116,7 @@ pub fn fetch_single<P: Pages, L: Ledger>(
         cont: path.cont,
         obj,
     };
-    let way = way_down(objects, pages, object, dkey, akey, steps)?;
-    let punched = last_punch(&way, pages, below, steps)?;
-    newest_single(way.akey.singles, pages, alloc, below, punched, steps)
+    let roots = way_down(objects, pages, object, dkey, akey, steps)?;
+    let punched = punches.covering(path, below);
+    newest_single(roots.singles, pages, alloc, below, punched, steps)
 }

@@ -5,9 +5,9 @@ ghost use Rattle.vos_values.specs.declared.keys.Layout.TheVariants.{Two};
 ghost use Rattle.vos_values.specs.Keys.{IsName, IsObjectKey, is_size};
 ghost use Rattle.vos_levels.specs.Calls.{HasThing, OfThing};
 ghost use Rattle.vos_levels.specs.Levels.{hung_root};
-ghost use Rattle.vos_path.specs.Objects.{objects_owner};
 ghost use Rattle.vos_reads.specs.Cost.{StepsToAkey};
-ghost use Rattle.vos_reads.specs.Ways.{way_to};
+ghost use Rattle.vos_path.specs.Objects.{objects_owner, values_roots};
+ghost use Rattle.vos_reads.specs.Ways.{akey_of};
 
 use base_types::key::Key;
 use pmem_pages::pages::Pages;
@@ -20,16 +20,7 @@ use vos_path::name::{key_of, key_of_object};
 use vos_values::keys::ObjectKey;
 use vos_values::values::AkeyRoots;
 
-/// The roots on the way to an akey: the logs of its object and its dkey, and its own roots. Those of what
-/// isn't there are 0.
-#[derive(Clone, Copy)]
-pub struct Way {
-    pub object_log: u32,
-    pub dkey_log: u32,
-    pub akey: AkeyRoots,
-}
-
-/// The way to an akey of an object, by three look-ups.
+/// The roots of an akey of an object, found by three look-ups. Where it isn't there they are 0.
 ///
 /// # Errors
 ///
@@ -41,13 +32,13 @@ pub fn way_down<P: Pages, L: Ledger>(
     dkey: &Key,
     akey: &Key,
     steps: &mut Steps<L>,
-) -> Result<Way, Stopped>
+) -> Result<AkeyRoots, Stopped>
     requires kind { objects.kind ≡ 1 }
     requires size { is_size Two object.obj.unit ≡ true }
     requires dkey { IsName dkey.now }
     requires akey { IsName akey.now }
     requires here { HasThing P.tells objects_owner hung_root (P.blocks pages.old) objects.root (λ g. ⊤) }
-    ensures found { IfOk result (λ w. OfThing P.tells objects_owner hung_root (P.blocks pages.old) objects.root (λ g. w ≡ way_to object dkey.now akey.now g)) }
+    ensures found { IfOk result (λ w. OfThing P.tells objects_owner hung_root (P.blocks pages.old) objects.root (λ g. w ≡ values_roots (akey_of object dkey.now akey.now g))) }
     ensures object { IsObjectKey Two object }
     ensures steps { OfThing P.tells objects_owner hung_root (P.blocks pages.old) objects.root (λ g. StepsToAkey object dkey.now g steps.old steps.new) }
     ensures kept { IsTrue P.tells → P.blocks pages.new ≡ P.blocks pages.old }
@@ -67,10 +58,5 @@ pub fn way_down<P: Pages, L: Ledger>(
         kind: 3,
         root: mid.below,
     };
-    let akey = akey_or_zero(find_akey(akeys, pages, &key_of(akey), steps)?);
-    Ok(Way {
-        object_log: top.log,
-        dkey_log: mid.log,
-        akey,
-    })
+    Ok(akey_or_zero(find_akey(akeys, pages, &key_of(akey), steps)?))
 }

@@ -6,54 +6,20 @@ use Rattle.daos_model.specs.Ordered.{in_order}
 use Rattle.daos_model.specs.Versions.{map_below}
 use Rattle.pmem_pages.specs.Owners.{Holds}
 use Rattle.vos_values.specs.declared.keys.ObjectKey.{ObjectKey}
-use Rattle.vos_ilog.specs.Logs.{log_owner}
 use Rattle.vos_extent.specs.Extents.{extent_owner, extents}
 use Rattle.vos_extent.specs.Shown.{pieces_at}
 use Rattle.vos_path.specs.Objects.{akey_path, objects_versions}
 use Rattle.vos_path.proofs.Naming.{named}
-use Rattle.vos_path.proofs.Written.{holds_extent, holds_log}
+use Rattle.vos_path.proofs.Written.{holds_extent}
 use Rattle.vos_reads.specs.Cost.{StepsToExtents}
 use Rattle.vos_reads.specs.Ways.{IsSettled, akey_of, below_object, dkey_of, last_punch, start_of}
+use Rattle.vos_punches.specs.Punches.{covering}
+use Rattle.vos_punches.specs.Rows.{moments_at}
 use Rattle.vos_reads.proofs.Costs.{of_names}
+use Rattle.vos_reads.proofs.Indexed.{covering_is}
 use Rattle.vos_reads.proofs.Arrays.{pieces_law, unit_bounds}
-use Rattle.vos_reads.proofs.Going.{dkey_log_holds, object_log_holds, values_hold}
+use Rattle.vos_reads.proofs.Going.{values_hold}
 use Rattle.vos_reads.proofs.extent.fetch_extent.Goals as goal
-
-pub last_punch-requires-clause-object : goal.last_punch-requires-clause-object
-last_punch-requires-clause-object g c told =
-    let s = c.requires.here told in
-    let x = s.0 in
-    let m = g.P.Pages.blocks c.args.pages.now in
-    let o : ObjectKey = record { cont = c.args.path.now.cont; obj = c.in-Some-Some-Some.obj } in
-    let d = c.in-Some-Some-Some.dkey in
-    let a = c.in-Some-Some-Some.akey in
-    let e = c.way_down.ensures.kept told in
-    let w = c.in_ok-way.ensures.found told x s.1.0 s.1.1.0 in
-    ((below_object o x).0, (subst (λ b. Holds log_owner b (below_object o x).0) (sym e) (object_log_holds m x o s.1.0), (ap (λ z. z.object_log) w, tt)))
-
-pub last_punch-requires-clause-dkey : goal.last_punch-requires-clause-dkey
-last_punch-requires-clause-dkey g c told =
-    let s = c.requires.here told in
-    let x = s.0 in
-    let m = g.P.Pages.blocks c.args.pages.now in
-    let o : ObjectKey = record { cont = c.args.path.now.cont; obj = c.in-Some-Some-Some.obj } in
-    let d = c.in-Some-Some-Some.dkey in
-    let a = c.in-Some-Some-Some.akey in
-    let e = c.way_down.ensures.kept told in
-    let w = c.in_ok-way.ensures.found told x s.1.0 s.1.1.0 in
-    ((dkey_of o d x).0, (subst (λ b. Holds log_owner b (dkey_of o d x).0) (sym e) (dkey_log_holds m x o s.1.0 d), (ap (λ z. z.dkey_log) w, tt)))
-
-pub last_punch-requires-clause-akey : goal.last_punch-requires-clause-akey
-last_punch-requires-clause-akey g c told =
-    let s = c.requires.here told in
-    let x = s.0 in
-    let m = g.P.Pages.blocks c.args.pages.now in
-    let o : ObjectKey = record { cont = c.args.path.now.cont; obj = c.in-Some-Some-Some.obj } in
-    let d = c.in-Some-Some-Some.dkey in
-    let a = c.in-Some-Some-Some.akey in
-    let e = c.way_down.ensures.kept told in
-    let w = c.in_ok-way.ensures.found told x s.1.0 s.1.1.0 in
-    ((akey_of o d a x).0, (subst (λ b. Holds log_owner b (akey_of o d a x).0) (sym e) (holds_log m (akey_of o d a x) (values_hold m x o s.1.0 d a)), (ap (λ z. z.akey.log) w, tt)))
 
 pub pieces-requires-clause-some : goal.pieces-requires-clause-some
 pieces-requires-clause-some g c = (unit_bounds c.args.path.now.obj c.in-Some-Some-Some.obj c.in-Some-Some-Some.is-0 c.requires.size).0
@@ -70,29 +36,29 @@ pieces-requires-clause-here g c told =
     let d = c.in-Some-Some-Some.dkey in
     let a = c.in-Some-Some-Some.akey in
     let e = c.way_down.ensures.kept told in
-    let w = c.in_ok-way.ensures.found told x s.1.0 s.1.1.0 in
-    let same = c.last_punch.ensures.kept told ∙ e in
+    let w = c.in_ok-roots.ensures.found told x s.1.0 s.1.1.0 in
+    let same = e in
     let extents = (akey_of o d a x).1.1 in
-    (extents, (subst (λ b. Holds extent_owner b extents) (sym same) (holds_extent m (akey_of o d a x) (values_hold m x o s.1.0 d a)), (ap (λ z. z.akey.extents) w, tt)))
+    (extents, (subst (λ b. Holds extent_owner b extents) (sym same) (holds_extent m (akey_of o d a x) (values_hold m x o s.1.0 d a)), (ap (λ z. z.extents) w, tt)))
 
 pub returns-clause-found : goal.returns-clause-found
-returns-clause-found g c told x held at settled =
+returns-clause-found g c told x held at settled are =
     let m = g.P.Pages.blocks c.args.pages.now in
     let o : ObjectKey = record { cont = c.args.path.now.cont; obj = c.in-Some-Some-Some.obj } in
     let d = c.in-Some-Some-Some.dkey in
     let a = c.in-Some-Some-Some.akey in
     let e = c.way_down.ensures.kept told in
-    let w = c.in_ok-way.ensures.found told x held at in
-    let same = c.last_punch.ensures.kept told ∙ e in
+    let w = c.in_ok-roots.ensures.found told x held at in
+    let same = e in
     let path : c.args.path.now ≡ akey_path o d a = λ i. record { cont = c.args.path.now.cont; obj = c.in-Some-Some-Some.is-0 i; dkey = c.in-Some-Some-Some.is-1 i; akey = c.in-Some-Some-Some.is-2 i } in
     let dkey = named c.args.path.now.dkey d c.in-Some-Some-Some.is-1 c.requires.names.dkey in
     let akey = named c.args.path.now.akey a c.in-Some-Some-Some.is-2 c.requires.names.akey in
     let l0 = (below_object o x).0 in
     let l1 = (dkey_of o d x).0 in
     let v = akey_of o d a x in
-    let q = c.in_ok-punched.ensures.found told l0 (subst (λ b. Holds log_owner b l0) (sym e) (object_log_holds m x o held)) (ap (λ z. z.object_log) w) told l1 (subst (λ b. Holds log_owner b l1) (sym e) (dkey_log_holds m x o held d)) (ap (λ z. z.dkey_log) w) told v.0 (subst (λ b. Holds log_owner b v.0) (sym e) (holds_log m v (values_hold m x o held d a))) (ap (λ z. z.akey.log) w) in
-    let f = c.in_ok-pieces.ensures.found told v.1.1 (subst (λ b. Holds extent_owner b v.1.1) (sym same) (holds_extent m v (values_hold m x o held d a))) (ap (λ z. z.akey.extents) w) in
-    let law = pieces_law m x o d a held c.in_ok-way.ensures.object dkey akey c.args.below (subst (λ z. IsSettled z c.args.below x) path settled) c.args.low c.args.len in
+    let q = c.covering-punched.ensures ∙ (ap (λ z. covering c.args.below z (moments_at c.args.punches.now)) path ∙ covering_is m x o d a held c.in_ok-roots.ensures.object dkey akey c.args.below (subst (λ z. IsSettled z c.args.below x) path settled) (moments_at c.args.punches.now) are) in
+    let f = c.in_ok-pieces.ensures.found told v.1.1 (subst (λ b. Holds extent_owner b v.1.1) (sym same) (holds_extent m v (values_hold m x o held d a))) (ap (λ z. z.extents) w) in
+    let law = pieces_law m x o d a held c.in_ok-roots.ensures.object dkey akey c.args.below (subst (λ z. IsSettled z c.args.below x) path settled) c.args.low c.args.len in
     let count : (c.args.low + c.args.len) - c.args.low ≡ c.args.len = omega arith in
     ap (λ z. Parts z)
     (f
@@ -100,32 +66,15 @@ returns-clause-found g c told x held at settled =
     ∙ (ap (λ z. pieces_at o.obj.unit (start_of c.args.below) (last_punch c.args.below l0 l1 v.0) c.args.low z (extents v.1.1)) count
     ∙ (sym law ∙ ap (λ z. pieces z c.args.low c.args.len (map_below (in_order version_key (objects_versions x)) c.args.below.0)) (sym path)))))
 
-pub returns-in_err-way-clause-steps : goal.returns-in_err-way-clause-steps
-returns-in_err-way-clause-steps g c told x held at =
+pub returns-in_err-roots-clause-steps : goal.returns-in_err-roots-clause-steps
+returns-in_err-roots-clause-steps g c told x held at =
     let m = g.P.Pages.blocks c.args.pages.now in
     let o : ObjectKey = record { cont = c.args.path.now.cont; obj = c.in-Some-Some-Some.obj } in
     let d = c.in-Some-Some-Some.dkey in
     let a = c.in-Some-Some-Some.akey in
     let path : c.args.path.now ≡ akey_path o d a = λ i. record { cont = c.args.path.now.cont; obj = c.in-Some-Some-Some.is-0 i; dkey = c.in-Some-Some-Some.is-1 i; akey = c.in-Some-Some-Some.is-2 i } in
     of_names (λ o k a. StepsToExtents c.args.low (c.args.low + c.args.len) o k a x _ _) c.args.path.now o d a path (λ n few last.
-    let one = c.way_down.ensures.steps told x held at n few.way in
-    omega arith)
-
-pub returns-in_err-punched-clause-steps : goal.returns-in_err-punched-clause-steps
-returns-in_err-punched-clause-steps g c told x held at =
-    let m = g.P.Pages.blocks c.args.pages.now in
-    let o : ObjectKey = record { cont = c.args.path.now.cont; obj = c.in-Some-Some-Some.obj } in
-    let d = c.in-Some-Some-Some.dkey in
-    let a = c.in-Some-Some-Some.akey in
-    let path : c.args.path.now ≡ akey_path o d a = λ i. record { cont = c.args.path.now.cont; obj = c.in-Some-Some-Some.is-0 i; dkey = c.in-Some-Some-Some.is-1 i; akey = c.in-Some-Some-Some.is-2 i } in
-    of_names (λ o k a. StepsToExtents c.args.low (c.args.low + c.args.len) o k a x _ _) c.args.path.now o d a path (λ n few last.
-    let one = c.way_down.ensures.steps told x held at n few.way in
-    let e = c.way_down.ensures.kept told in
-    let w = c.in_ok-way.ensures.found told x held at in
-    let l0 = (below_object o x).0 in
-    let l1 = (dkey_of o d x).0 in
-    let v = akey_of o d a x in
-    let two = c.last_punch.ensures.steps told l0 (subst (λ b. Holds log_owner b l0) (sym e) (object_log_holds m x o held)) (ap (λ z. z.object_log) w) told l1 (subst (λ b. Holds log_owner b l1) (sym e) (dkey_log_holds m x o held d)) (ap (λ z. z.dkey_log) w) told v.0 (subst (λ b. Holds log_owner b v.0) (sym e) (holds_log m v (values_hold m x o held d a))) (ap (λ z. z.akey.log) w) n few.object_log few.dkey_log few.akey_log in
+    let one = c.way_down.ensures.steps told x held at n few in
     omega arith)
 
 pub returns-in_err-pieces-clause-steps : goal.returns-in_err-pieces-clause-steps
@@ -136,15 +85,12 @@ returns-in_err-pieces-clause-steps g c told x held at =
     let a = c.in-Some-Some-Some.akey in
     let path : c.args.path.now ≡ akey_path o d a = λ i. record { cont = c.args.path.now.cont; obj = c.in-Some-Some-Some.is-0 i; dkey = c.in-Some-Some-Some.is-1 i; akey = c.in-Some-Some-Some.is-2 i } in
     of_names (λ o k a. StepsToExtents c.args.low (c.args.low + c.args.len) o k a x _ _) c.args.path.now o d a path (λ n few last.
-    let one = c.way_down.ensures.steps told x held at n few.way in
+    let one = c.way_down.ensures.steps told x held at n few in
     let e = c.way_down.ensures.kept told in
-    let w = c.in_ok-way.ensures.found told x held at in
-    let l0 = (below_object o x).0 in
-    let l1 = (dkey_of o d x).0 in
+    let w = c.in_ok-roots.ensures.found told x held at in
     let v = akey_of o d a x in
-    let two = c.last_punch.ensures.steps told l0 (subst (λ b. Holds log_owner b l0) (sym e) (object_log_holds m x o held)) (ap (λ z. z.object_log) w) told l1 (subst (λ b. Holds log_owner b l1) (sym e) (dkey_log_holds m x o held d)) (ap (λ z. z.dkey_log) w) told v.0 (subst (λ b. Holds log_owner b v.0) (sym e) (holds_log m v (values_hold m x o held d a))) (ap (λ z. z.akey.log) w) n few.object_log few.dkey_log few.akey_log in
-    let same = c.last_punch.ensures.kept told ∙ e in
-    let three = c.pieces.ensures.steps told v.1.1 (subst (λ b. Holds extent_owner b v.1.1) (sym same) (holds_extent m v (values_hold m x o held d a))) (ap (λ z. z.akey.extents) w) n last in
+    let same = e in
+    let three = c.pieces.ensures.steps told v.1.1 (subst (λ b. Holds extent_owner b v.1.1) (sym same) (holds_extent m v (values_hold m x o held d a))) (ap (λ z. z.extents) w) n last in
     omega arith)
 
 pub returns-clause-steps : goal.returns-clause-steps
@@ -155,13 +101,10 @@ returns-clause-steps g c told x held at =
     let a = c.in-Some-Some-Some.akey in
     let path : c.args.path.now ≡ akey_path o d a = λ i. record { cont = c.args.path.now.cont; obj = c.in-Some-Some-Some.is-0 i; dkey = c.in-Some-Some-Some.is-1 i; akey = c.in-Some-Some-Some.is-2 i } in
     of_names (λ o k a. StepsToExtents c.args.low (c.args.low + c.args.len) o k a x _ _) c.args.path.now o d a path (λ n few last.
-    let one = c.way_down.ensures.steps told x held at n few.way in
+    let one = c.way_down.ensures.steps told x held at n few in
     let e = c.way_down.ensures.kept told in
-    let w = c.in_ok-way.ensures.found told x held at in
-    let l0 = (below_object o x).0 in
-    let l1 = (dkey_of o d x).0 in
+    let w = c.in_ok-roots.ensures.found told x held at in
     let v = akey_of o d a x in
-    let two = c.last_punch.ensures.steps told l0 (subst (λ b. Holds log_owner b l0) (sym e) (object_log_holds m x o held)) (ap (λ z. z.object_log) w) told l1 (subst (λ b. Holds log_owner b l1) (sym e) (dkey_log_holds m x o held d)) (ap (λ z. z.dkey_log) w) told v.0 (subst (λ b. Holds log_owner b v.0) (sym e) (holds_log m v (values_hold m x o held d a))) (ap (λ z. z.akey.log) w) n few.object_log few.dkey_log few.akey_log in
-    let same = c.last_punch.ensures.kept told ∙ e in
-    let three = c.pieces.ensures.steps told v.1.1 (subst (λ b. Holds extent_owner b v.1.1) (sym same) (holds_extent m v (values_hold m x o held d a))) (ap (λ z. z.akey.extents) w) n last in
+    let same = e in
+    let three = c.pieces.ensures.steps told v.1.1 (subst (λ b. Holds extent_owner b v.1.1) (sym same) (holds_extent m v (values_hold m x o held d a))) (ap (λ z. z.extents) w) n last in
     omega arith)

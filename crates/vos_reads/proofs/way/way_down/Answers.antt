@@ -57,8 +57,8 @@ returns-clause-found g c told x held at =
     let akeys = (dkey_of o d x).1 in
     let same = c.find_roots-2.ensures.kept told ∙ c.find_roots.ensures.kept told in
     let tree3 = tree_of akey_level (g.P.Pages.blocks c.find_roots-2.new.pages) 3 c.roots_or_zero-mid.result.below akeys refl (subst (λ b. Holds (hung akey_level) b akeys) (sym same) (akeys_hold m x o held d)) (ap (λ r. r.below) mid) in
-    let last = akey_roots_are m akeys (akeys_hold m x o held d) a c.key_of-2.result c.key_of-2.ensures.key c.in_ok-find_akey.field-0 (c.in_ok-find_akey.ensures.found told akeys.0 tree3) c.akey_or_zero-akey.result c.akey_or_zero-akey.ensures in
-    λ i. record { object_log = (top i).log; dkey_log = (mid i).log; akey = last i }
+    let last = akey_roots_are m akeys (akeys_hold m x o held d) a c.key_of-2.result c.key_of-2.ensures.key c.in_ok-find_akey.field-0 (c.in_ok-find_akey.ensures.found told akeys.0 tree3) c.akey_or_zero.result c.akey_or_zero.ensures in
+    last
 
 pub returns-in_err-find_roots-clause-steps : goal.returns-in_err-find_roots-clause-steps
 returns-in_err-find_roots-clause-steps g c told x held at d few =

@@ -1,4 +1,5 @@
 use Rattle.std.proofs.Common.{◌≡◌}
+use Rattle.vos_levels.proofs.Calls.{if_ok_then}
 use Rattle.vos_object.proofs.ReadForms.{exists_form, extent_ends, extent_fits, single_ends}
 use Rattle.vos_object.proofs.object.Objects.fetch.Goals as goal
 
@@ -24,3 +25,6 @@ returns-in-Extent-clause-extent g c p low len is =
     let first : low ≡ c.in-Extent.low = cc in
     let count : len ≡ c.in-Extent.len = cc in
     rw (path, first, count) c.fetch_extent.ensures.steps
+
+pub returns-in-Exists-clause-found : goal.returns-in-Exists-clause-found
+returns-in-Exists-clause-found g c = rw c.in-Exists.is (if_ok_then c.fetch_exists.result (λ a h told x held at settled are. h told x held at settled) c.fetch_exists.ensures.found)

@@ -1,4 +1,4 @@
-use Rattle.std.proofs.Common.{refl, sym, ap, ◌∙◌}
+use Rattle.std.proofs.Common.{refl, sym, ◌∙◌}
 use Rattle.vos_punches.specs.Moments.{without_moment}
 use Rattle.vos_punches.proofs.Found.{row_absent, row_changed}
 use Rattle.vos_punches.proofs.bucket.Bucket.remove.Goals as goal

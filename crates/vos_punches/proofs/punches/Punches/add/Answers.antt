@@ -6,7 +6,7 @@ use Rattle.std.specs.Prelude.{if◌then◌else◌}
 use Rattle.base_types.specs.Paths.{same_path}
 use Rattle.vos_levels.proofs.Calls.{on_ok_then}
 use Rattle.vos_punches.specs.Moments.{with_moment}
-use Rattle.vos_punches.specs.Names.{tag}
+use Rattle.base_types.specs.Tags.{tag}
 use Rattle.vos_punches.specs.Rows.{in_bucket, in_found, in_rows, moments_at}
 use Rattle.vos_punches.proofs.Found.{on_err_then}
 use Rattle.vos_punches.proofs.Kept.{alike, at_err, put_in, put_new}

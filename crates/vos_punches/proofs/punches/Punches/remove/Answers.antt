@@ -2,7 +2,7 @@ use Rattle.std.proofs.Common.{rules, nat_eq, sym, ap, ◌∙◌}
 use Rattle.std.specs.HashMap.{get}
 use Rattle.std.specs.Option.{option_copied_mut}
 use Rattle.vos_punches.specs.Moments.{without_moment}
-use Rattle.vos_punches.specs.Names.{tag}
+use Rattle.base_types.specs.Tags.{tag}
 use Rattle.vos_punches.specs.Rows.{in_found, moments_at}
 use Rattle.vos_punches.proofs.Kept.{absent, put_in}
 use Rattle.vos_punches.proofs.punches.Punches.remove.Goals as goal

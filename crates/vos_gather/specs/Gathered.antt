@@ -1,0 +1,48 @@
+-- What comes to an index where the punches of some versions are gathered into it.
+use Rattle.std.specs.Prelude.{◌≡◌, ◌||◌, ℕ, List, ◌++◌, filter, map, Some, None}
+use Rattle.std.specs.List.{list_any}
+use Rattle.base_types.specs.declared.operation.Write.{Write}
+use Rattle.base_types.specs.declared.operation.Write.TheVariants.{PunchDkey}
+use Rattle.base_types.specs.declared.path.Path.{Path}
+use Rattle.daos_model.specs.declared.durable.Version.{Version}
+use Rattle.vos_values.specs.declared.keys.Moment.{Moment}
+use Rattle.vos_levels.specs.Levels.{Hung, things}
+use Rattle.vos_ilog.specs.declared.ilog.LogEntry.{LogEntry}
+use Rattle.vos_path.specs.Objects.{Akey, Below, Dkey, is_punch, punch_version, punches, together, values_versions}
+use Rattle.vos_punches.specs.Moments.{AreInOrder, has_moment}
+use Rattle.vos_punches.specs.Punches.{PunchesAt, is_punch_of}
+
+-- The punches of some versions came to an index: at a path stands a moment exactly where it stood there before, or one of
+-- the versions is a punch of the path, made then.
+pub record Gathered (vs : List Version) (f g : PunchesAt) : Type 0 where
+  pub order : (p : Path) → AreInOrder (f p) → AreInOrder (g p)
+  pub exact : (p : Path) (m : Moment) → has_moment m (g p) ≡ (has_moment m (f p) || list_any (is_punch_of p m) vs)
+
+-- ---- what stands below a path, by the names on the way
+
+abbrev pub at_dkey : Path → List ℕ → Path
+at_dkey p d = record { cont = p.cont; obj = p.obj; dkey = Some d; akey = None }
+
+abbrev pub at_akey : Path → List ℕ → Path
+at_akey p a = record { cont = p.cont; obj = p.obj; dkey = p.dkey; akey = Some a }
+
+-- the punches among some entries of a log
+abbrev pub entries_punches : Write → List LogEntry → List Version
+entries_punches w es = map (punch_version w) (filter is_punch es)
+
+-- the versions of an akey of a dkey, and of all of the dkey's
+abbrev pub akey_in : Path → Akey → List Version
+akey_in p a = values_versions (at_akey p a.name) a.holds
+
+abbrev pub akeys_in : Path → Hung Akey → List Version
+akeys_in p g = together (akey_in p) (things g)
+
+-- those of a dkey, of a dkey of an object, and of all of the object's
+abbrev pub below_dkey_in : Path → Below Akey → List Version
+below_dkey_in p b = punches (PunchDkey p) b.0 ++ akeys_in p b.1
+
+abbrev pub dkey_in : Path → Dkey → List Version
+dkey_in p d = below_dkey_in (at_dkey p d.name) d.holds
+
+abbrev pub dkeys_in : Path → Hung Dkey → List Version
+dkeys_in p g = together (dkey_in p) (things g)
