@@ -1,4 +1,2 @@
-pub mod Asking
 pub mod Keeping
 pub mod Overtaking
-pub mod Owning

@@ -1,4 +1,3 @@
 -- What the rows name.
 pub mod Overtaken
-pub mod Own
 pub mod Rows

@@ -1,12 +1,10 @@
-// Messages that no run sends: a Mark before its Prepare, and what a leader is told of its own attempts.
+// Messages that no run sends: a Mark before its Prepare.
 #![tactic(auto)]
 
 #[cfg(test)]
 mod follows;
 #[cfg(test)]
 mod overtaken;
-#[cfg(test)]
-mod own;
 #[cfg(test)]
 mod steps;
 #[cfg(test)]
