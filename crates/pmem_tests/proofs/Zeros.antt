@@ -11,3 +11,8 @@ two_set n a b i h =
     let one : i ≢ 1 = λ z. absurd (omega arith) in
     let none : i ≢ 0 = λ z. absurd (omega arith) in
     rw (get_or-set_other, get_or-set_other) (zeros n i)
+
+pub one_set : (n a i : ℕ) → 1 ≤ i → get_or (set (replicate n 0) 0 a) i 0 ≡ 0
+one_set n a i h =
+    let none : i ≢ 0 = λ z. absurd (omega arith) in
+    rw get_or-set_other (zeros n i)

@@ -1,7 +1,9 @@
 // Regions in memory, and commits that are cut at each of their writes.
+use base_outside::rack::Rack;
 use base_outside::region::Region;
 use daos_regions::fused::Fused;
 use daos_regions::keep::Keep;
+use daos_regions::mem_rack::MemRack;
 use daos_regions::mem_region::MemRegion;
 use pmem_undo::undo_region::UndoRegion;
 use std::alloc::Global;
@@ -114,4 +116,88 @@ fn a_fuse_cuts_the_first_four_writes(rt: HostRuntime) {
     assert!(rt; fused(alloc, 1) == Some((false, 1, 0)));
     assert!(rt; fused(alloc, 4) == Some((false, 1, 0)));
     assert!(rt; fused(alloc, 5) == Some((true, 0, 0)));
+}
+
+// Two writes, a flush, and two writes more, and what an opening leaves of them.
+fn opened(region: &mut MemRegion) -> Option<[u8; 4]> {
+    if region.size() != 4 {
+        return None;
+    }
+    region.write(0, b"a").ok()?;
+    region.write(1, b"b").ok()?;
+    region.flush().ok()?;
+    region.write(2, b"c").ok()?;
+    region.write(3, b"d").ok()?;
+    region.reopen().ok()?;
+    let mut bytes = [0; 4];
+    region.read(0, &mut bytes).ok()?;
+    Some(bytes)
+}
+
+fn keeps(alloc: Global, keep: Keep, left: &[u8]) -> bool {
+    match MemRegion::new(alloc, 4, &[], keep) {
+        Ok(region) => {
+            let mut region = region;
+            opened(&mut region).is_some_and(|bytes| bytes.as_slice() == left)
+        }
+        Err(_) => false,
+    }
+}
+
+#[test]
+fn an_opening_keeps_what_was_flushed(rt: HostRuntime) {
+    let alloc = rt.alloc();
+    assert!(rt; keeps(alloc, Keep::All, b"abcd"));
+    assert!(rt; keeps(alloc, Keep::None, b"ab\0\0"));
+    assert!(rt; keeps(alloc, Keep::Second, b"ab\0d"));
+}
+
+// Which calls are answered of a region whose second call fails, and how often it failed.
+fn answered(region: &mut MemRegion) -> Option<([bool; 5], u64)> {
+    if region.size() != 4 {
+        return None;
+    }
+    let calls = [
+        region.write(0, b"a").is_ok(),
+        region.flush().is_ok(),
+        region.write(1, b"b").is_ok(),
+        region.reopen().is_ok(),
+        region.write(1, b"b").is_ok(),
+    ];
+    Some((calls, region.faults()))
+}
+
+fn fails_on(alloc: Global) -> Option<([bool; 5], u64)> {
+    let mut region = MemRegion::new(alloc, 4, &[2], Keep::All).ok()?;
+    answered(&mut region)
+}
+
+// A byte is written into a region of a rack whose second call fails, which is given back; the rack fails, and hands
+// it out again: the byte, and how often the rack failed.
+fn handed_out(rack: &mut MemRack) -> Option<(u8, u64)> {
+    let mut region = rack.region(0, 4).ok()?;
+    let written = region.size() == 4 && region.write(0, b"a").is_ok();
+    rack.take_back(0, region);
+    if !written || rack.region(1, 4).is_ok() {
+        return None;
+    }
+    let mut region = rack.region(0, 4).ok()?;
+    let mut byte = [0];
+    if region.size() != 4 || region.read(0, &mut byte).is_err() {
+        return None;
+    }
+    Some((byte[0], rack.faults()))
+}
+
+fn fails_by_its_list(alloc: Global) -> Option<(u8, u64)> {
+    let mut rack = MemRack::new(alloc, 2, 4, &[2]).ok()?;
+    handed_out(&mut rack)
+}
+
+#[test]
+fn after_a_failure_all_fails_until_an_opening(rt: HostRuntime) {
+    let alloc = rt.alloc();
+    let calls = [true, false, false, true, true];
+    assert!(rt; fails_on(alloc) == Some((calls, 2)));
+    assert!(rt; fails_by_its_list(alloc) == Some((b'a', 1)));
 }

@@ -1,6 +1,8 @@
-// Tests over the layers of a region: commits that are cut, files, and trees in memory.
+// Tests over the layers of a region: commits that are cut, blocks, files, and trees in memory.
 #![tactic(auto)]
 
+#[cfg(test)]
+mod block_tests;
 #[cfg(test)]
 mod commit_tests;
 #[cfg(test)]

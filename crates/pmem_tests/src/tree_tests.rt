@@ -7,7 +7,7 @@ use pmem_pages::codec::read_node;
 use pmem_pages::pages::Pages;
 use pmem_pages::steps::Steps;
 use pmem_tree::tree::Tree;
-use pmem_tree::{TreeKey, Value};
+use pmem_tree::{Pair, TreeKey, Value};
 use std::alloc::Global;
 use std::marker::Brand;
 use std::sync::ledger::{Blank, Ledger};
@@ -244,4 +244,79 @@ fn trees_agree_with_lists(rt: HostRuntime) {
     assert!(rt; agree(alloc, 1));
     assert!(rt; agree(alloc, 999));
     assert!(rt; agree(alloc, 617));
+}
+
+// A key of one byte.
+fn letter(byte: u8) -> TreeKey
+    ensures { IsKey result }
+{
+    let mut bytes = [0; 64];
+    bytes[0] = byte;
+    TreeKey { len: 1, bytes }
+}
+
+// The number that a pair holds, or 0.
+fn pair_number(pair: Option<Pair>) -> u16 {
+    match pair {
+        Some(pair) => number_in(&pair.value.bytes),
+        None => 0,
+    }
+}
+
+// The number that a value holds, or 0.
+fn value_number(value: Option<Value>) -> u16 {
+    match value {
+        Some(value) => number_in(&value.bytes),
+        None => 0,
+    }
+}
+
+// The root of a tree with the keys `a` and `c`.
+fn plant<L: Ledger>(pages: &mut MemPages, steps: &mut Steps<L>) -> Option<u32> {
+    let mut tree = Tree { kind: 5, root: 0 };
+    tree.insert(pages, &letter(b'c'), &value_of(3), steps).ok()?;
+    tree.insert(pages, &letter(b'a'), &value_of(1), steps).ok()?;
+    Some(tree.root)
+}
+
+// What stands after a letter, below it, and at it.
+fn around<L: Ledger>(
+    pages: &mut MemPages,
+    root: u32,
+    byte: u8,
+    steps: &mut Steps<L>,
+) -> Option<[u16; 3]> {
+    let tree = Tree { kind: 5, root };
+    let after = tree.next_after(pages, &letter(byte), steps).ok()?;
+    let below = tree.last_below(pages, &letter(byte), steps).ok()?;
+    let at = tree.get(pages, &letter(byte), steps).ok()?;
+    Some([pair_number(after), pair_number(below), value_number(at)])
+}
+
+// What stands so around `a`, and around `c` once its value was changed.
+fn letters<L: Ledger>(alloc: Global, blank: Blank) -> Option<[[u16; 3]; 2]>
+    requires name { blank.name ≡ L.name }
+    requires parts { blank.parts ≡ L.parts }
+    requires some { 0 < blank.parts }
+{
+    let mut steps = Steps::<L>::new(blank);
+    let mut pages = MemPages::new(alloc, 2).ok()?;
+    pages.grant(1024, 256000);
+    let root = plant(&mut pages, &mut steps)?;
+    let first = around(&mut pages, root, b'a', &mut steps)?;
+    let mut tree = Tree { kind: 5, root };
+    tree.put_value(&mut pages, &letter(b'c'), &value_of(4), &mut steps)
+        .ok()?;
+    let second = around(&mut pages, root, b'c', &mut steps)?;
+    Some([first, second])
+}
+
+// Whether look-ups answer so.
+fn are_around(alloc: Global) -> bool {
+    letters::<Brand>(alloc, Blank::new(1)) == Some([[3, 0, 1], [0, 1, 4]])
+}
+
+#[test]
+fn look_ups_beside_two_letters(rt: HostRuntime) {
+    assert!(rt; are_around(rt.alloc()));
 }

@@ -21,6 +21,31 @@ const OBJECT: ObjId = ObjId {
     unit: 1,
 };
 
+// The object.
+fn object() -> Path
+    ensures { is_path_in_form result ≡ true }
+{
+    Path {
+        cont: ContId(1),
+        obj: Some(OBJECT),
+        dkey: None,
+        akey: None,
+    }
+}
+
+// A dkey of it.
+fn dkey(alloc: Global) -> Option<Path>
+    ensures { IfSome result (λ path. is_path_in_form path ≡ true) }
+{
+    let dkey = Key::new(alloc, b"d").ok()?;
+    Some(Path {
+        cont: ContId(1),
+        obj: Some(OBJECT),
+        dkey: Some(dkey),
+        akey: None,
+    })
+}
+
 // An akey of it.
 fn akey(alloc: Global, dkey: &[u8], akey: &[u8]) -> Option<Path>
     ensures { IfSome result (λ path. is_path_in_form path ≡ true) }
@@ -68,6 +93,71 @@ fn told(stamps: &Stamps, write: &Path, epoch: u64) -> u64
         Some(read) => read.epoch.0,
         None => 0,
     }
+}
+
+// What a write at an epoch is told of a read at 512.
+fn told_of(alloc: Global, read: &Path, write: &Path, epoch: u64) -> Option<u64>
+    requires read { is_path_in_form read.now ≡ true }
+    requires write { is_path_in_form write.now ≡ true }
+{
+    let stamps = with_a_read(alloc, read)?;
+    Some(told(&stamps, write, epoch))
+}
+
+// What writes of an akey are told of a read of it, below its epoch and at it, and of a read of another akey.
+fn told_beside(alloc: Global) -> Option<[u64; 3]> {
+    let akey = numbered(alloc, 0)?;
+    let other = numbered(alloc, 1)?;
+    let later = told_of(alloc, &akey, &akey, 511)?;
+    let same = told_of(alloc, &akey, &akey, 512)?;
+    let beside = told_of(alloc, &akey, &other, 256)?;
+    Some([later, same, beside])
+}
+
+// What is told of a read above an akey, and of one of the akey by a write above it.
+fn told_across(alloc: Global, above: &Path) -> Option<[u64; 2]>
+    requires { is_path_in_form above.now ≡ true }
+{
+    let akey = numbered(alloc, 0)?;
+    let below = told_of(alloc, above, &akey, 256)?;
+    let over = told_of(alloc, &akey, above, 256)?;
+    Some([below, over])
+}
+
+fn told_of_dkeys(alloc: Global) -> Option<[u64; 2]> {
+    let dkey = dkey(alloc)?;
+    told_across(alloc, &dkey)
+}
+
+#[test]
+fn a_later_read_is_shown_where_paths_overlap(rt: HostRuntime) {
+    let alloc = rt.alloc();
+    assert!(rt; told_beside(alloc) == Some([512, 0, 0]));
+    assert!(rt; told_across(alloc, &object()) == Some([512, 512]));
+    assert!(rt; told_of_dkeys(alloc) == Some([512, 512]));
+}
+
+// The slot of the akey of a number.
+fn slot(alloc: Global, number: u32) -> Option<u16> {
+    let path = numbered(alloc, number)?;
+    Some(path.slot_at(Level::Akey))
+}
+
+// The first akey behind that of 188 which shares its slot.
+fn shares_with_188(alloc: Global) -> Option<u32> {
+    let first = slot(alloc, 188)?;
+    for number in 189..1000 {
+        if slot(alloc, number)? == first {
+            return Some(number);
+        }
+    }
+    None
+}
+
+// Which akeys share a slot another program told.
+#[test]
+fn two_akeys_share_a_slot(rt: HostRuntime) {
+    assert!(rt; shares_with_188(rt.alloc()) == Some(294));
 }
 
 // Reads of akeys of so many other dkeys, each at one epoch.

@@ -1,2 +1,4 @@
+pub mod Asking
 pub mod Keeping
 pub mod Overtaking
+pub mod Owning

@@ -1,3 +1,4 @@
 -- What the rows name.
 pub mod Overtaken
+pub mod Own
 pub mod Rows

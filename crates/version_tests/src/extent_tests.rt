@@ -11,6 +11,7 @@ use std::alloc::Global;
 use std::marker::Brand;
 use std::sync::ledger::{Blank, Ledger};
 use vos_extent::extent::Extents;
+use vos_levels::change::Change;
 use vos_values::keys::{ExtentKey, Moment};
 
 const BY: AttemptId = AttemptId {
@@ -131,4 +132,44 @@ fn pieces_below_an_epoch_and_a_punch(rt: HostRuntime) {
         minor: 0,
     };
     assert!(rt; shows(alloc, 600, Some(punch), b"~~pq~"));
+}
+
+// Commits and prunes one of two extents, and aborts the other.
+fn clear<L: Ledger>(pages: &mut MemPages, extents: Extents, steps: &mut Steps<L>) -> Option<()>
+    requires { extents.tree.kind ≡ 6 }
+{
+    let mut extents = extents;
+    pages.grant(1024, 256000);
+    extents
+        .change_at(pages, place(1, 256), Change::Commit(BY), steps)
+        .ok()?;
+    extents
+        .change_at(pages, place(1, 256), Change::Prune, steps)
+        .ok()?;
+    extents
+        .change_at(pages, place(2, 512), Change::Abort(BY), steps)
+        .ok()
+}
+
+// How many blocks are free then.
+fn left<L: Ledger>(alloc: Global, blank: Blank) -> Option<u32>
+    requires name { blank.name ≡ L.name }
+    requires parts { blank.parts ≡ L.parts }
+    requires some { 0 < blank.parts }
+{
+    let mut steps = Steps::<L>::new(blank);
+    let mut pages = MemPages::new(alloc, 8).ok()?;
+    let extents = two(&mut pages, &mut steps)?;
+    clear(&mut pages, extents, &mut steps)?;
+    Some(pages.free())
+}
+
+// Whether all are.
+fn are_left(alloc: Global) -> bool {
+    left::<Brand>(alloc, Blank::new(1)) == Some(8)
+}
+
+#[test]
+fn what_is_pruned_gives_its_blocks_back(rt: HostRuntime) {
+    assert!(rt; are_left(rt.alloc()));
 }

@@ -1,0 +1,9 @@
+use Rattle.std.proofs.Common.{inl}
+use Rattle.target_tests.proofs.Owning.{begun_form, begun_heard}
+use Rattle.target_tests.proofs.own.hear_told.Goals as goal
+
+pub hear-requires-clause-form : goal.hear-requires-clause-form
+hear-requires-clause-form g c = inl (begun_form c.args.target.now.plan c.args.message c.requires.told)
+
+pub hear-requires-clause-here : goal.hear-requires-clause-here
+hear-requires-clause-here g c d at = begun_heard c.args.target.now.plan c.args.message d c.requires.told
