@@ -23,7 +23,7 @@ use Rattle.daos_run.specs.Starts.{IsNewStore}
 use Rattle.daos_run.specs.Stops.{HasRisen, IsOpeningFault, MayStop}
 use Rattle.daos_run.proofs.Places.{in-place, store-at, stores-many}
 use Rattle.daos_run.proofs.Unstopped.{no-down-told, no-stops-told}
-use Rattle.run_targets.specs.Ends.{IsInRealTime, IsLegal, IsOrdered, IsOutside, from-map, given_by, legal-by-any, one-there}
+use Rattle.run_targets.specs.Ends.{AreIssuedThere, IsInRealTime, IsLegal, IsOrdered, IsOutside, from-map, given_by, legal-by-any, one-there}
 use Rattle.run_opening.specs.All.{AreKept}
 use Rattle.run_opening.specs.Laws.{AreUnused}
 use Rattle.run_opening.specs.Opened.{enlisted_family, keeps, lasting_snaps}
@@ -40,7 +40,6 @@ use Rattle.vos_plain.specs.declared.store.PlainStore.{PlainStore}
 use Rattle.world_ends.specs.Ends.{durables_of}
 use Rattle.world_whole.specs.Begins.{declared_conts}
 use Rattle.world_whole.specs.Fresh.{fresh-opens}
-use Rattle.world_lone.specs.LoneRuns.{AreIssuedThere}
 
 -- it tells what it keeps
 abbrev pub told_by : PlainStore → Option Durable

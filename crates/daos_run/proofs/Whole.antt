@@ -26,8 +26,7 @@ use Rattle.daos_run.proofs.Disarmed.{kept-from, unfused-free, unfused-may_run, u
 use Rattle.daos_run.proofs.Places.{at-low, in-place, store-at, stores-back, stores-many}
 use Rattle.daos_run.proofs.Slots.{same-pair}
 use Rattle.model_laws.specs.Lists.{at-within}
-use Rattle.run_ends.specs.Comes.{BreaksOffSo}
-use Rattle.run_targets.specs.Ends.{AllTell, ComesTo, HaveStarted, IsOutside, from-map, given_by, one-there, same-lists, stores_of}
+use Rattle.run_targets.specs.Ends.{AllTell, BreaksOffSo, ComesTo, HaveStarted, IsOutside, from-map, given_by, one-there, same-lists, stores_of}
 use Rattle.run_opening.specs.All.{AreKept, FromTo as ListsFromTo, MayBeFound}
 use Rattle.run_opening.specs.EnlistLaws.{enlisting-sound}
 use Rattle.run_opening.specs.Opened.{enlisted_family, keeps}

@@ -7,14 +7,13 @@ use Rattle.daos_model.specs.Durables.{empty_durable}
 use Rattle.daos_model.specs.Opening.{Given, Outside}
 use Rattle.daos_model.specs.Sound.{Sound}
 use Rattle.base_types.specs.declared.script.Script.{Script}
-use Rattle.run_targets.specs.Ends.{ComesTo, FollowsOrder, IsOutside}
+use Rattle.run_targets.specs.Ends.{ComesTo, FollowsOrder, IsOutside, StandsForResolved}
 use Rattle.run_opening.specs.All.{AreKept, FromTo, MayBeFound}
 use Rattle.run_opening.specs.Left.{IsLeftOf}
 use Rattle.run_shows.specs.Accounts.{IsServed}
 use Rattle.run_starts.specs.Starts.{CanOpen, MayOpenAgain, begun_family}
 use Rattle.vos_store.specs.Calls.{State}
 use Rattle.world_base.specs.declared.target.TargetState.{TargetState}
-use Rattle.world_legal.specs.closing.Closing.{StandsForResolved}
 use Rattle.world_whole.specs.Begins.{declared_conts}
 
 -- a store once it was opened for a run: it had calls, by which it has no fewer free blocks, and as many where it kept no entries

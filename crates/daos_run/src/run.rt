@@ -2,7 +2,7 @@
 ghost use Rattle.std.specs.Prelude.{◌≡◌, ◌≤◌, [], replicate, IfOk, IsOkUnless, None, OnOk};
 ghost use Rattle.daos_model.specs.Opening.{fresh};
 ghost use Rattle.daos_run.specs.Comes.{FollowsFromZeros};
-ghost use Rattle.run_targets.specs.Ends.{IsInRealTime, IsLegal};
+ghost use Rattle.run_targets.specs.Ends.{AreIssuedThere, IsInRealTime, IsLegal};
 ghost use Rattle.report_writer.specs.Forms.{IsReportOf};
 ghost use Rattle.model_reports.specs.Lone.{HasOneClient};
 ghost use Rattle.model_reports.specs.Rooms.{FindsRoom, HasRoom};
@@ -11,7 +11,6 @@ ghost use Rattle.script_runnable.specs.Runnable.{IsRunnable};
 ghost use Rattle.daos_run.specs.Slots.{HaveStores};
 ghost use Rattle.daos_run.specs.Starts.{IsNewStore};
 ghost use Rattle.script_runnable.specs.Keyed.{ScriptHasKeys};
-ghost use Rattle.world_lone.specs.LoneRuns.{AreIssuedThere};
 
 use crate::parts::Parts;
 use crate::run_on::run_on;

@@ -26,8 +26,8 @@ use Rattle.world_base.specs.declared.world.World.{World}
 use Rattle.world_ends.specs.Ends.{durables_of, rules_of}
 use Rattle.world_external.specs.Order.{AreExternallyConsistent, KeepsTheBound}
 use Rattle.world_facts.specs.Facts.{IsMember}
-use Rattle.world_legal.specs.closing.Closing.{StandsForResolved}
-use Rattle.world_lone.specs.LoneRuns.{AreIssuedThere}
+pub use Rattle.run_reports.specs.Closings.{StandsForResolved}
+pub use Rattle.world_lone.specs.LoneRuns.{AreIssuedThere}
 use Rattle.world_whole.specs.Begins.{IsBegun}
 
 -- ---- the report

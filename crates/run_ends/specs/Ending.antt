@@ -44,7 +44,7 @@ use Rattle.world_base.specs.declared.target.TargetState.{TargetState}
 use Rattle.world_base.specs.declared.world.World.{World}
 use Rattle.world_base.specs.Events.{Rules, target_plan}
 use Rattle.world_causes.specs.Causes.{is_try}
-use Rattle.world_legal.specs.closing.Closing.{report_over}
+use Rattle.run_reports.specs.Closings.{report_over}
 use Rattle.world_ends.specs.Ends.{durable_of, durables_of, rules_of}
 use Rattle.world_external.specs.Order.{AreExternallyConsistent, KeepsTheBound}
 use Rattle.world_external.specs.Runs.{runs-are-consistent}

@@ -21,8 +21,7 @@ use Rattle.world_base.specs.declared.world.World.{World}
 use Rattle.world_base.specs.Events.{Rules}
 use Rattle.world_base.specs.Stops.{Begins, WorldRun}
 use Rattle.world_ends.specs.Ends.{durable_of, durables_of, rules_of}
-use Rattle.world_legal.specs.closing.Closing.{StandsForResolved}
-use Rattle.world_legal.specs.closing.Runs.{runs-keep_sound, runs-stand_for_resolved}
+use Rattle.run_reports.specs.Closings.{StandsForResolved, runs-keep_sound, runs-stand_for_resolved}
 use Rattle.world_whole.specs.Begins.{IsBegun, IsSimple}
 use Rattle.run_ends.specs.Arming.{HaveFuses}
 use Rattle.run_ends.specs.Begun.{IsFirstWatch, first_stage, first_world, is-begun, or_empty, shows-first, state_now, told-is, told-there}

@@ -1,4 +1,5 @@
 -- How a run of clients and targets begins, and what it comes to.
+pub mod Turns
 pub mod Reports
 pub mod Starts
 pub mod Arming

@@ -1,4 +1,5 @@
 -- What a run in an order reports, where targets may stop and open again.
+pub mod Closings
 pub mod Reports
 pub mod Legal
 pub mod Issued

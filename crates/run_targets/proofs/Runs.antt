@@ -30,8 +30,7 @@ use Rattle.run_shows.specs.Going.{AreAlike, AreFindable, AreSteady}
 use Rattle.run_shows.specs.Serving.{served-then}
 use Rattle.run_shows.specs.Shows.{Shows}
 use Rattle.run_shows.specs.Stages.{StageNow}
-use Rattle.run_steps.specs.Breaking.{Breaks, broke-between}
-use Rattle.run_steps.specs.Ended.{AllCanReopen, HasRunWith, left_of}
+use Rattle.run_ends.specs.Turns.{AllCanReopen, Breaks, HasRunWith, broke-between, left_of}
 use Rattle.run_watch.specs.Watches.{WatchNow, first_watch}
 use Rattle.target_core.specs.Targets.{TargetOf}
 use Rattle.vos_store.specs.Calls.{State}

@@ -1,5 +1,5 @@
 -- How runs begin and what they come to, for the crates above.
-pub use Rattle.run_ends.specs.Comes.{ComesTo, FollowsOrder, IsInRealTime, IsLegal, IsOrdered, IsOutside, IsReportOfLines, MayBeFound}
+pub use Rattle.run_ends.specs.Comes.{AreIssuedThere, BreaksOffSo, ComesTo, FollowsOrder, IsInRealTime, IsLegal, IsOrdered, IsOutside, IsReportOfLines, MayBeFound, StandsForResolved}
 pub use Rattle.run_ends.specs.Known.{legal-by-any}
 pub use Rattle.run_ends.specs.Lasts.{some-may_be, some_lasts}
 pub use Rattle.run_ends.specs.Places.{from-map, one-there, same-lists}

@@ -10,13 +10,12 @@ use Rattle.daos_model.specs.declared.durable.Durable.{Durable}
 use Rattle.daos_run.specs.Comes.{ComesFrom}
 use Rattle.daos_run.specs.Opens.{MayRun}
 use Rattle.daos_run.specs.Slots.{AreFree, AreSet, HaveStores, stores_in}
-use Rattle.run_opening.specs.All.{AreKept}
+use Rattle.run_opening.specs.All.{AreKept, MayBeFound}
 use Rattle.run_opening.specs.AlikeSound.{reopening-sound}
 use Rattle.run_opening.specs.Laws.{AreUnused}
 use Rattle.run_opening.specs.Opened.{keeps}
 use Rattle.run_opening.specs.UnusedLaws.{unused-sound}
 use Rattle.run_starts.specs.Starts.{CanOpen}
-use Rattle.run_targets.specs.Ends.{MayBeFound}
 use Rattle.run_tests.specs.Lone.{CanOpenAny, IsLeft, IsOver, IsReady}
 use Rattle.run_tests.specs.Pair.{told_by}
 use Rattle.run_tests.proofs.Places.{found_in, kept-is, kept-one, one-has, only, same-some}

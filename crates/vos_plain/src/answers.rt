@@ -65,7 +65,7 @@ fn answered(alloc: Global, rows: &[Version], read: &Read, below: Epoch) -> Resul
 impl Contents {
     ghost use Rattle.std.specs.Prelude.{◌<◌, false, OnOk};
     ghost use Rattle.daos_model.specs.Durables.{is_frozen, row_of};
-    ghost use Rattle.vos_store.specs.Answers.{discards, enlisted_in, fetched, freezes, is_past, later_write, objects_in};
+    ghost use Rattle.vos_store.specs.Answers.{discards, enlisted_in, fetched, freezes, is_past, later_write, objects_in, open_below};
     ghost use Rattle.vos_store.specs.Refusals.{discard_stop, fetch_open, fetch_stop, freeze_stop, says};
     ghost use Rattle.base_types.specs.Epochs.{restart_floor};
     ghost use Rattle.vos_plain.specs.Contents.{contents_of, free_of};
@@ -121,6 +121,14 @@ impl Contents {
             Some(version) => Err(DiscardNo::Unsettled(version.by)),
             None => Ok(()),
         }
+    }
+
+    /// The least epoch of a container's versions at or below an epoch that aren't settled.
+    #[tactic(auto, unfolding(vos_store::specs::Answers::open_below))]
+    pub fn open_below(&self, cont: ContId, upto: Epoch) -> Option<Epoch>
+        ensures { result ≡ open_below cont upto (contents_of self.now) }
+    {
+        first_open_in(&self.rows, cont, Epoch(0), upto).map(|version| version.epoch)
     }
 
     /// The answer of a read below an epoch.

@@ -258,6 +258,10 @@ impl Store for PlainStore {
         self.contents.row(cont).aggregated
     }
 
+    fn open_below(&self, cont: ContId, upto: Epoch) -> Option<Epoch> {
+        self.contents.open_below(cont, upto)
+    }
+
     fn snaps(&self) -> Result<Snaps, Memory> {
         self.contents.snaps()
     }

@@ -74,6 +74,14 @@ or_unsettled (Some v) = Err (discard.Unsettled v.by)
 unfoldable pub discards : ContId → Epoch → Epoch → Durable → Result (Unit {0}) DiscardNo
 discards c lo hi d = or_unsettled (find (is_open_in c lo hi) d.versions)
 
+abbrev pub epoch_shown : Option Version → Option Epoch
+epoch_shown None = None
+epoch_shown (Some v) = Some v.epoch
+
+-- the least epoch of a container's versions at or below an epoch that aren't settled, if there is one: an aggregation stays below it
+unfoldable pub open_below : ContId → Epoch → Durable → Option Epoch
+open_below c upto d = epoch_shown (find (is_open_in c (record { 0 = 0 }) upto) d.versions)
+
 -- the versions that a read below an epoch asks for were aggregated: the epoch is at or below the aggregated-to epoch,
 -- and no snapshot is frozen at it
 unfoldable pub is_past : ContId → Epoch → Durable → Bool

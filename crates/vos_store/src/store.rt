@@ -10,7 +10,7 @@ ghost use Rattle.daos_model.specs.Changes.{created, discarded, enlisted, frozen,
 ghost use Rattle.daos_model.specs.Durables.{IsInForm, is_enlisted, is_frozen, row_of};
 ghost use Rattle.daos_model.specs.Forms.{is_path_in_form, is_read_in_form};
 ghost use Rattle.daos_model.specs.Kinds.{is_of_kind};
-ghost use Rattle.vos_store.specs.Answers.{IsFloorShown, IsManyShown, PrepareWhy, discards, enlisted_in, enlists, fetched, floor_of, freezes, later_write, objects_in};
+ghost use Rattle.vos_store.specs.Answers.{IsFloorShown, IsManyShown, PrepareWhy, discards, enlisted_in, enlists, fetched, floor_of, freezes, later_write, objects_in, open_below};
 ghost use Rattle.vos_store.specs.Calls.{Answers, CutDiscard, CutPrune, Finds, IfRunning, Looks, Makes, MakesPartly, Opens, SetsFuse, State, Turns, UsesFuse, going_count};
 ghost use Rattle.vos_store.specs.Conditions.{CanFreeze, CanPrepare, CanPrune, CanSettle, IsPreparable, IsStep};
 ghost use Rattle.vos_store.specs.Refusals.{always_stop, discard_open, discard_stop, enlist_open, enlist_stop, fetch_open, fetch_stop, freeze_stop, later_open, later_stop, prepare_stop, reopen_foreign, says};
@@ -247,6 +247,13 @@ pub trait Store {
         requires { IfRunning (state self.now) (ForSome (durable self.now) (λ d. is_enlisted d cont ≡ true)) }
         ensures { IfRunning (state self.now)
             (ForSome (durable self.now) (λ d. result ≡ (row_of d cont).aggregated)) };
+
+    /// The least epoch, at or below this one, of the container's versions that aren't settled, if there is
+    /// one: an aggregation has to stay below it. Takes no memory.
+    fn open_below(&self, cont: ContId, upto: Epoch) -> Option<Epoch>
+        requires { IfRunning (state self.now) (ForSome (durable self.now) (λ d. is_enlisted d cont ≡ true)) }
+        ensures { IfRunning (state self.now)
+            (ForSome (durable self.now) (λ d. result ≡ open_below cont upto d)) };
 
     /// The snapshots, in the order of containers and epochs.
     fn snaps(&self) -> Result<Snaps, Memory>

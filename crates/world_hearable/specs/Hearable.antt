@@ -95,7 +95,7 @@ not-collecting q off = refl
 -- ---- containers of declared objects
 
 -- the container of a declared object is declared
-cont-declared : (r : Rules) (p : Path) → IsScriptInForm r.script.targets r.script → IsOfObject r.script.objs p → Contains (declared_conts r.script) p.cont
+pub cont-declared : (r : Rules) (p : Path) → IsScriptInForm r.script.targets r.script → IsOfObject r.script.objs p → Contains (declared_conts r.script) p.cont
 cont-declared r p form of_object = subst (Contains (declared_conts r.script)) same (contains-from_has (declared_conts r.script) cont.1.id (has-map (λ (c : ContDecl). c.id) r.script.conts cont.1 here))
   where
     cont : Any (λ c. c.id ≡ of_object.1.cont) r.script.conts
@@ -112,7 +112,7 @@ reads-none : (r : Rules) → Unsnapped r → SnapshotsAreRead r
 reads-none r U x name reads = let none = no-snapshots r U x in let bad : None ≡ Some name = sym none ∙ reads in let no : ⊥ = cc in absurd no
 
 -- the leader of an attempt is there
-leads-within : (ws : List MinorWrite) (targets : ℕ) → 0 < targets → writes_leader ws targets < targets
+pub leads-within : (ws : List MinorWrite) (targets : ℕ) → 0 < targets → writes_leader ws targets < targets
 unfolding writes_leader
 leads-within [] targets some = some
 leads-within (w ∷ ws) targets some = leader-within (write_path w.write) targets some

@@ -70,10 +70,10 @@ EventsKeepSent = (r : Rules) (n : ℕ) (w v : World) → Endings w → NothingOf
 
 -- ---- messages
 
-abbrev Posts : ℕ → List Post → Type 0
+abbrev pub Posts : ℕ → List Post → Type 0
 Posts n posts = (q : Post) → Has q posts → IsSentSo n q.to q.message
 
-plainly-so : (n : ℕ) (to : ActorId) (m : Message) → TellsPlainly m → IsSentSo n to m
+pub plainly-so : (n : ℕ) (to : ActorId) (m : Message) → TellsPlainly m → IsSentSo n to m
 plainly-so n to (message.Reset' by down place more) h = absurd h
 plainly-so n to (message.Tell tracker) h = absurd h
 plainly-so n to m h = tt
@@ -98,7 +98,7 @@ abbrev SaysSo : ℕ → Option Post → Type 0
 SaysSo n None = Unit {0}
 SaysSo n (Some q) = IsSentSo n q.to q.message
 
-move-so : (n : ℕ) (p : ClientPlan) (c : ClientState) → SaysSo n (moved p c).post
+pub move-so : (n : ℕ) (p : ClientPlan) (c : ClientState) → SaysSo n (moved p c).post
 move-so n p c = by (waits c) refl
   where
     is-a : (m : Move) → IsMove p c m → SaysSo n m.post
@@ -110,7 +110,7 @@ move-so n p c = by (waits c) refl
     by true h = subst (λ m. SaysSo n m.post) (sym (waiting-rests p c h)) tt
     by false h = is-a (moved p c) (move-is p c h)
 
-heard-so : (n : ℕ) (p : ClientPlan) (c : ClientState) (m : Message) → SaysSo n (heard p c m).post
+pub heard-so : (n : ℕ) (p : ClientPlan) (c : ClientState) (m : Message) → SaysSo n (heard p c m).post
 heard-so n p c m = by (heard p c m).post (heard-asks p c m)
   where
     by : (o : Option Post) → IsQuestion o → SaysSo n o
@@ -119,16 +119,16 @@ heard-so n p c m = by (heard p c m).post (heard-asks p c m)
 
 -- ---- letters
 
-abbrev AreSo : ℕ → List Letter → Type 0
+abbrev pub AreSo : ℕ → List Letter → Type 0
 AreSo n ls = (l : Letter) → Has l ls → IsSentSo n l.to l.message
 
-both-so : (n : ℕ) (ls ms : List Letter) → AreSo n ls → AreSo n ms → AreSo n (ls ++ ms)
+pub both-so : (n : ℕ) (ls ms : List Letter) → AreSo n ls → AreSo n ms → AreSo n (ls ++ ms)
 both-so n ls ms k j l i = elim (has-cases ls ms l i) [ inl x ↦ k l x | inr x ↦ j l x ]
 
-posts-so : (n : ℕ) (from : ActorId) (posts : List Post) → Posts n posts → AreSo n (letters_of from posts)
+pub posts-so : (n : ℕ) (from : ActorId) (posts : List Post) → Posts n posts → AreSo n (letters_of from posts)
 posts-so n from posts k l i = let z = has-from_map (letter_of from) posts l i in subst (λ x. IsSentSo n x.to x.message) z.2 (k z.0 z.1)
 
-client-so : (n c : ℕ) (o : Option Post) → SaysSo n o → AreSo n (letters_of (client c) (listed o))
+pub client-so : (n c : ℕ) (o : Option Post) → SaysSo n o → AreSo n (letters_of (client c) (listed o))
 client-so n c None says l i = absurd i
 client-so n c (Some q) says l (inl same) = subst (λ x. IsSentSo n x.to x.message) (sym same) says
 client-so n c (Some q) says l (inr none) = absurd none
@@ -147,7 +147,7 @@ down-within [] t is = let no : ⊥ = cc in absurd no
 down-within (s ∷ ss) zero is = omega arith
 down-within (s ∷ ss) (suc t) is = let low : t < length ss = down-within ss t is in omega (arith, low)
 
-lost-so : (n t : ℕ) (down : Bool) (w : World) → t < n → AreSo n w.messages → AreSo n (filter (is_not_to t) w.messages ++ resets t down w.asked)
+pub lost-so : (n t : ℕ) (down : Bool) (w : World) → t < n → AreSo n w.messages → AreSo n (filter (is_not_to t) w.messages ++ resets t down w.asked)
 lost-so n t down w low k =
     both-so n (filter (is_not_to t) w.messages) (resets t down w.asked) (filter-so n (is_not_to t) w.messages k)
     (resets-so n down (is_to t) w.asked (λ q is. let same : (q.to.number == t) ≡ true = and_right (not q.to.client) (q.to.number == t) is in subst (λ u. u < n) (let one : t ≡ q.to.number = grind (arith, nat_tests) in one) low))
@@ -177,7 +177,7 @@ statuses-so n inc (e ∷ es) q i = elim (has-cases (statuses_of inc e) (statuses
   | inr j ↦ statuses-so n inc es q j
 ]
 
-opening-so : (n : ℕ) (t : TargetPlan) (d : Durable) → Posts n (opening_posts t d)
+pub opening-so : (n : ℕ) (t : TargetPlan) (d : Durable) → Posts n (opening_posts t d)
 unfolding opening_posts
 opening-so n t d = statuses-so n d.incarnation (filter is_open (filter (is_led t.me) d.entries))
 
@@ -189,7 +189,7 @@ module _ (r : Rules) (n : ℕ) (w v : World) (f : HearsMore r w v) where
   listened is q i =
       further-so n q.to g.s.durable g.s.memory.member.parked q.message ((listens f.number (target_plan r g.t) g.s.opening g.s.memory g.reading g.l.from g.l.message (kept g.s) g.new (g.memory, g.did) is g.turn).says q i)
 
-  more-so : (m : Message) → g.l.message ≡ m → tells_of_snapshots m ≡ false → HearsFurther f.number (target_plan r g.t) g.s.opening g.s.memory g.reading g.l.from m (kept g.s) g.new (g.memory, g.did) → Posts n g.did.posts
+  pub more-so : (m : Message) → g.l.message ≡ m → tells_of_snapshots m ≡ false → HearsFurther f.number (target_plan r g.t) g.s.opening g.s.memory g.reading g.l.from m (kept g.s) g.new (g.memory, g.did) → Posts n g.did.posts
   more-so (message.Commit x ep first tracker ws) is off turn = down-so n (target_plan r g.t) g.s.memory g.reading (commit_request x ep first tracker ws) g.l.from turn.last g.new (g.memory, g.did) turn.ends
   more-so (message.StatusIs x inc how) is off turn =
       λ q i. plainly-so n q.to q.message ((all-hear-tell (target_plan r g.t) g.s.opening g.s.memory g.reading g.l.from (message.Ack x inc (status_refusal x how)) (kept g.s) g.new (g.memory, g.did) (state-may x how) turn).0 q i)
@@ -263,7 +263,7 @@ module _ (r : Rules) (n : ℕ) (w v : World) (ends : Endings w) (nothing : Nothi
   targets-then (GivenUp g) = as-many g.t _ (ap (λ u. u.targets) g.after)
   targets-then (Draws g) = ap (λ u. length u.targets) g.after ∙ many
 
-swept-so : (n : ℕ) (w : World) → length w.targets ≡ n → AreSo n w.messages → AreSo n (swept w).messages
+pub swept-so : (n : ℕ) (w : World) → length w.targets ≡ n → AreSo n w.messages → AreSo n (swept w).messages
 swept-so n w many k =
     filter-so n (is_not_to_down w.targets) (w.messages ++ map (reset_letter true) (filter (is_to_down w.targets) w.asked))
     (both-so n w.messages (map (reset_letter true) (filter (is_to_down w.targets) w.asked)) k

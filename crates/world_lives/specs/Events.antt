@@ -47,12 +47,12 @@ tries-none (line.Aggregate n u c s ∷ ls) own t = let k = own (line.Aggregate n
 tries-none (line.Down u ∷ ls) own t = let k = own (line.Down u) (inl refl) in let e : line.Down u ≡ line.Try k.0 = k.1 in let no : ⊥ = cc in absurd no
 
 -- no numbers are among them
-record HasNoNumbers (ls : List Line) : Type 0 where
-  stops : stop_numbers ls ≡ []
-  restarts : restart_numbers ls ≡ []
-  aggregations : aggregate_numbers ls ≡ []
+pub record HasNoNumbers (ls : List Line) : Type 0 where
+  pub stops : stop_numbers ls ≡ []
+  pub restarts : restart_numbers ls ≡ []
+  pub aggregations : aggregate_numbers ls ≡ []
 
-tries-numbers : (ls : List Line) → AreTries ls → HasNoNumbers ls
+pub tries-numbers : (ls : List Line) → AreTries ls → HasNoNumbers ls
 tries-numbers ls own = record {
   stops = gather-none stopped_number stop_numbers refl (λ l ls. refl) ls (λ l i. ap stopped_number (own l i).1);
   restarts = gather-none restarted_number restart_numbers refl (λ l ls. refl) ls (λ l i. ap restarted_number (own l i).1);
@@ -77,7 +77,7 @@ same-targets w v more targets numbers lines own = record {
     none = tries-numbers more own
 
 -- the epochs that lines get are of attempts
-tries-filled : (issued : List (AttemptId × Epoch)) (ls : List Line) → AreTries ls → AreTries (map (with_epoch issued) ls)
+pub tries-filled : (issued : List (AttemptId × Epoch)) (ls : List Line) → AreTries ls → AreTries (map (with_epoch issued) ls)
 tries-filled issued ls own l i =
     let k = has-from_map (with_epoch issued) ls l i in
     let t = own k.0 k.1 in
@@ -149,7 +149,7 @@ module _ (t : ℕ) (ls : List Line) (own : (l : Line) → Has l ls → IsTurnLin
   turn-stops : stop_numbers ls ≡ []
   turn-stops = gather-none stopped_number stop_numbers refl (λ l ls. refl) ls (λ l i. turn-stop t l (own l i))
 
-  turn-restarts : restart_numbers ls ≡ []
+  pub turn-restarts : restart_numbers ls ≡ []
   turn-restarts = gather-none restarted_number restart_numbers refl (λ l ls. refl) ls (λ l i. (turn-restart t l (own l i)).0)
 
   turn-incarnations : incarnations (lines_at t ls) ≡ []
@@ -271,7 +271,7 @@ module _ (w v : World) (t number : ℕ) (q : Message) (s : TargetState) (cut : C
       (subst (HasNew (IsFreeAggregate w)) (sym (aggregates-append cut.lines last ∙ append-nil (aggregate_numbers cut.lines))) (new-number w t number q cut.lines fresh k))
 
 -- a message that asks for no aggregation
-no_prune : Message
+unfoldable pub no_prune : Message
 no_prune = Marked 0 []
 
 -- a turn that was cut left its target's incarnation, and its lease no lower

@@ -65,7 +65,7 @@ reads-none : (r : Rules) → Unsnapped r → SnapshotsAreRead r
 reads-none r U x name reads = let none = no-snapshots r U x in let bad : None ≡ Some name = sym none ∙ reads in let no : ⊥ = cc in absurd no
 
 -- what is decided has its epoch, which was issued
-decided-issued : (r : Rules) (h : History) (w : World) → Attempts r h w → DecidedIssued h w
+pub decided-issued : (r : Rules) (h : History) (w : World) → Attempts r h w → DecidedIssued h w
 decided-issued r h w k x e d =
     let held = (k.on.each x).entries.held_by_leader e d in
     let its = (k.on.each x).entries.one (leader_of r x) held.entry held.found in
@@ -111,7 +111,7 @@ cuts-plain r w v (GivenUp g) ours = tt
 cuts-plain r w v (Draws g) ours = tt
 
 -- what is aborted stays so
-aborts-grow : (r : Rules) (h later : History) (w v : World) (e : Happening r w v) → GrowsBy h (told_by e) later → AbortsGrow h later e
+pub aborts-grow : (r : Rules) (h later : History) (w v : World) (e : Happening r w v) → GrowsBy h (told_by e) later → AbortsGrow h later e
 aborts-grow r h later w v (IsCut g) grows = grows
 aborts-grow r h later w v (Plainly e up) grows = grows.aborted
 aborts-grow r h later w v (Further f) grows = grows.aborted
@@ -134,7 +134,7 @@ makers-none r w k l x i makes some = by l.message (k.letters l i) makes
 -- ---- lines, and what is told of ends
 
 -- where nothing is told, outcomes are as before
-outcomes-on : (r : Rules) (h later : History) (w : World) → GrowsBy h [] later → Outcomes r h w → Outcomes r later w
+pub outcomes-on : (r : Rules) (h later : History) (w : World) → GrowsBy h [] later → Outcomes r h w → Outcomes r later w
 outcomes-on r h later w grows k = record {
   told = λ l x own how i says some. end-on x own how (k.told l x own how i says some);
   lines = λ a i some. end-on a.id a.epoch a.outcome (k.lines a i some);

@@ -77,15 +77,15 @@ WhatIsHeardIsRight = (r : Rules) (o : Opening) (held : ℕ → List Version) (h 
 -- ---- what waits
 
 -- a Fetch that waits at a target is what a client has asked of it, at an epoch
-record IsParkedBy (r : Rules) (w : World) (t : ℕ) (ask : Message) : Type 0 where
-  n : ℕ
-  c : ClientState
-  here : slice_get w.clients n ≡ Some c
-  a : Present
-  at : c.present ≡ Some a
-  q : Post
-  question : IsQuestion (client_plan r n) c q
-  holds : HoldsIt q (ParkedAt t ask)
+pub record IsParkedBy (r : Rules) (w : World) (t : ℕ) (ask : Message) : Type 0 where
+  pub n : ℕ
+  pub c : ClientState
+  pub here : slice_get w.clients n ≡ Some c
+  pub a : Present
+  pub at : c.present ≡ Some a
+  pub q : Post
+  pub question : IsQuestion (client_plan r n) c q
+  pub holds : HoldsIt q (ParkedAt t ask)
 
 module _ (r : Rules) (w : World) (t : ℕ) (s : TargetState) (p : Parked) (n : ℕ) (k : Conversation r w) (here : slice_get w.targets t ≡ Some s) (i : Has p s.memory.member.parked) (own : is_fetch_of n p.ask ≡ true) where
   parked-among : Has (ParkedAt t p.ask) (held_of n w)
@@ -97,7 +97,7 @@ module _ (r : Rules) (w : World) (t : ℕ) (s : TargetState) (p : Parked) (n : �
       (has-left (map (parked_at t) (filter (is_parked_of n) s.memory.member.parked)) (map (open_at t) (filter (is_open_of n) s.memory.leader.undecided) ++ map (collected_at t) (filter (is_collected_of n) s.memory.collecting)) (ParkedAt t p.ask)
       (has-map (parked_at t) (filter (is_parked_of n) s.memory.member.parked) p (has-filter (is_parked_of n) s.memory.member.parked p i own)))))
 
-  parked-by : IsParkedBy r w t p.ask
+  pub parked-by : IsParkedBy r w t p.ask
   parked-by = by (slice_get w.clients n) refl
     where
       only : (c : ClientState) → slice_get w.clients n ≡ Some c → waits c ≡ true → (q : Post) (x : Held) → IsQuestion (client_plan r n) c q → HoldsIt q x → held_of n w ≡ x ∷ [] → IsParkedBy r w t p.ask
@@ -122,11 +122,11 @@ module _ (r : Rules) (w : World) (t : ℕ) (s : TargetState) (p : Parked) (n : �
 -- ---- what is asked
 
 -- what asks for a read, or brings writes, is a client's request
-read-asked : (p : ClientPlan) (c : ClientState) (a : Present) (q : Post) (f : FetchRequest) → c.present ≡ Some a → IsQuestion p c q → q.message ≡ fetch_message f → (k : Epoch) × Asked p k c a q
+pub read-asked : (p : ClientPlan) (c : ClientState) (a : Present) (q : Post) (f : FetchRequest) → c.present ≡ Some a → IsQuestion p c q → q.message ≡ fetch_message f → (k : Epoch) × Asked p k c a q
 read-asked p c a q f at (ItsRequest k low sent) says = (k, sent-is-asked p k c a q at sent)
 read-asked p c a q f at (ItsAsk k s g low sent commit is) says = let bad : message.Ask g.attempt ≡ fetch_message f = sym (ap (λ z. z.message) is) ∙ says in let no : ⊥ = cc in absurd no
 
-writes-asked : (p : ClientPlan) (c : ClientState) (a : Present) (q : Post) (f : CommitRequest) → c.present ≡ Some a → IsQuestion p c q → q.message ≡ commit_of f → (k : Epoch) × Asked p k c a q
+pub writes-asked : (p : ClientPlan) (c : ClientState) (a : Present) (q : Post) (f : CommitRequest) → c.present ≡ Some a → IsQuestion p c q → q.message ≡ commit_of f → (k : Epoch) × Asked p k c a q
 writes-asked p c a q f at (ItsRequest k low sent) says = (k, sent-is-asked p k c a q at sent)
 writes-asked p c a q f at (ItsAsk k s g low sent commit is) says = let bad : message.Ask g.attempt ≡ commit_of f = sym (ap (λ z. z.message) is) ∙ says in let no : ⊥ = cc in absurd no
 

@@ -43,13 +43,13 @@ rests-tell : (w v : World) → Rests w v → TellsNone w v
 rests-tell w v k = record { clients = k.clients; tries = same-tries w v k }
 
 module _ (w v : World) (clients : v.clients ≡ w.clients) where
-  silent-tells : (more : List Line) → v.lines ≡ w.lines ++ more → ((a : Attempt) → Has (line.Try a) more → ⊥) → TellsNone w v
+  pub silent-tells : (more : List Line) → v.lines ≡ w.lines ++ more → ((a : Attempt) → Has (line.Try a) more → ⊥) → TellsNone w v
   silent-tells more lines none = record { clients = clients; tries = ap tries lines ∙ tries-append w.lines more ∙ ap (λ as'. tries w.lines ++ as') (tries-none more none) ∙ append-nil (tries w.lines) }
 
   none-tells : (told : List Line) → v.lines ≡ w.lines ++ map (with_epoch w.issued) told → told ≡ [] → TellsNone w v
   none-tells told lines none = silent-tells [] (lines ∙ ap (λ ls. w.lines ++ map (with_epoch w.issued) ls) none) (λ a i. i)
 
-cut-tells : (r : Rules) (w v : World) (g : TargetCut r w v) → ((a : Attempt) → Has (line.Try a) g.cut.lines → ⊥) → TellsNone w v
+pub cut-tells : (r : Rules) (w v : World) (g : TargetCut r w v) → ((a : Attempt) → Has (line.Try a) g.cut.lines → ⊥) → TellsNone w v
 cut-tells r w v g silent =
     silent-tells w v (ap (λ u. u.clients) g.after) (g.cut.lines ++ line.Stop (stops_so_far w.lines) g.t ∷ []) (ap (λ u. u.lines) g.after ∙ append_assoc w.lines g.cut.lines (line.Stop (stops_so_far w.lines) g.t ∷ []))
     (λ a i. elim (has-cases g.cut.lines (line.Stop (stops_so_far w.lines) g.t ∷ []) (line.Try a) i) [ inl j ↦ silent a j | inr j ↦ stop a j ])

@@ -81,7 +81,7 @@ module _ (r : Rules) (h later : History) (w u : World) (b : IsBeside r h later w
   by-target : Recounts r h later w u → Doubts r later u
   by-target g = recounting-keeps r h later w u b.attempts b.attempts_then b.outcomes b.writes_then g k
 
-  happening-keeps : (e : Happening r w u) → HappensWithoutSnapshots e → GrowsBy h (told_by e) later → Doubts r later u
+  pub happening-keeps : (e : Happening r w u) → HappensWithoutSnapshots e → GrowsBy h (told_by e) later → Doubts r later u
   happening-keeps (Plainly (ByClient g) up) ours grows = clients-keep r h later w u b.attempts b.outcomes b.writes_then grows (going-goes r w u b.some b.lines b.losses g) k
   happening-keeps (Plainly (ToClient g) up) ours grows = clients-keep r h later w u b.attempts b.outcomes b.writes_then grows (hearing-goes r w u b.some b.talk b.endings b.lines b.losses b.lost g) k
   happening-keeps (Plainly (ToTarget g) up) ours grows =

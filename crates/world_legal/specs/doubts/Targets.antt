@@ -129,11 +129,11 @@ plainly-lossless : (n m : Message) → TellsPlainly n → TellsLoss n m → ⊥
 plainly-lossless (message.Reset' t down place (more_of-Message q rest)) m plain tells = plain
 plainly-lossless n m plain tells = tells
 
-after-lossless : (n m : Message) → TellsAfter n → TellsLoss n m → ⊥
+pub after-lossless : (n m : Message) → TellsAfter n → TellsLoss n m → ⊥
 after-lossless (message.Reset' t down place (more_of-Message q rest)) m after tells = after
 after-lossless n m after tells = tells
 
-collected-lossless : (n m : Message) → is_collected n ≡ true → TellsLoss n m → ⊥
+pub collected-lossless : (n m : Message) → is_collected n ≡ true → TellsLoss n m → ⊥
 collected-lossless (message.Reset' t down place (more_of-Message q rest)) m is tells = let no : ⊥ = cc (is) in no
 collected-lossless n m is tells = tells
 

@@ -47,7 +47,7 @@ module _ (w v : World) (k : DownsAreKnown w) (more : List Line) (lines : v.lines
   none-changed : v.targets ≡ w.targets → DownsAreKnown v
   none-changed same t u s here is = on u (k t u s (ap (λ ts. slice_get ts t) (sym same) ∙ here) is)
 
-  one-changed : (t : ℕ) (s z : TargetState) → slice_get w.targets t ≡ Some s → v.targets ≡ set w.targets t z
+  pub one-changed : (t : ℕ) (s z : TargetState) → slice_get w.targets t ≡ Some s → v.targets ≡ set w.targets t z
       → ((u : ℕ) → has_target z.memory.leader.down u ≡ true → (has_target s.memory.leader.down u ≡ true) ⊎ Has (line.Down u) w.lines) → DownsAreKnown v
   one-changed t s z here same from n u y at is = elim (at-or-there w.targets t s z here n y (subst (λ ts. slice_get ts n ≡ Some y) same at)) [
     | inl it ↦ on u (elim (from u (subst (λ x. has_target x.memory.leader.down u ≡ true) it.1 is)) [ inl was ↦ k t u s here was | inr told ↦ told ])
@@ -86,7 +86,7 @@ module _ (r : Rules) (h : History) (w v : World) (attempts : Attempts r h w) (co
         | inr tells ↦ inr (downs g.l u (has-taken w.messages g.l g.rest g.takes) (tells-so u g.l.message tells))
       ])
 
-  happening-known : (e : Happening r w v) → IsWithoutCollections e → DownsAreKnown v
+  pub happening-known : (e : Happening r w v) → IsWithoutCollections e → DownsAreKnown v
   happening-known (Plainly (ByClient g) up) ours = none-changed w v k _ (ap (λ x. x.lines) g.after) (ap (λ x. x.targets) g.after)
   happening-known (Plainly (ToClient g) up) ours = none-changed w v k _ (ap (λ x. x.lines) g.after) (ap (λ x. x.targets) g.after)
   happening-known (Plainly (ToTarget g) up) ours = hears-known (rightly r w v g (letters-tell r h w attempts g.l g.t g.s (has-taken w.messages g.l g.rest g.takes) g.to_it g.here))

@@ -106,7 +106,7 @@ found-so p (x ∷ xs) y f = by (found-so p xs y) (p x) refl f
     by rest true is f = let same : x ≡ y = cc in ap p (sym same) ∙ is
     by rest false is f = rest f
 
-down-so : (members down t : ℕ) → first_down members down ≡ Some t → (has_target members t ≡ true) × (has_target down t ≡ true)
+pub down-so : (members down t : ℕ) → first_down members down ≡ Some t → (has_target members t ≡ true) × (has_target down t ≡ true)
 unfolding first_down
 down-so members down t f = let is = found-so (is_down_among members down) all_targets t f in (and_left (has_target members t) (has_target down t) is, and_right (has_target members t) (has_target down t) is)
 

@@ -80,7 +80,7 @@ PreparesAreKnown =
 -- ---- what is found
 
 -- what a client asked is its request, unless it asks what became of its attempt
-request-asked : (r : Rules) (w : World) (l : Letter) (rest : List Letter) → ((x : AttemptId) → l.message ≡ message.Ask x → ⊥) → IsAskedBy r w l rest → HearsRequest r w l rest
+pub request-asked : (r : Rules) (w : World) (l : Letter) (rest : List Letter) → ((x : AttemptId) → l.message ≡ message.Ask x → ⊥) → IsAskedBy r w l rest → HearsRequest r w l rest
 request-asked r w l rest no_ask z = by z.question
   where
     by : IsQuestion (client_plan r z.n) z.c z.q → HearsRequest r w l rest

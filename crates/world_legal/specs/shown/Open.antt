@@ -108,7 +108,7 @@ module _ (r : Rules) (h : History) (w : World) (x : AttemptId) where
 
 module _ (r : Rules) (h : History) (w : World) (attempts : Attempts r h w) (outcomes : Outcomes r h w) (writes : EntriesWrite r w) (doubts : Doubts r h w) (t : ℕ) (s : TargetState) (here : slice_get w.targets t ≡ Some s) where
   -- an entry that it leads, and that isn't committed, of an attempt that it doesn't know as decided
-  led-open : (x : AttemptId) (e : Entry) → t ≡ leader_of r x → entry_of s.durable x ≡ Some e → e.committed ≡ false → is_among x s.memory.leader.decided ≡ false → IsOpenToAll r.script w.lines x
+  pub led-open : (x : AttemptId) (e : Entry) → t ≡ leader_of r x → entry_of s.durable x ≡ Some e → e.committed ≡ false → is_among x s.memory.leader.decided ≡ false → IsOpenToAll r.script w.lines x
   led-open x e leads found prepared unknown = doubt-open r h w x attempts outcomes writes doubts (record {
     entry = e;
     found = subst (λ n. entry_at w n x ≡ Some e) leads (ap (λ o. entry_in o x) here ∙ found);

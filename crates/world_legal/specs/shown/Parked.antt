@@ -52,15 +52,15 @@ use Rattle.world_waits.specs.Waits.{ARead, Conversation, Held, HoldsIt, IsAsked,
 use Rattle.world_whole.specs.Begins.{IsSimple}
 
 -- what a client asked that waits at a target
-record IsHeldFor (r : Rules) (w : World) (t : ℕ) (ask : Message) : Type 0 where
-  n : ℕ
-  c : ClientState
-  here : slice_get w.clients n ≡ Some c
-  a : Present
-  at : c.present ≡ Some a
-  q : Post
-  question : IsQuestion (client_plan r n) c q
-  holds : HoldsIt q (ParkedAt t ask)
+pub record IsHeldFor (r : Rules) (w : World) (t : ℕ) (ask : Message) : Type 0 where
+  pub n : ℕ
+  pub c : ClientState
+  pub here : slice_get w.clients n ≡ Some c
+  pub a : Present
+  pub at : c.present ≡ Some a
+  pub q : Post
+  pub question : IsQuestion (client_plan r n) c q
+  pub holds : HoldsIt q (ParkedAt t ask)
 
 module _ (r : Rules) (w : World) (t : ℕ) (s : TargetState) (p : Parked) (n : ℕ) (k : Conversation r w) (here : slice_get w.targets t ≡ Some s) (i : Has p s.memory.member.parked) (own : is_parked_of n p ≡ true) where
   among : Has (ParkedAt t p.ask) (held_of n w)
@@ -72,7 +72,7 @@ module _ (r : Rules) (w : World) (t : ℕ) (s : TargetState) (p : Parked) (n : �
       (has-left (map (parked_at t) (filter (is_parked_of n) s.memory.member.parked)) (map (open_at t) (filter (is_open_of n) s.memory.leader.undecided) ++ map (collected_at t) (filter (is_collected_of n) s.memory.collecting)) (ParkedAt t p.ask)
       (has-map (parked_at t) (filter (is_parked_of n) s.memory.member.parked) p (has-filter (is_parked_of n) s.memory.member.parked p i own)))))
 
-  held-for : IsHeldFor r w t p.ask
+  pub held-for : IsHeldFor r w t p.ask
   held-for = by (slice_get w.clients n) refl
     where
       only : (c : ClientState) → slice_get w.clients n ≡ Some c → waits c ≡ true → (q : Post) (x : Held) → IsQuestion (client_plan r n) c q → HoldsIt q x → held_of n w ≡ x ∷ [] → IsHeldFor r w t p.ask
@@ -95,7 +95,7 @@ module _ (r : Rules) (w : World) (t : ℕ) (s : TargetState) (p : Parked) (n : �
       by (Some c) e = waiting c e (waits c) refl (k.talks n c e)
 
 -- a read that is asked
-read-sent : (r : Rules) (n : ℕ) (c : ClientState) (a : Present) (q : Post) (f : FetchRequest) → c.present ≡ Some a → IsQuestion (client_plan r n) c q → q.message ≡ fetch_message f → (k : Epoch) × (k.0 ≤ c.tracker.0) × Asked (client_plan r n) k c a q
+pub read-sent : (r : Rules) (n : ℕ) (c : ClientState) (a : Present) (q : Post) (f : FetchRequest) → c.present ≡ Some a → IsQuestion (client_plan r n) c q → q.message ≡ fetch_message f → (k : Epoch) × (k.0 ≤ c.tracker.0) × Asked (client_plan r n) k c a q
 read-sent r n c a q f at (ItsRequest k low sent) says = (k, low, sent-is-asked (client_plan r n) k c a q at sent)
 read-sent r n c a q f at (ItsAsk k s g low sent commit is) says = let bad : message.Ask g.attempt ≡ fetch_message f = sym (ap (λ z. z.message) is) ∙ says in let no : ⊥ = cc in absurd no
 

@@ -1,0 +1,16 @@
+pub mod Freezed
+pub mod Lining
+pub mod FreezeParts
+pub mod FreezeTurns
+pub mod Containers
+pub mod Standing
+pub mod HeldTurns
+pub mod LossTurns
+pub mod There
+pub mod SnapTurns
+pub mod Limiting
+pub mod Pruned
+pub mod Decided
+pub mod PruneParts
+pub mod PruneTurns
+pub mod AggregateTurns

@@ -1,0 +1,58 @@
+use Rattle.std.proofs.Common.{◌≡◌, ◌∙◌, ◌/◌, Err, None, Some, ap, refl, subst, sym}
+use Rattle.daos_model.specs.Changes.{leased}
+use Rattle.snap_core.specs.Snaps.{remembered}
+use Rattle.target_parts.specs.Covers.{epoch_for, heard_of}
+use Rattle.target_parts.specs.EpochLaws.{epoch-known}
+use Rattle.target_parts.specs.Knowing.{memory_of}
+use Rattle.target_parts.specs.KnowsLaws.{with_clock}
+use Rattle.target_parts.specs.Parts.{kept}
+use Rattle.target_parts.specs.Readying.{leases}
+use Rattle.target_snaps.specs.SnapTurns.{SnapTurn}
+use Rattle.target_snaps.proofs.SnapTurns.{readied-as, snap-ready, snap-spent, snap-unready}
+use Rattle.target_snaps.proofs.Standing.{can-freeze}
+use Rattle.target_snaps.proofs.snaps.hear_snap.Goals as goal
+
+pub snap_at-requires-clause-can : goal.snap_at-requires-clause-can
+snap_at-requires-clause-can g c =
+    let ready = c.in-Ok-Some.ensures.ready in
+    can-freeze c.args.request.cont c.in-Ok-Some.epoch (g.S.Store.state c.args.store.now) (g.S.Store.state c.ready.new.store) (g.S.Store.durable c.args.store.now) (g.S.Store.durable c.ready.new.store) c.requires.enlisted c.in-Ok-Some.ensures.runs.told (λ d at.
+    let said = readied-as (epoch_for c.args.knows.now.hlc ready.0 c.args.tracker None) d (g.S.Store.state c.args.store.now) (g.S.Store.durable c.ready.new.store) (g.S.Store.state c.ready.new.store) (g.S.Store.may c.ready.new.store) _ (Some c.in-Ok-Some.epoch) c.in-Ok-Some.field-0-is (ready.2 d at) in
+    said.1)
+
+pub returns-in-Ok-Some-clause-turn : goal.returns-in-Ok-Some-clause-turn
+returns-in-Ok-Some-clause-turn g c =
+    let ready = c.in-Ok-Some.ensures.ready in
+    let heard : c.ready.new.knows ≡ with_clock (heard_of (Some c.in-Ok-Some.epoch) c.args.knows.now.hlc) c.args.knows.now = c.in-Ok-Some.ensures.heard ∙ ap (λ o. with_clock (heard_of o c.args.knows.now.hlc) c.args.knows.now) c.in-Ok-Some.field-0-is in (
+      ready.0,
+      ready.1,
+      λ d at.
+          let said = readied-as (epoch_for c.args.knows.now.hlc ready.0 c.args.tracker None) d (g.S.Store.state c.args.store.now) (g.S.Store.durable c.ready.new.store) (g.S.Store.state c.ready.new.store) (g.S.Store.may c.ready.new.store) _ (Some c.in-Ok-Some.epoch) c.in-Ok-Some.field-0-is (ready.2 d at) in
+          let is = (epoch-known c.args.plan (remembered (memory_of c.args.knows.now) c.args.snaps.now) c.args.knows.now.hlc ready.0 c.args.tracker None c.requires.target.own.clock refl ∙ said.0) in
+          let lease = leases (c.in-Ok-Some.epoch.0 / 256) d (g.S.Store.state c.args.store.now) (g.S.Store.durable c.ready.new.store) (g.S.Store.state c.ready.new.store) said.1 in
+          subst (λ k. SnapTurn c.args.plan (remembered (memory_of c.args.knows.now) c.args.snaps.now) ready.0 c.args.request c.args.tracker c.args.name.now (kept d (g.S.Store.state c.args.store.now)) (g.S.Store.durable c.snap_at.new.store) (g.S.Store.state c.snap_at.new.store) (g.S.Store.may c.snap_at.new.store) (remembered (memory_of k) c.snap_at.new.snaps) c.snap_at.result) (sym heard)
+          (c.snap_at.ensures.turn (memory_of c.args.knows.now) ready.0 c.args.tracker (kept d (g.S.Store.state c.args.store.now)) (leased lease.lease d) lease.kept_is is
+          (snap-ready c.args.plan (remembered (memory_of c.args.knows.now) c.args.snaps.now) ready.0 c.args.request c.args.tracker c.args.name.now d (g.S.Store.state c.args.store.now) (g.S.Store.state c.ready.new.store) (g.S.Store.durable c.ready.new.store) (g.S.Store.may c.ready.new.store) c.in-Ok-Some.epoch is said.1 (leased lease.lease d) lease.kept_is)),
+    )
+
+pub returns-in-Ok-None-clause-turn : goal.returns-in-Ok-None-clause-turn
+returns-in-Ok-None-clause-turn g c =
+    let ready = c.in-Ok-None.ensures.ready in
+    let heard : c.ready.new.knows ≡ with_clock (heard_of None c.args.knows.now.hlc) c.args.knows.now = c.in-Ok-None.ensures.heard ∙ ap (λ o. with_clock (heard_of o c.args.knows.now.hlc) c.args.knows.now) c.in-Ok-None.field-0-is in (
+      ready.0,
+      ready.1,
+      λ d at.
+          let said = readied-as (epoch_for c.args.knows.now.hlc ready.0 c.args.tracker None) d (g.S.Store.state c.args.store.now) (g.S.Store.durable c.ready.new.store) (g.S.Store.state c.ready.new.store) (g.S.Store.may c.ready.new.store) _ None c.in-Ok-None.field-0-is (ready.2 d at) in
+          snap-spent c.args.plan (remembered (memory_of c.args.knows.now) c.args.snaps.now) ready.0 c.args.request c.args.tracker c.args.name.now d (g.S.Store.state c.args.store.now) (g.S.Store.state c.ready.new.store) (g.S.Store.durable c.ready.new.store) (g.S.Store.may c.ready.new.store) (remembered (memory_of c.ready.new.knows) c.args.snaps.now) c.new.result c.ended.result
+          (epoch-known c.args.plan (remembered (memory_of c.args.knows.now) c.args.snaps.now) c.args.knows.now.hlc ready.0 c.args.tracker None c.requires.target.own.clock refl ∙ said.0) c.new.ensures said.1 (ap (λ k. remembered (memory_of k) c.args.snaps.now) heard) c.ended.ensures.did c.ended.ensures.wanting,
+    )
+
+pub returns-in-Err-clause-turn : goal.returns-in-Err-clause-turn
+returns-in-Err-clause-turn g c =
+    let ready = c.in-Err.ensures.ready in (
+      ready.0,
+      ready.1,
+      λ d at.
+          let said = ready.2 d at in
+          snap-unready c.args.plan (remembered (memory_of c.args.knows.now) c.args.snaps.now) ready.0 c.args.request c.args.tracker c.args.name.now d (g.S.Store.state c.args.store.now) (g.S.Store.state c.ready.new.store) (g.S.Store.durable c.ready.new.store) (g.S.Store.may c.ready.new.store) (memory_of c.args.knows.now) said.0 _
+          (epoch-known c.args.plan (remembered (memory_of c.args.knows.now) c.args.snaps.now) c.args.knows.now.hlc ready.0 c.args.tracker None c.requires.target.own.clock refl ∙ said.1) said.2 (ap Err c.stop_of.ensures),
+    )

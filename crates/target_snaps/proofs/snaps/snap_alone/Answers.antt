@@ -1,0 +1,44 @@
+use Rattle.std.proofs.Common.{◌≡◌, ◌∙◌, ◌++◌, ◌∷◌, [], Err, ap, refl, rules}
+use Rattle.base_types.specs.declared.report.Line.TheVariants as line
+use Rattle.target_parts.specs.Stops.{stop_memory}
+use Rattle.target_snaps.proofs.SnapTurns.{lone-cut, lone-told, lone-wanting}
+use Rattle.target_snaps.proofs.Standing.{target-created}
+use Rattle.target_snaps.proofs.snaps.snap_alone.Goals as goal
+
+pub returns-in-Err-clause-turn : goal.returns-in-Err-clause-turn
+returns-in-Err-clause-turn g c m reading tracker old d at came =
+    lone-cut c.args.plan m reading c.args.request tracker c.args.name.now old c.args.epoch d (g.S.Store.state c.args.store.now) (g.S.Store.state c.create_at.new.store) (g.S.Store.durable c.create_at.new.store) (g.S.Store.may c.create_at.new.store)
+    c.args.lines c.requires.alone came m _ (c.in-Err.ensures.made d at) refl
+
+pub returns-in_err-name-clause-turn : goal.returns-in_err-name-clause-turn
+returns-in_err-name-clause-turn g c m reading tracker old d at came =
+    let no : c.from_residual.result ≡ Err stop_memory = search rules in
+    lone-wanting c.args.plan m reading c.args.request tracker c.args.name.now old c.args.epoch d (g.S.Store.state c.args.store.now) (g.S.Store.state c.create_at.new.store) (g.S.Store.durable c.create_at.new.store) (g.S.Store.may c.create_at.new.store)
+    c.args.lines c.requires.alone came (c.in_default.ensures.made d at) _ c.from_residual.result no
+
+pub returns-in_err-name-clause-target : goal.returns-in_err-name-clause-target
+returns-in_err-name-clause-target g c =
+    target-created c.args.plan c.args.request.cont c.args.epoch _ (g.S.Store.state c.args.store.now) (g.S.Store.state c.create_at.new.store) (g.S.Store.durable c.args.store.now) (g.S.Store.durable c.create_at.new.store) (g.S.Store.may c.create_at.new.store) c.args.knows.now c.requires.target c.requires.running
+    c.in_default.ensures.runs c.in_default.ensures.made
+
+pub returns-in_err-push-clause-turn : goal.returns-in_err-push-clause-turn
+returns-in_err-push-clause-turn g c m reading tracker old d at came =
+    let no : c.from_residual-in_err-push.result ≡ Err stop_memory = search rules in
+    lone-wanting c.args.plan m reading c.args.request tracker c.args.name.now old c.args.epoch d (g.S.Store.state c.args.store.now) (g.S.Store.state c.create_at.new.store) (g.S.Store.durable c.create_at.new.store) (g.S.Store.may c.create_at.new.store)
+    c.args.lines c.requires.alone came (c.in_default.ensures.made d at) _ c.from_residual-in_err-push.result no
+
+pub returns-in_err-push-clause-target : goal.returns-in_err-push-clause-target
+returns-in_err-push-clause-target g c =
+    target-created c.args.plan c.args.request.cont c.args.epoch _ (g.S.Store.state c.args.store.now) (g.S.Store.state c.create_at.new.store) (g.S.Store.durable c.args.store.now) (g.S.Store.durable c.create_at.new.store) (g.S.Store.may c.create_at.new.store) c.args.knows.now c.requires.target c.requires.running
+    c.in_default.ensures.runs c.in_default.ensures.made
+
+pub returns-clause-turn : goal.returns-clause-turn
+returns-clause-turn g c m reading tracker old d at came =
+    lone-told c.args.plan m reading c.args.request tracker c.args.name.now old c.args.epoch d (g.S.Store.state c.args.store.now) (g.S.Store.state c.create_at.new.store) (g.S.Store.durable c.create_at.new.store) (g.S.Store.may c.create_at.new.store)
+    c.args.lines c.requires.alone came (c.in_default.ensures.made d at) c.ended.result c.push.new.self
+    (c.in_ok-push.ensures.ok ∙ ap (λ n. c.args.lines ++ line.Snapshot n c.args.request.cont c.args.epoch ∷ []) c.in_ok-name.ensures) c.ended.ensures.did c.ended.ensures.wanting
+
+pub returns-clause-target : goal.returns-clause-target
+returns-clause-target g c =
+    target-created c.args.plan c.args.request.cont c.args.epoch _ (g.S.Store.state c.args.store.now) (g.S.Store.state c.create_at.new.store) (g.S.Store.durable c.args.store.now) (g.S.Store.durable c.create_at.new.store) (g.S.Store.may c.create_at.new.store) c.args.knows.now c.requires.target c.requires.running
+    c.in_default.ensures.runs c.in_default.ensures.made

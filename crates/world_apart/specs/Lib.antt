@@ -1,0 +1,5 @@
+-- What an event leaves to all but the one who acts in it.
+pub mod Sparing
+pub mod Taking
+pub mod Sweeping
+pub mod Laws

@@ -1,0 +1,26 @@
+-- That outcomes show their causes, also where snapshots are made and containers aggregated.
+pub mod Counting
+pub mod Places
+pub mod PlaceLaws
+pub mod Following
+pub mod Refusing
+pub mod Dating
+pub mod Posts
+pub mod Collected
+pub mod Frames
+pub mod Known
+pub mod Hearing
+pub mod OneTurn
+pub mod Events
+pub mod Answers
+pub mod RefusalLaws
+pub mod Clients
+pub mod Happening
+pub mod Begin
+pub mod Doing
+pub mod Told
+pub mod SnapshotReads
+pub mod DatedClients
+pub mod DatedCuts
+pub mod DatedEvents
+pub mod DatedReads

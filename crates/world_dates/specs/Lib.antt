@@ -1,0 +1,22 @@
+-- The epochs of attempts where snapshots are made and read, and containers are aggregated.
+pub mod Telling
+pub mod Reading
+pub mod Targets
+pub mod Keeping
+pub mod Making
+pub mod Issuing
+pub mod Hearing
+pub mod Turning
+pub mod Cutting
+pub mod Owning
+pub mod Laws
+pub mod Happening
+pub mod Clients
+pub mod OwnLists
+pub mod Endings
+pub mod Moves
+pub mod Going
+pub mod Answering
+pub mod Heard
+pub mod Events
+pub mod Known

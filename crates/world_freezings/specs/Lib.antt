@@ -1,0 +1,19 @@
+-- What is frozen where, and who has answered a Freeze.
+pub mod Snapping
+pub mod Turns
+pub mod Freezings
+pub mod Collecting
+pub mod Answering
+pub mod Turning
+pub mod Telling
+pub mod Asking
+pub mod First
+pub mod Knowing
+pub mod Keeping
+pub mod ClientEvents
+pub mod Events
+pub mod Laws
+pub mod Seeing
+pub mod InTheEnd
+pub mod Naming
+pub mod Fetching
