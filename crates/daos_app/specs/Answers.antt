@@ -20,7 +20,7 @@ use Rattle.daos_run.specs.Legal.{IsInRealTime, IsLegal}
 use Rattle.daos_status.specs.declared.status.Status.{Status}
 use Rattle.daos_status.specs.declared.status.Status.TheVariants as status
 use Rattle.daos_summary.specs.Summaries.{summary_text}
-use Rattle.world_lone.specs.LoneRuns.{AreIssuedThere}
+use Rattle.world_plain.specs.lone.LoneRuns.{AreIssuedThere}
 
 -- ---- what is written
 

@@ -19,14 +19,14 @@ use Rattle.daos_model.specs.Opening.{Opening, top}
 use Rattle.daos_run.specs.Opens.{AreFirst, IsNew}
 use Rattle.script_runnable.specs.Runnable.{IsRunnable, are_run, is_run, runs}
 use Rattle.run_targets.specs.Ends.{HasStarted, HaveStarted, from-map, given_by, same-lists, target_state}
-use Rattle.run_shows.specs.Shows.{state_of}
+use Rattle.run_laws.specs.shows.Shows.{state_of}
 use Rattle.target_core.specs.Targets.{TargetOf}
 use Rattle.target_parts.specs.Knowing.{IsHeard}
 use Rattle.vos_store.specs.Calls.{State}
 use Rattle.world_base.specs.ClientTurns.{at_first, plan_of}
-use Rattle.world_whole.specs.Begins.{AreEnlisted, IsOpeningPlain, IsSimple, OpensWith, StartsWith, first_client, first_tracker}
-use Rattle.world_ends.specs.Ends.{rules_of}
-use Rattle.world_epochs.specs.Epochs.{is_unsnapped}
+use Rattle.world_plain.specs.whole.Begins.{AreEnlisted, IsOpeningPlain, IsSimple, OpensWith, StartsWith, first_client, first_tracker}
+use Rattle.world_plain.specs.ends.Ends.{rules_of}
+use Rattle.world_letters.specs.epochs.Epochs.{is_unsnapped}
 use Rattle.world_base.specs.Events.{client_plan, commands_or_none}
 
 -- ---- scripts

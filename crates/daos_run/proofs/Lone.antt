@@ -26,7 +26,7 @@ use Rattle.daos_run.specs.Alone.{IsOfLoneClient}
 use Rattle.daos_run.specs.Comes.{ComesFrom}
 use Rattle.run_opening.specs.All.{MayBeFound}
 use Rattle.run_targets.specs.Ends.{IsLegal, IsOutside, TellsOfLoneClient, given_by, some-may_be, some_lasts}
-use Rattle.run_shows.specs.Going.{AreAlike, AreFindable}
+use Rattle.run_laws.specs.shows.Going.{AreAlike, AreFindable}
 use Rattle.script_runnable.specs.Runnable.{IsRunnable, is_run}
 use Rattle.vos_store.specs.Calls.{State}
 

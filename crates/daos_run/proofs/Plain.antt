@@ -37,9 +37,9 @@ use Rattle.std.proofs.lemmas.List.Elements.{All-nil}
 use Rattle.vos_store.specs.Calls.{State}
 use Rattle.vos_plain.specs.Plain.{plain_durable, plain_state}
 use Rattle.vos_plain.specs.declared.store.PlainStore.{PlainStore}
-use Rattle.world_ends.specs.Ends.{durables_of}
-use Rattle.world_whole.specs.Begins.{declared_conts}
-use Rattle.world_whole.specs.Fresh.{fresh-opens}
+use Rattle.world_plain.specs.ends.Ends.{durables_of}
+use Rattle.world_plain.specs.whole.Begins.{declared_conts}
+use Rattle.world_plain.specs.whole.Fresh.{fresh-opens}
 
 -- it tells what it keeps
 abbrev pub told_by : PlainStore → Option Durable

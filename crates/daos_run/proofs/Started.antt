@@ -11,8 +11,8 @@ use Rattle.daos_run.specs.Starts.{AreStarted, StartsOver}
 use Rattle.daos_run.proofs.Places.{at-low}
 use Rattle.daos_run.proofs.Slots.{at-end, length-end, same-pair}
 use Rattle.daos_run.proofs.Taking.{none-taken, one-taken}
-use Rattle.run_shows.specs.Accounts.{AreServed, IsServed}
-use Rattle.run_shows.specs.ListLaws.{length-set}
+use Rattle.run_laws.specs.shows.Accounts.{AreServed, IsServed}
+use Rattle.run_laws.specs.shows.ListLaws.{length-set}
 use Rattle.target_core.specs.Targets.{TargetOf}
 use Rattle.target_parts.specs.Readings.{IsReadOn}
 use Rattle.vos_store.specs.Calls.{State}

@@ -31,13 +31,13 @@ use Rattle.run_opening.specs.All.{AreKept, FromTo as ListsFromTo, MayBeFound}
 use Rattle.run_opening.specs.EnlistLaws.{enlisting-sound}
 use Rattle.run_opening.specs.Opened.{enlisted_family, keeps}
 use Rattle.run_opening.specs.SoundLaws.{opened-sound}
-use Rattle.run_shows.specs.Going.{AreAlike}
-use Rattle.run_shows.specs.Serving.{served-by-runs, served-on}
+use Rattle.run_laws.specs.shows.Going.{AreAlike}
+use Rattle.run_laws.specs.shows.Serving.{served-by-runs, served-on}
 use Rattle.run_starts.specs.Starts.{AreOpened, BeginsAs, begun_family}
 use Rattle.script_runnable.specs.Runnable.{IsRunnable}
 use Rattle.target_core.specs.Targets.{TargetOf}
 use Rattle.vos_store.specs.Calls.{State}
-use Rattle.world_whole.specs.Begins.{OpensWith, declared_conts}
+use Rattle.world_plain.specs.whole.Begins.{OpensWith, declared_conts}
 
 -- ---- what stores keep that tell it
 

@@ -10,11 +10,11 @@ use Rattle.base_types.specs.declared.script.Script.{Script}
 use Rattle.run_targets.specs.Ends.{ComesTo, FollowsOrder, IsOutside, StandsForResolved}
 use Rattle.run_opening.specs.All.{AreKept, FromTo, MayBeFound}
 use Rattle.run_opening.specs.Left.{IsLeftOf}
-use Rattle.run_shows.specs.Accounts.{IsServed}
+use Rattle.run_laws.specs.shows.Accounts.{IsServed}
 use Rattle.run_starts.specs.Starts.{CanOpen, MayOpenAgain, begun_family}
 use Rattle.vos_store.specs.Calls.{State}
 use Rattle.world_base.specs.declared.target.TargetState.{TargetState}
-use Rattle.world_whole.specs.Begins.{declared_conts}
+use Rattle.world_plain.specs.whole.Begins.{declared_conts}
 
 -- a store once it was opened for a run: it had calls, by which it has no fewer free blocks, and as many where it kept no entries
 pub record IsOpenedFrom {S : Type 0} (durable : S → Option Durable) (state : S → State) (old new : S) : Type 0 where

@@ -3,7 +3,7 @@ use Rattle.std.specs.Prelude.{ℕ, ◌≡◌, ◌≤◌, ◌<◌, true, false, L
 use Rattle.daos_model.specs.declared.durable.Durable.{Durable}
 use Rattle.target_core.specs.Targets.{TargetOf}
 use Rattle.target_parts.specs.Readings.{IsReadOn}
-use Rattle.run_shows.specs.Accounts.{IsServed}
+use Rattle.run_laws.specs.shows.Accounts.{IsServed}
 use Rattle.vos_store.specs.Calls.{SetsFuse, State}
 
 -- the target of a number has a store and a clock

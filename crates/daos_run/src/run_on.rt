@@ -8,13 +8,13 @@ ghost use Rattle.daos_run.specs.Slots.{AreFree, AreSet, ClocksAreRead, FusesAreG
 ghost use Rattle.daos_run.specs.Stops.{IsOpeningFault, MayStop};
 ghost use Rattle.model_reports.specs.Lone.{HasOneClient};
 ghost use Rattle.model_reports.specs.Rooms.{FindsRoom, HasRoom};
-ghost use Rattle.run_shows.specs.InTurn.{AllBeginInTurn};
-ghost use Rattle.world_kinds.specs.Fitting.{AllAnswersFit};
+ghost use Rattle.run_laws.specs.shows.InTurn.{AllBeginInTurn};
+ghost use Rattle.world_letters.specs.kinds.Fitting.{AllAnswersFit};
 ghost use Rattle.run_targets.specs.Ends.{IsReportOfLines, TellsOfLoneClient};
 ghost use Rattle.run_opening.specs.All.{AreKept, MayBeFound};
 ghost use Rattle.run_starts.specs.Starts.{CanOpen};
 ghost use Rattle.script_runnable.specs.Runnable.{IsRunnable};
-ghost use Rattle.world_whole.specs.Begins.{declared_conts};
+ghost use Rattle.world_plain.specs.whole.Begins.{declared_conts};
 
 use crate::opening::{clients_of, open_parts};
 use crate::parts::Parts;

@@ -17,7 +17,7 @@ use Rattle.daos_model.specs.Finals.{opening_of}
 use Rattle.daos_model.specs.FormLaws.{length-map}
 use Rattle.daos_model.specs.Opening.{is_kept, kept}
 use Rattle.daos_model.specs.Sound.{IsPlaced, Sound}
-use Rattle.world_ends.specs.Settled.{AreSettled, IsSettled, OpenTogether, floors-rise, lease-within, open-together}
+use Rattle.world_plain.specs.ends.Settled.{AreSettled, IsSettled, OpenTogether, floors-rise, lease-within, open-together}
 use Rattle.run_opening.specs.Laws.{RunsBeginOpened}
 use Rattle.run_opening.specs.Opened.{AreInForm, is_at_one_of, lasting_snaps, opened, opened_family}
 use Rattle.run_opening.specs.SoundLaws.{at-mapped, opened-form, opened-settled, opened-sound}

@@ -11,7 +11,7 @@ use Rattle.daos_model.specs.Family.{created_snaps, greatest_lease, stand}
 use Rattle.daos_model.specs.Finals.{opening_of}
 use Rattle.daos_model.specs.Opening.{kept}
 use Rattle.daos_model.specs.Sound.{Sound}
-use Rattle.world_ends.specs.Settled.{OpenTogether}
+use Rattle.world_plain.specs.ends.Settled.{OpenTogether}
 use Rattle.run_opening.specs.Opened.{AreInForm, enlisted_family, lasting_snaps, opened_family}
 
 -- ---- what an opening leaves

@@ -4,11 +4,11 @@ use Rattle.std.specs.Option.{ForSome}
 use Rattle.std.proofs.Common.{◌∙◌, ap, subst, sym}
 use Rattle.daos_model.specs.declared.durable.Durable.{Durable}
 use Rattle.model_laws.specs.Lists.{at-within}
-use Rattle.run_shows.specs.Openings.{AfterOpening, HasFuse, IsArmed}
-use Rattle.run_shows.specs.Stages.{IsPlace, StageNow}
-use Rattle.run_shows.specs.Steps.{InOpening, NotOpened, OnceOpened, Opened, OpeningEnds, TargetBroke, TargetReopened, WasReopened}
-use Rattle.run_shows.specs.Reopening.{set-twice}
-use Rattle.run_shows.specs.Turned.{AfterFailure, followed, swept_stage, with_between}
+use Rattle.run_laws.specs.shows.Openings.{AfterOpening, HasFuse, IsArmed}
+use Rattle.run_laws.specs.shows.Stages.{IsPlace, StageNow}
+use Rattle.run_laws.specs.shows.Steps.{InOpening, NotOpened, OnceOpened, Opened, OpeningEnds, TargetBroke, TargetReopened, WasReopened}
+use Rattle.run_laws.specs.shows.Reopening.{set-twice}
+use Rattle.run_laws.specs.shows.Turned.{AfterFailure, followed, swept_stage, with_between}
 use Rattle.run_watch.specs.Watches.{WatchNow, fuse_set, next_fuse, opened_again, opening_tried}
 use Rattle.run_stage.proofs.Stopping.{watched}
 use Rattle.target_core.specs.Targets.{OpensAs, TargetOf}
@@ -20,8 +20,8 @@ use Rattle.vos_store.specs.Refusals.{says}
 use Rattle.world_base.specs.declared.did.Did.{Did}
 use Rattle.world_base.specs.declared.target.Life.TheVariants.{Stopped}
 use Rattle.world_base.specs.Letters.{target}
-use Rattle.world_kinds.specs.PostLaws.{CarryNone}
-use Rattle.world_posts.specs.Forms.{Follows}
+use Rattle.world_letters.specs.kinds.PostLaws.{CarryNone}
+use Rattle.world_contents.specs.posts.Forms.{Follows}
 
 -- what holds where a call fails holds where it may fail
 pub on-err : {T E : Type 0} (P : Type 0) (result : Result T E) → P → OnErr result P

@@ -4,8 +4,8 @@ use Rattle.std.proofs.Common.{◌∙◌, ap, subst}
 use Rattle.base_types.specs.declared.epoch.Epoch.{Epoch}
 use Rattle.base_types.specs.declared.id.AttemptId.{AttemptId}
 use Rattle.base_types.specs.declared.report.Line.{Line}
-use Rattle.run_shows.specs.Stages.{StageNow}
-use Rattle.run_shows.specs.Turned.{AfterCut, AfterFailure, AfterStop, ByForeign, ByStop, Failed, given_up_stage, stopped_stage, swept_stage}
+use Rattle.run_laws.specs.shows.Stages.{StageNow}
+use Rattle.run_laws.specs.shows.Turned.{AfterCut, AfterFailure, AfterStop, ByForeign, ByStop, Failed, given_up_stage, stopped_stage, swept_stage}
 use Rattle.run_watch.specs.Watches.{FailsAgain, WatchNow}
 use Rattle.target_parts.specs.declared.stop.TargetStop.{TargetStop}
 use Rattle.target_parts.specs.declared.stop.TargetStop.TheVariants as stops

@@ -8,10 +8,10 @@ use Rattle.base_types.specs.declared.report.Line.{Line}
 use Rattle.client_core.specs.Clients.{ClientNow}
 use Rattle.daos_model.specs.declared.durable.Durable.{Durable}
 use Rattle.run_base.specs.Letters.{BetweenNow, IsPicked}
-use Rattle.run_shows.specs.Kinds.{TurnsOnce}
-use Rattle.run_shows.specs.Stages.{IsPlace, StageNow}
-use Rattle.run_shows.specs.Steps.{ClientWorks, Cut, HasWorked, HeardOne, InWork, TargetBroke, TargetWorked, Whole, WorkEnds}
-use Rattle.run_shows.specs.Turned.{AfterCut, IsTurned, followed, swept_stage, with_between, with_target_at}
+use Rattle.run_laws.specs.shows.Kinds.{TurnsOnce}
+use Rattle.run_laws.specs.shows.Stages.{IsPlace, StageNow}
+use Rattle.run_laws.specs.shows.Steps.{ClientWorks, Cut, HasWorked, HeardOne, InWork, TargetBroke, TargetWorked, Whole, WorkEnds}
+use Rattle.run_laws.specs.shows.Turned.{AfterCut, IsTurned, followed, swept_stage, with_between, with_target_at}
 use Rattle.target_core.specs.Targets.{TargetOf}
 use Rattle.target_parts.specs.Parts.{Runs}
 use Rattle.target_parts.specs.Readings.{IsReadOn}
@@ -23,7 +23,7 @@ use Rattle.world_base.specs.declared.letter.Letter.{Letter}
 use Rattle.world_base.specs.declared.target.Life.TheVariants.{Running}
 use Rattle.world_base.specs.ClientTurns.{HearTurn}
 use Rattle.world_base.specs.Letters.{client, target}
-use Rattle.world_posts.specs.Forms.{PostsInForm}
+use Rattle.world_contents.specs.posts.Forms.{PostsInForm}
 
 abbrev between : List Letter → List Letter → List (AttemptId × Epoch) → List Line → BetweenNow
 between messages asked issued lines = record { messages = messages; asked = asked; issued = issued; lines = lines }

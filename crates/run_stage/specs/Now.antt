@@ -1,5 +1,5 @@
 -- The actors of a run as their contracts see them.
-use Rattle.run_shows.specs.Stages.{StageNow}
+use Rattle.run_laws.specs.shows.Stages.{StageNow}
 use Rattle.run_stage.specs.declared.stage.Stage.{Stage}
 
 -- the clients, the targets, how these stand, and what lies between all of them

@@ -1,10 +1,10 @@
 // A target opens again.
 ghost use Rattle.std.specs.Prelude.{◌≡◌, ◌≤◌, ◌<◌, ℕ, Bool, length, OnErr, OnOk, Some, slice_get, slice_set};
-ghost use Rattle.run_shows.specs.Accounts.{AreServed};
-ghost use Rattle.run_shows.specs.CanGo.{CanTurn};
-ghost use Rattle.run_shows.specs.Openings.{AfterOpening, HasFuse, IsArmed};
-ghost use Rattle.run_shows.specs.Steps.{TargetBroke, TargetReopened};
-ghost use Rattle.run_shows.specs.Turned.{AfterFailure};
+ghost use Rattle.run_laws.specs.shows.Accounts.{AreServed};
+ghost use Rattle.run_laws.specs.shows.CanGo.{CanTurn};
+ghost use Rattle.run_laws.specs.shows.Openings.{AfterOpening, HasFuse, IsArmed};
+ghost use Rattle.run_laws.specs.shows.Steps.{TargetBroke, TargetReopened};
+ghost use Rattle.run_laws.specs.shows.Turned.{AfterFailure};
 ghost use Rattle.run_stage.specs.Now.{stage_now};
 ghost use Rattle.run_watch.specs.Watches.{next_fuse};
 ghost use Rattle.target_core.specs.Targets.{TargetOf};

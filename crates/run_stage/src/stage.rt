@@ -1,6 +1,6 @@
 // The actors of a run, and what lies between them.
 ghost use Rattle.std.specs.Prelude.{◌≡◌, ◌≤◌, length, OnOk};
-ghost use Rattle.run_shows.specs.Turned.{followed, swept_stage, with_between};
+ghost use Rattle.run_laws.specs.shows.Turned.{followed, swept_stage, with_between};
 ghost use Rattle.run_stage.specs.Now.{stage_now};
 
 use base_messages::actor::ActorId;

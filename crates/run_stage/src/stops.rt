@@ -1,6 +1,6 @@
 // A target stops, or is given up.
 ghost use Rattle.std.specs.Prelude.{◌≡◌, ◌≤◌, ◌<◌, length, OnOk, Some, slice_get};
-ghost use Rattle.run_shows.specs.Turned.{AfterCut, AfterStop, given_up_stage, stopped_stage, swept_stage};
+ghost use Rattle.run_laws.specs.shows.Turned.{AfterCut, AfterStop, given_up_stage, stopped_stage, swept_stage};
 ghost use Rattle.run_stage.specs.Now.{stage_now};
 ghost use Rattle.target_core.specs.Targets.{TargetOf};
 

@@ -1,9 +1,9 @@
 // The turns of clients and of targets.
 ghost use Rattle.std.specs.Prelude.{◌≡◌, ◌<◌, ◌≤◌, Bool, max, length, slice_get, IfOk, OnErr, OnOk, Some};
 ghost use Rattle.run_base.specs.Picks.{count_to, heard_awake};
-ghost use Rattle.run_shows.specs.Accounts.{AreServed};
-ghost use Rattle.run_shows.specs.CanGo.{CanTurn};
-ghost use Rattle.run_shows.specs.Steps.{ClientTurned, ClientWorks, TargetBroke, TargetTurned};
+ghost use Rattle.run_laws.specs.shows.Accounts.{AreServed};
+ghost use Rattle.run_laws.specs.shows.CanGo.{CanTurn};
+ghost use Rattle.run_laws.specs.shows.Steps.{ClientTurned, ClientWorks, TargetBroke, TargetTurned};
 ghost use Rattle.run_stage.specs.Now.{stage_now};
 ghost use Rattle.target_core.specs.Targets.{TargetOf};
 ghost use Rattle.world_base.specs.declared.target.Life.{Life};

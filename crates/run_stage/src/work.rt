@@ -2,11 +2,11 @@
 ghost use Rattle.std.specs.Prelude.{◌≡◌, ◌<◌, ◌≤◌, Bool, List, max, true, false, length, slice_get, IfOk, OnErr, OnOk, Some};
 ghost use Rattle.run_base.specs.Letters.{IsPicked};
 ghost use Rattle.run_base.specs.Picks.{count_to};
-ghost use Rattle.run_shows.specs.Accounts.{AreServed};
-ghost use Rattle.run_shows.specs.CanGo.{CanTurn, IsHearable};
-ghost use Rattle.run_shows.specs.Kinds.{TurnsOnce};
-ghost use Rattle.run_shows.specs.Steps.{TargetBroke, TargetWorked};
-ghost use Rattle.run_shows.specs.Turned.{IsTurned};
+ghost use Rattle.run_laws.specs.shows.Accounts.{AreServed};
+ghost use Rattle.run_laws.specs.shows.CanGo.{CanTurn, IsHearable};
+ghost use Rattle.run_laws.specs.shows.Kinds.{TurnsOnce};
+ghost use Rattle.run_laws.specs.shows.Steps.{TargetBroke, TargetWorked};
+ghost use Rattle.run_laws.specs.shows.Turned.{IsTurned};
 ghost use Rattle.run_stage.specs.Now.{stage_now};
 ghost use Rattle.target_core.specs.Targets.{TargetOf};
 ghost use Rattle.target_parts.specs.Parts.{Runs};
@@ -16,7 +16,7 @@ ghost use Rattle.vos_store.specs.Refusals.{says};
 ghost use Rattle.world_base.specs.declared.letter.Letter.{Letter};
 ghost use Rattle.world_base.specs.declared.target.Life.{Life};
 ghost use Rattle.world_base.specs.Letters.{target};
-ghost use Rattle.world_posts.specs.Forms.{PostsInForm};
+ghost use Rattle.world_contents.specs.posts.Forms.{PostsInForm};
 
 use crate::stage::Stage;
 use crate::turns::target_id;

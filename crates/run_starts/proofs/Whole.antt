@@ -32,8 +32,8 @@ use Rattle.target_parts.specs.Parts.{Runs}
 use Rattle.target_parts.specs.Running.{runs_as, runs_first, runs_on}
 use Rattle.vos_store.specs.Calls.{State}
 use Rattle.vos_store.specs.Refusals.{always_stop, says}
-use Rattle.world_ends.specs.Settled.{OpenTogether}
-use Rattle.world_whole.specs.Begins.{IsOpeningPlain, OpensWith, declared_conts}
+use Rattle.world_plain.specs.ends.Settled.{OpenTogether}
+use Rattle.world_plain.specs.whole.Begins.{IsOpeningPlain, OpensWith, declared_conts}
 use Rattle.run_starts.specs.declared.stop.StartStop.{StartStop}
 use Rattle.run_starts.specs.Calls.{AreCovered, RunAll, WhyNotOpened, WithContainers}
 use Rattle.run_starts.specs.Starts.{AreOpened, BeginsAs, CanOpen, IsWhole, MayOpenAgain, begun_family}

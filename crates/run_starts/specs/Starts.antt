@@ -11,7 +11,7 @@ use Rattle.run_opening.specs.All.{AreKept}
 use Rattle.run_opening.specs.Laws.{AreFew}
 use Rattle.run_opening.specs.Opened.{enlisted_family, lasting_snaps, opened_family}
 use Rattle.vos_store.specs.Calls.{State}
-use Rattle.world_whole.specs.Begins.{AreEnlisted, IsOpeningPlain, OpensWith, declared_conts}
+use Rattle.world_plain.specs.whole.Begins.{AreEnlisted, IsOpeningPlain, OpensWith, declared_conts}
 
 -- what stores keep that are sound together, of which no snapshot lasts after those that a script drops
 pub record CanOpen (s : Script) (B : List Durable) : Type 0 where

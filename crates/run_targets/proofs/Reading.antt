@@ -8,7 +8,7 @@ use Rattle.base_types.specs.declared.report.Line.{Line}
 use Rattle.base_types.specs.declared.report.Line.TheVariants as line
 use Rattle.daos_model.specs.Stops.{down_targets, least, least_with}
 use Rattle.model_laws.specs.Lists.{place-of}
-use Rattle.run_ends.specs.Reports.{AreTyped, HasTypedNumbers}
+use Rattle.run_laws.specs.ends.Reports.{AreTyped, HasTypedNumbers}
 
 -- the least of what was found before and of what is found later
 abbrev pub with_first : Option ℕ → Option ℕ → Option ℕ

@@ -13,31 +13,31 @@ use Rattle.client_core.specs.Clients.{ClientNow}
 use Rattle.daos_model.specs.Opening.{Given, Opening}
 use Rattle.daos_model.specs.declared.durable.Durable.{Durable}
 use Rattle.run_base.specs.Letters.{BetweenNow}
-use Rattle.run_ends.specs.Armed.{armed-accounted, armed-first, before-fuse, fuses-serve, fuses-started, fuses-tell, states_of, told-fuse}
-use Rattle.run_ends.specs.Arming.{AreArmed, AreUnfused}
-use Rattle.run_ends.specs.Begun.{IsFirstWatch, can-go, first_stage, first_world, is-begun, nothing, shows-first}
-use Rattle.run_ends.specs.Comes.{BreaksOffSo, ComesTo, report_with}
-use Rattle.run_ends.specs.Keeping.{all-tell, breaks-off}
-use Rattle.run_ends.specs.Ending.{comes-to}
-use Rattle.run_ends.specs.Starts.{AllTell, HaveStarted, given_by, stores_of}
-use Rattle.run_ends.specs.Reports.{AreTyped}
-use Rattle.run_shows.specs.Kinds.{AnswersGoOn}
-use Rattle.run_shows.specs.KindsLaws.{answers-first}
+use Rattle.run_laws.specs.ends.Armed.{armed-accounted, armed-first, before-fuse, fuses-serve, fuses-started, fuses-tell, states_of, told-fuse}
+use Rattle.run_laws.specs.ends.Arming.{AreArmed, AreUnfused}
+use Rattle.run_laws.specs.ends.Begun.{IsFirstWatch, can-go, first_stage, first_world, is-begun, nothing, shows-first}
+use Rattle.run_laws.specs.ends.Comes.{BreaksOffSo, ComesTo, report_with}
+use Rattle.run_laws.specs.ends.Keeping.{all-tell, breaks-off}
+use Rattle.run_laws.specs.ends.Ending.{comes-to}
+use Rattle.run_laws.specs.ends.Starts.{AllTell, HaveStarted, given_by, stores_of}
+use Rattle.run_laws.specs.ends.Reports.{AreTyped}
+use Rattle.run_laws.specs.shows.Kinds.{AnswersGoOn}
+use Rattle.run_laws.specs.shows.KindsLaws.{answers-first}
 use Rattle.run_targets.proofs.Telling.{first, told-first}
-use Rattle.run_shows.specs.Accounts.{AreAccounted, AreServed}
-use Rattle.run_shows.specs.CanGo.{CanGo}
-use Rattle.run_shows.specs.Going.{AreAlike, AreFindable, AreSteady}
-use Rattle.run_shows.specs.Serving.{served-then}
-use Rattle.run_shows.specs.Shows.{Shows}
-use Rattle.run_shows.specs.Stages.{StageNow}
-use Rattle.run_ends.specs.Turns.{AllCanReopen, Breaks, HasRunWith, broke-between, left_of}
+use Rattle.run_laws.specs.shows.Accounts.{AreAccounted, AreServed}
+use Rattle.run_laws.specs.shows.CanGo.{CanGo}
+use Rattle.run_laws.specs.shows.Going.{AreAlike, AreFindable, AreSteady}
+use Rattle.run_laws.specs.shows.Serving.{served-then}
+use Rattle.run_laws.specs.shows.Shows.{Shows}
+use Rattle.run_laws.specs.shows.Stages.{StageNow}
+use Rattle.run_laws.specs.ends.Turns.{AllCanReopen, Breaks, HasRunWith, broke-between, left_of}
 use Rattle.run_watch.specs.Watches.{WatchNow, first_watch}
 use Rattle.target_core.specs.Targets.{TargetOf}
 use Rattle.vos_store.specs.Calls.{State}
 use Rattle.world_base.specs.declared.world.World.{World}
 use Rattle.world_base.specs.Events.{Rules}
-use Rattle.world_ends.specs.Ends.{rules_of}
-use Rattle.world_whole.specs.Begins.{IsBegun, IsSimple}
+use Rattle.world_plain.specs.ends.Ends.{rules_of}
+use Rattle.world_plain.specs.whole.Begins.{IsBegun, IsSimple}
 
 nothing-is : (b : BetweenNow) → b.messages ≡ [] → b.asked ≡ [] → b.issued ≡ [] → b.lines ≡ [] → b ≡ nothing
 nothing-is b messages asked issued lines =

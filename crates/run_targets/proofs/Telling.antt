@@ -8,19 +8,19 @@ use Rattle.client_core.specs.Clients.{ClientNow}
 use Rattle.daos_model.specs.FormLaws.{length-map}
 use Rattle.daos_model.specs.Opening.{Given}
 use Rattle.daos_model.specs.declared.durable.Durable.{Durable}
-use Rattle.run_ends.specs.Comes.{report_with}
-use Rattle.run_ends.specs.Places.{from-map}
-use Rattle.run_ends.specs.Starts.{AreFirst, HaveStarted}
-use Rattle.run_shows.specs.InTurn.{AllBeginInTurn, TellInTurn}
-use Rattle.run_shows.specs.InTurnLaws.{tells-first}
-use Rattle.run_shows.specs.ListLaws.{map-get}
-use Rattle.run_shows.specs.Shows.{state_of}
-use Rattle.run_shows.specs.Stages.{StageNow}
+use Rattle.run_laws.specs.ends.Comes.{report_with}
+use Rattle.run_laws.specs.ends.Places.{from-map}
+use Rattle.run_laws.specs.ends.Starts.{AreFirst, HaveStarted}
+use Rattle.run_laws.specs.shows.InTurn.{AllBeginInTurn, TellInTurn}
+use Rattle.run_laws.specs.shows.InTurnLaws.{tells-first}
+use Rattle.run_laws.specs.shows.ListLaws.{map-get}
+use Rattle.run_laws.specs.shows.Shows.{state_of}
+use Rattle.run_laws.specs.shows.Stages.{StageNow}
 use Rattle.target_core.specs.Targets.{TargetOf}
 use Rattle.vos_store.specs.Calls.{State}
-use Rattle.world_ends.specs.Ends.{rules_of}
-use Rattle.world_kinds.specs.Fitting.{AllAnswersFit}
-use Rattle.world_whole.specs.Begins.{first_client}
+use Rattle.world_plain.specs.ends.Ends.{rules_of}
+use Rattle.world_letters.specs.kinds.Fitting.{AllAnswersFit}
+use Rattle.world_plain.specs.whole.Begins.{first_client}
 
 module _ {S C : Type 0} (durable : S → Option Durable) (state : S → State) (g : Given) (a : StageNow S C) (xs : List (TargetOf S C)) (started : HaveStarted durable state g a.clients xs) where
   pub first : (n : ℕ) (c : ClientNow) → slice_get a.clients n ≡ Some c → (c.state.place ≡ 0) × (c.state.command ≡ 0) × (c.state.present ≡ None)

@@ -1,7 +1,7 @@
 // The fuses of targets, before a run and after it.
 ghost use Rattle.std.specs.Prelude.{◌≡◌, ◌≤◌, ℕ, length, slice_get, Some, true, false};
 ghost use Rattle.base_types.specs.declared.script.StopDecl.{StopDecl};
-ghost use Rattle.run_ends.specs.Arming.{AreArmed, AreUnfused};
+ghost use Rattle.run_laws.specs.ends.Arming.{AreArmed, AreUnfused};
 ghost use Rattle.run_watch.specs.Watches.{WatchNow};
 
 use base_outside::clock::Clock;

@@ -1,8 +1,8 @@
 // The report of a run's lines.
 ghost use Rattle.std.specs.Prelude.{◌≡◌, Some};
 ghost use Rattle.daos_model.specs.Stops.{down_targets, least, least_with};
-ghost use Rattle.run_ends.specs.Comes.{report_with};
-ghost use Rattle.run_ends.specs.Reports.{AreTyped, HasTypedNumbers};
+ghost use Rattle.run_laws.specs.ends.Comes.{report_with};
+ghost use Rattle.run_laws.specs.ends.Reports.{AreTyped, HasTypedNumbers};
 
 use base_types::epoch::TargetId;
 use base_types::report::{Line, Lines, Report};

@@ -1,11 +1,11 @@
 // Clients and targets run a script.
 ghost use Rattle.std.specs.Prelude.{◌≡◌, ◌≤◌, ◌<◌, ℕ, IfErr, IfOk, length, slice_get, Some, true, false};
 ghost use Rattle.daos_model.specs.Opening.{Opening};
-ghost use Rattle.run_ends.specs.Comes.{BreaksOffSo, ComesTo, IsReportOfLines};
-ghost use Rattle.run_ends.specs.Starts.{AllTell, HaveStarted, given_by, stores_of};
-ghost use Rattle.run_shows.specs.Accounts.{AreServed};
-ghost use Rattle.run_shows.specs.InTurn.{AllBeginInTurn};
-ghost use Rattle.world_kinds.specs.Fitting.{AllAnswersFit};
+ghost use Rattle.run_laws.specs.ends.Comes.{BreaksOffSo, ComesTo, IsReportOfLines};
+ghost use Rattle.run_laws.specs.ends.Starts.{AllTell, HaveStarted, given_by, stores_of};
+ghost use Rattle.run_laws.specs.shows.Accounts.{AreServed};
+ghost use Rattle.run_laws.specs.shows.InTurn.{AllBeginInTurn};
+ghost use Rattle.world_letters.specs.kinds.Fitting.{AllAnswersFit};
 ghost use Rattle.target_core.specs.Targets.{TargetOf};
 
 use crate::fuses::{arm, disarm};

@@ -7,8 +7,8 @@ use Rattle.base_messages.specs.declared.message.Message.TheVariants.{Ask, Commit
 use Rattle.dtx_base.specs.declared.leading.LeaderMemory.{LeaderMemory}
 use Rattle.target_parts.specs.declared.stop.TargetStop.{TargetStop}
 use Rattle.world_base.specs.declared.did.Did.{Did}
-use Rattle.world_posts.specs.Forms.{PostsInForm, TargetPosts}
-use Rattle.world_posts.specs.Posting.{waits-on}
+use Rattle.world_contents.specs.posts.Forms.{PostsInForm, TargetPosts}
+use Rattle.world_contents.specs.posts.Posting.{waits-on}
 use Rattle.target_core.specs.Targets.{is_after_stops, is_of_client, is_of_command}
 
 -- an answer after which the same clients wait

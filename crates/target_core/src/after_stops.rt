@@ -1,8 +1,8 @@
 // A target hears what comes of stops.
 ghost use Rattle.std.specs.Prelude.{◌≡◌, ℕ, IfOk, Some, false, []};
-ghost use Rattle.world_kinds.specs.Loads.{AnswersOnce};
+ghost use Rattle.world_letters.specs.kinds.Loads.{AnswersOnce};
 ghost use Rattle.daos_model.specs.declared.durable.Durable.{Durable};
-ghost use Rattle.world_posts.specs.Forms.{PostsInForm};
+ghost use Rattle.world_contents.specs.posts.Forms.{PostsInForm};
 ghost use Rattle.target_parts.specs.Knowing.{memory_of};
 ghost use Rattle.target_parts.specs.Standing.{IsTarget, TurnRuns};
 ghost use Rattle.target_core.specs.Targets.{HasFormAfterStops, HearsOrStops, is_after_stops, is_of_client};

@@ -1,9 +1,9 @@
 // A target hears a message.
 ghost use Rattle.std.specs.Prelude.{◌≡◌, ◌≤◌, ℕ, IfOk, IfSome, Some, true, false, [], ◌∷◌};
-ghost use Rattle.world_kinds.specs.Loads.{AnswersOnce};
+ghost use Rattle.world_letters.specs.kinds.Loads.{AnswersOnce};
 ghost use Rattle.std.specs.Option.{ForSome};
 ghost use Rattle.daos_model.specs.declared.durable.Durable.{Durable};
-ghost use Rattle.world_posts.specs.Forms.{PostsInForm};
+ghost use Rattle.world_contents.specs.posts.Forms.{PostsInForm};
 ghost use Rattle.target_parts.specs.Knowing.{memory_of};
 ghost use Rattle.target_core.specs.Targets.{CanHear, HasForm, HearsOrStops, IsInForm, has_epoch, is_of_client, is_of_command};
 ghost use Rattle.target_parts.specs.Standing.{IsTarget, TurnRuns};

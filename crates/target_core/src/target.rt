@@ -1,7 +1,7 @@
 // A target of a run.
 ghost use Rattle.std.specs.Prelude.{◌≡◌, ◌≤◌, ◌<◌, ◌+◌, ◌^◌, ℕ, [], IfOk, IfErr, IfSome, IsSome, Some, is_ok, true, false, ◌∷◌};
-ghost use Rattle.world_kinds.specs.PostLaws.{CarryNone};
-ghost use Rattle.world_kinds.specs.Loads.{AnswersOnce};
+ghost use Rattle.world_letters.specs.kinds.PostLaws.{CarryNone};
+ghost use Rattle.world_letters.specs.kinds.Loads.{AnswersOnce};
 ghost use Rattle.std.specs.Option.{ForSome};
 ghost use Rattle.daos_model.specs.declared.durable.Durable.{Durable};
 ghost use Rattle.dtx_base.specs.Leading.{first_memory};
@@ -9,7 +9,7 @@ ghost use Rattle.dtx_base.specs.Joining.{first_member};
 ghost use Rattle.vos_store.specs.Calls.{SetsFuse};
 ghost use Rattle.vos_store.specs.Refusals.{says};
 ghost use Rattle.world_base.specs.Idle.{has_idle};
-ghost use Rattle.world_posts.specs.Forms.{Follows, PostsInForm};
+ghost use Rattle.world_contents.specs.posts.Forms.{Follows, PostsInForm};
 ghost use Rattle.target_parts.specs.Knowing.{IsHeard};
 ghost use Rattle.target_parts.specs.Parts.{Runs};
 ghost use Rattle.target_parts.specs.Readings.{IsReadUpTo, most_readings};

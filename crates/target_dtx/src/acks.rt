@@ -1,6 +1,6 @@
 // A leader hears what members answer.
 ghost use Rattle.std.specs.Prelude.{◌≡◌, ◌==◌, [], if◌then◌else◌, IfOk, OnErr, OnOk, Some, true, false};
-ghost use Rattle.world_kinds.specs.Loads.{AnswersOnce};
+ghost use Rattle.world_letters.specs.kinds.Loads.{AnswersOnce};
 ghost use Rattle.std.specs.Option.{ForSome};
 ghost use Rattle.base_types.specs.declared.entry.Settle.TheVariants as step;
 ghost use Rattle.daos_model.specs.declared.durable.Durable.{Durable};
@@ -13,7 +13,7 @@ ghost use Rattle.world_base.specs.Acks as ack;
 ghost use Rattle.world_base.specs.Changes.{Settles};
 ghost use Rattle.world_base.specs.Roles.{leader_at};
 ghost use Rattle.world_base.specs.Turns.{Whole};
-ghost use Rattle.world_posts.specs.Forms.{PostsInForm};
+ghost use Rattle.world_contents.specs.posts.Forms.{PostsInForm};
 ghost use Rattle.target_parts.specs.Keeping.{MadeIf};
 ghost use Rattle.target_parts.specs.Knowing.{IsApart, LeadsWell, memory_of};
 ghost use Rattle.target_parts.specs.Parts.{kept};

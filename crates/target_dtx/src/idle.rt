@@ -1,6 +1,6 @@
 // A target does its idle work.
 ghost use Rattle.std.specs.Prelude.{◌≡◌, ℕ, [], IfOk, IfErr, OnOk, OnErr, Some, false};
-ghost use Rattle.world_kinds.specs.Loads.{AnswersOnce};
+ghost use Rattle.world_letters.specs.kinds.Loads.{AnswersOnce};
 ghost use Rattle.std.specs.Option.{ForSome};
 ghost use Rattle.daos_model.specs.declared.durable.Durable.{Durable};
 ghost use Rattle.dtx_base.specs.Joining.{member_step};
@@ -9,7 +9,7 @@ ghost use Rattle.dtx_table.specs.Seats.{came, leader_of};
 ghost use Rattle.vos_store.specs.Refusals.{always_stop};
 ghost use Rattle.world_base.specs.Idle.{IdleEnds, IdleNext, has_idle, idle_memory, idle_told};
 ghost use Rattle.world_base.specs.Turns.{Whole};
-ghost use Rattle.world_posts.specs.Forms.{PostsInForm, TargetPosts};
+ghost use Rattle.world_contents.specs.posts.Forms.{PostsInForm, TargetPosts};
 ghost use Rattle.target_parts.specs.Knowing.{LeadsWell, memory_of};
 ghost use Rattle.target_parts.specs.Parts.{kept};
 ghost use Rattle.target_parts.specs.Stops.{IsSilent, Turn, never, stop_memory};

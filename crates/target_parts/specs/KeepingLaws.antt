@@ -33,7 +33,7 @@ use Rattle.world_base.specs.declared.target.TargetMemory.{TargetMemory}
 use Rattle.world_base.specs.declared.target.TargetPlan.{TargetPlan}
 use Rattle.vos_store.specs.Conditions.{CanSettle}
 use Rattle.target_parts.specs.Knowing.{AreAsksHere, AreRowsOpen, IsApart, IsAskHere, IsHeard, IsOpenHere, LeadsWell}
-use Rattle.world_reads.specs.ChangeLaws.{other-entry}
+use Rattle.world_contents.specs.reads.ChangeLaws.{other-entry}
 use Rattle.world_base.specs.ChangeLaws.{entries-leased, lease-settled}
 use Rattle.world_base.specs.DoubtLaws.{IsLedElsewhere}
 use Rattle.world_base.specs.EntryLaws.{entry-prepared_other}

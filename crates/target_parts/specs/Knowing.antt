@@ -15,7 +15,7 @@ use Rattle.dtx_base.specs.declared.member.MemberMemory.{MemberMemory}
 use Rattle.dtx_base.specs.declared.member.Parked.{Parked}
 use Rattle.world_base.specs.declared.target.TargetMemory.{TargetMemory}
 use Rattle.world_base.specs.declared.target.TargetPlan.{TargetPlan}
-pub use Rattle.world_posts.specs.Forms.{IsReadAsked}
+pub use Rattle.world_contents.specs.posts.Forms.{IsReadAsked}
 use Rattle.target_parts.specs.declared.knows.Knows.{Knows}
 
 -- what a target remembers; so far it makes no snapshot and no aggregation

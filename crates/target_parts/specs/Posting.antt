@@ -15,8 +15,8 @@ use Rattle.world_base.specs.declared.did.Did.{Did}
 use Rattle.world_base.specs.declared.target.TargetMemory.{TargetMemory}
 use Rattle.world_base.specs.Requests.{says}
 use Rattle.world_base.specs.Roles.{told_by, told_of, told_of_all}
-use Rattle.world_posts.specs.Forms.{PostsInForm, TargetPosts, is_told}
-use Rattle.world_posts.specs.Posting.{one-posted, to-client, waits-on}
+use Rattle.world_contents.specs.posts.Forms.{PostsInForm, TargetPosts, is_told}
+use Rattle.world_contents.specs.posts.Posting.{one-posted, to-client, waits-on}
 use Rattle.target_parts.specs.declared.stop.TargetStop.{TargetStop}
 
 pub later-posts : (targets : ℕ) (old mid new : LeaderMemory) (result : Result Did TargetStop) → mid ≡ old → IfOk result (λ did. PostsInForm targets mid new did.posts) → IfOk result (λ did. PostsInForm targets old new did.posts)

@@ -24,8 +24,8 @@ use Rattle.world_base.specs.Changes.{Kept}
 use Rattle.world_base.specs.Requests.{sends}
 use Rattle.world_base.specs.Roles.{leader_at}
 use Rattle.world_base.specs.Statuses.{ask_left}
-use Rattle.world_posts.specs.Forms.{PostsInForm}
-use Rattle.world_posts.specs.Posting.{none-posted, one-posted, to-client, waits-on}
+use Rattle.world_contents.specs.posts.Forms.{PostsInForm}
+use Rattle.world_contents.specs.posts.Posting.{none-posted, one-posted, to-client, waits-on}
 use Rattle.target_parts.specs.Knowing.{AreRowsOpen}
 use Rattle.target_parts.specs.RowKeeping.{rows-mapped}
 

@@ -25,9 +25,9 @@ use Rattle.world_base.specs.Changes.{Kept}
 use Rattle.world_base.specs.Requests.{sends}
 use Rattle.world_base.specs.Roles.{joins_on, leader_at, leads_on, member_at}
 use Rattle.world_base.specs.Statuses.{reset_joins, reset_leads, reset_left}
-use Rattle.world_posts.specs.AfterStops.{reset-members-post-in-form, resets-post-in-form}
-use Rattle.world_posts.specs.Forms.{PostsInForm, TargetPosts}
-use Rattle.world_posts.specs.Posting.{and-more, posted-by}
+use Rattle.world_contents.specs.posts.AfterStops.{reset-members-post-in-form, resets-post-in-form}
+use Rattle.world_contents.specs.posts.Forms.{PostsInForm, TargetPosts}
+use Rattle.world_contents.specs.posts.Posting.{and-more, posted-by}
 use Rattle.target_parts.specs.declared.knows.Knows.{Knows}
 use Rattle.target_parts.specs.Knowing.{AreRowsOpen, IsHeard, IsOwn, LeadsWell, memory_of}
 use Rattle.target_parts.specs.RowKeeping.{rows-mapped, rows-named}

@@ -3,7 +3,7 @@ ghost use Rattle.std.specs.Prelude.{◌≡◌, ◌<◌, Some, true, false};
 ghost use Rattle.daos_model.specs.declared.durable.Durable.{Durable};
 ghost use Rattle.snap_core.specs.Snaps.{remembered};
 ghost use Rattle.vos_store.specs.Refusals.{says};
-ghost use Rattle.world_posts.specs.Forms.{is_collecting};
+ghost use Rattle.world_contents.specs.posts.Forms.{is_collecting};
 ghost use Rattle.target_parts.specs.Knowing.{memory_of};
 ghost use Rattle.target_parts.specs.Standing.{IsTarget};
 ghost use Rattle.target_parts.specs.Stops.{stop_foreign, stop_store};

@@ -1,6 +1,6 @@
 // A target hears a Commit: whole turns.
 ghost use Rattle.std.specs.Prelude.{◌≡◌, ◌/◌, ◌<◌, ◌≤◌, ℕ, IfOk, IfErr, IfSome, Some, None, is_some, true, false, []};
-ghost use Rattle.world_kinds.specs.Loads.{AnswersOnce};
+ghost use Rattle.world_letters.specs.kinds.Loads.{AnswersOnce};
 ghost use Rattle.std.specs.Option.{ForSome};
 ghost use Rattle.base_messages.specs.declared.message.Message.TheVariants as message;
 ghost use Rattle.daos_model.specs.declared.durable.Durable.{Durable};
@@ -8,7 +8,7 @@ ghost use Rattle.vos_store.specs.Refusals.{says};
 ghost use Rattle.world_base.specs.declared.target.TargetMemory.{TargetMemory};
 ghost use Rattle.world_base.specs.Commits as commit;
 ghost use Rattle.world_base.specs.Requests as asked;
-ghost use Rattle.world_posts.specs.Forms.{PostsInForm};
+ghost use Rattle.world_contents.specs.posts.Forms.{PostsInForm};
 ghost use Rattle.target_parts.specs.Knowing.{IsApart, IsOpenHere, memory_of};
 ghost use Rattle.target_parts.specs.Stops.{IsSilent, stop_memory};
 ghost use Rattle.target_writes.specs.Checks.{AreWrites, CanCommit, CanStore};

@@ -1,5 +1,5 @@
 // The world of a run under one name: whether a list of events is a run, and the laws of all facts together, whatever crate holds them. Those of
-// world_hearable and world_legal are of runs in which targets may stop, those of world_whole of runs without stops.
+// world_standing and world_legal are of runs in which targets may stop, those of world_plain of runs without stops.
 #![tactic(auto)]
 
 pub use world_check::check::check_list;

@@ -3,3 +3,4 @@ pub mod reasons
 pub mod doubts
 pub mod shown
 pub mod closing
+pub mod forming

@@ -4,5 +4,6 @@
 
 pub mod closing;
 pub mod doubts;
+pub mod forming;
 pub mod reasons;
 pub mod shown;

@@ -1,8 +1,9 @@
--- What snapshots and aggregations make of targets.
-pub mod Leaving
-pub mod Snapshots
-pub mod Making
-pub mod Steps
-pub mod Stages
-pub mod Ends
-pub mod Turns
+-- What goes on where target 0 makes snapshots and aggregates with the others.
+pub mod making
+pub mod makers
+pub mod freezings
+pub mod prunings
+pub mod dates
+pub mod fates
+pub mod losses
+pub mod questions

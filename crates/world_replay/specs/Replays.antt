@@ -26,15 +26,15 @@ use Rattle.world_base.specs.declared.target.TargetPlan.{TargetPlan}
 use Rattle.world_base.specs.declared.target.TargetState.{TargetState}
 use Rattle.world_base.specs.declared.world.World.{World}
 use Rattle.world_base.specs.ClientTurns.{plan_of}
-use Rattle.world_whole.specs.BeginLaws.{get-map}
-use Rattle.world_whole.specs.Begins.{IsBegun, IsSimple, first_client, first_tracker, held_at}
-use Rattle.world_whole.specs.Hearable.{CanHear}
-use Rattle.world_attempts.specs.Attempts.{entry_in, is_known_at, is_known_in}
-use Rattle.world_attempts.specs.History.{History}
-use Rattle.world_attempts.specs.Stored.{among-has}
-use Rattle.world_whole.specs.Whole.{Whole, held-before, runs-can-be-heard, runs-stay-whole}
-use Rattle.world_whole.specs.Asking.{requests-are-right}
-use Rattle.world_reads.specs.Given.{IsParkedRight}
+use Rattle.world_plain.specs.whole.BeginLaws.{get-map}
+use Rattle.world_plain.specs.whole.Begins.{IsBegun, IsSimple, first_client, first_tracker, held_at}
+use Rattle.world_plain.specs.whole.Hearable.{CanHear}
+use Rattle.world_commit.specs.attempts.Attempts.{entry_in, is_known_at, is_known_in}
+use Rattle.world_commit.specs.attempts.History.{History}
+use Rattle.world_commit.specs.attempts.Stored.{among-has}
+use Rattle.world_plain.specs.whole.Whole.{Whole, held-before, runs-can-be-heard, runs-stay-whole}
+use Rattle.world_plain.specs.whole.Asking.{requests-are-right}
+use Rattle.world_contents.specs.reads.Given.{IsParkedRight}
 use Rattle.world_base.specs.Roles.{other_leader, other_leader_of}
 use Rattle.world_base.specs.Events.{Begins, ByClient, ByTarget, Event, Goes, Rules, Run, ToClient, ToTarget, client_plan, commands_or_none, target_plan}
 use Rattle.world_base.specs.Letters.{client, target}
@@ -43,7 +43,7 @@ use Rattle.world_list.specs.RunLists.{IsRunFrom, IsRunList, LeadsTo, last_world,
 use Rattle.world_list.specs.declared.events.Event as listed
 use Rattle.world_list.specs.declared.events.EventKind.TheVariants as kind
 use Rattle.world_list.specs.declared.events.Events.{Events}
-use Rattle.world_talks.specs.TalkLaws.{taken-is-among}
+use Rattle.world_letters.specs.talks.TalkLaws.{taken-is-among}
 
 -- ---- the statement
 

@@ -1,10 +1,4 @@
--- All that holds between any two events of a run in which targets may stop.
-pub mod Requests
-pub mod Clients
-pub mod Telling
-pub mod Unsnapped
-pub mod Standing
-pub mod Events
-pub mod Runs
-pub mod Containers
-pub mod Covering
+-- All facts together where targets may stop, kept by every event, and what follows for messages, openings and the order of real time.
+pub mod standing
+pub mod hearable
+pub mod external

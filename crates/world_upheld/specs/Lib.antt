@@ -1,15 +1,8 @@
--- All that holds between any two events of any run.
-pub mod Named
-pub mod Dated
-pub mod Reading
-pub mod Heard
-pub mod Clients
-pub mod Telling
-pub mod Upheld
-pub mod Events
-pub mod Begins
-pub mod BeginVersions
-pub mod BeginKnown
-pub mod Runs
-pub mod PlainRuns
-pub mod Containers
+-- All facts together over every event, snapshots and aggregation among them.
+pub mod causing
+pub mod upheld
+pub mod stored
+pub mod order
+pub mod reasons
+pub mod hearing
+pub mod explained

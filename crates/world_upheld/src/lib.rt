@@ -1,48 +1,10 @@
-// All that holds between any two events of any run, in which targets may stop, snapshots are made and read, and containers aggregated.
+// All facts together over every event, snapshots and aggregation among them.
 #![tactic(auto)]
 
-ghost use Rattle.world_upheld.specs.Containers.{AllEventsKeepContainers, RunsKnowDeclared};
-ghost use Rattle.world_upheld.specs.Heard.{AllHeardIsRight};
-ghost use Rattle.world_upheld.specs.PlainRuns.{PlainRunsBeginSo};
-ghost use Rattle.world_upheld.specs.Runs.{RunsAreUpheld, RunsBeginUpheld, RunsHearAllRightly, RunsReadFrozen};
-ghost use Rattle.world_upheld.specs.Upheld.{AllEventsUphold};
-
-/// Says that what the targets of a run hear is right, whatever clients ask: a read is what the present attempt
-/// of its client has to ask of that target, of a group of a declared object, also one that waits there; a read
-/// at a snapshot is in the container of that snapshot, at its epoch, which is frozen where it is read; it is
-/// one of before the run that the opening keeps, or one of this run, of a name that the script does not declare.
-/// Writes are those of the attempt, in form, and go to their leader; and the epoch that any other request bears,
-/// or is issued, is its own. This stands on conversations, on where clients stand and what they were told, on
-/// epochs, on what became of attempts, on what targets ask one another, on which attempts make snapshots, and on
-/// what is frozen where, of a script in form.
-pub fn laws_of_requests()
-    ensures right { AllHeardIsRight }
-{}
-
-/// Says that all that holds between two events of a run goes on together, whatever happens, of what was decided,
-/// aborted and served by then, which only grows: that what is heard is right; of which attempts snapshots and
-/// aggregations come, that targets know their containers, and what is frozen where; who sends and answers, how
-/// attempts end and what lines and ends tell of it; what targets keep, what they answered and what clients were
-/// told; floors, first epochs, and the lines of targets. No event is excluded: clients make snapshots, read at
-/// them and aggregate, targets stop in any turn, open again, fail to, or are given up. A run of a script in form
-/// begins with it over stores that stand for what the opening does, where what target 0 holds as created is
-/// frozen at every target, where its cells below its epoch give the map that the opening keeps of it, and where
-/// clients know just such snapshots; and so it holds at each moment. Then what targets hear is right, and each
-/// attempt that reads at a snapshot reads at one that is frozen at every target. Runs of scripts without snapshots
-/// and aggregation, over stores without snapshots, are such runs.
-pub fn laws_of_upheld()
-    ensures events { AllEventsUphold }
-    ensures begin { RunsBeginUpheld }
-    ensures runs { RunsAreUpheld }
-    ensures hear { RunsHearAllRightly }
-    ensures seen { RunsReadFrozen }
-    ensures plain { PlainRunsBeginSo }
-{}
-
-/// Says that a target goes on knowing the containers that it knows in each event, also where it freezes and
-/// prunes, where a turn of it is cut, it opens again, fails to, or is given up. So at each moment of a run each
-/// target knows the containers that the script declares.
-pub fn laws_of_containers()
-    ensures events { AllEventsKeepContainers }
-    ensures runs { RunsKnowDeclared }
-{}
+pub mod causing;
+pub mod explained;
+pub mod hearing;
+pub mod order;
+pub mod reasons;
+pub mod stored;
+pub mod upheld;

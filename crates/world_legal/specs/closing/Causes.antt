@@ -35,16 +35,16 @@ use Rattle.daos_model.specs.Stops.{restart_numbers}
 use Rattle.daos_model.specs.Transactions.{attempt_ops, command_of}
 use Rattle.world_base.specs.declared.world.World.{World}
 use Rattle.world_base.specs.Events.{Rules}
-use Rattle.world_causes.specs.Causes.{Dated, MeetsOther, ShowsLack, ShowsRead, Stored, blocks_of_stored}
-use Rattle.world_causes.specs.LastCauses.{blocks-within, count-within, ids}
-use Rattle.world_causes.specs.Shown as stand
-use Rattle.world_causes.specs.Shown.{Causes, IsFirstEpoch, IsOpenTo, MeetsFloor, MeetsLaterWrite, MeetsUnresolved, OutcomeStands, SpendsAll, WasLost, limit_over}
-use Rattle.world_causes.specs.Storing.{AreApart, dated_ids}
-use Rattle.world_ends.specs.Ends.{rules_of}
-use Rattle.world_ends.specs.FormLaws.{no-snaps}
-use Rattle.world_epochs.specs.Epochs.{Epochs, HasLine, Unsnapped}
-use Rattle.world_epochs.specs.PlainScripts.{no-snapshots}
-use Rattle.world_lives.specs.Adding.{restarts-append}
+use Rattle.world_causes.specs.causes.Causes.{Dated, MeetsOther, ShowsLack, ShowsRead, Stored, blocks_of_stored}
+use Rattle.world_causes.specs.causes.LastCauses.{blocks-within, count-within, ids}
+use Rattle.world_causes.specs.causes.Shown as stand
+use Rattle.world_causes.specs.causes.Shown.{Causes, IsFirstEpoch, IsOpenTo, MeetsFloor, MeetsLaterWrite, MeetsUnresolved, OutcomeStands, SpendsAll, WasLost, limit_over}
+use Rattle.world_causes.specs.causes.Storing.{AreApart, dated_ids}
+use Rattle.world_plain.specs.ends.Ends.{rules_of}
+use Rattle.world_plain.specs.ends.FormLaws.{no-snaps}
+use Rattle.world_letters.specs.epochs.Epochs.{Epochs, HasLine, Unsnapped}
+use Rattle.world_letters.specs.epochs.PlainScripts.{no-snapshots}
+use Rattle.world_letters.specs.lives.Adding.{restarts-append}
 use Rattle.world_legal.specs.closing.Closing.{report_over}
 use Rattle.world_legal.specs.closing.First.{BeginsWith, among-tries, first-found}
 use Rattle.world_legal.specs.closing.Took.{one-line}

@@ -20,8 +20,8 @@ use Rattle.daos_model.specs.Opening.{Given, Opening, Outside, top}
 use Rattle.daos_model.specs.Sound.{Sound}
 use Rattle.daos_model.specs.Stops.{AreCounted, down_targets, least, restart_numbers}
 use Rattle.dtx_base.specs.declared.leading.Undecided.{Undecided}
-use Rattle.world_attempts.specs.Attempts.{IsOther}
-use Rattle.world_attempts.specs.History.{Decided, History}
+use Rattle.world_commit.specs.attempts.Attempts.{IsOther}
+use Rattle.world_commit.specs.attempts.History.{Decided, History}
 use Rattle.world_base.specs.declared.client.ClientState.{ClientState}
 use Rattle.world_base.specs.declared.letter.Letter.{Letter}
 use Rattle.world_base.specs.declared.target.Life.TheVariants.{Running, Stopped}
@@ -32,17 +32,17 @@ use Rattle.world_base.specs.Ended.{HasEnded}
 use Rattle.world_base.specs.Events.{Rules, client_plan}
 use Rattle.world_base.specs.Letters as letter
 use Rattle.world_base.specs.Stops.{WorldRun}
-use Rattle.world_causes.specs.Shown.{Causes}
-use Rattle.world_ends.specs.Ends.{durables_of, rules_of}
-use Rattle.world_lines.specs.LastLines.{AreDone, HasClients}
-use Rattle.world_lives.specs.Legal.{AreCaused, NoneIsStopped}
-use Rattle.world_outcomes.specs.Outcomes.{is_failed}
-use Rattle.world_reads.specs.Reads.{Reads}
-use Rattle.world_reads.specs.Transactions.{decided_of}
-use Rattle.world_reads.specs.Versions.{Versions}
+use Rattle.world_causes.specs.causes.Shown.{Causes}
+use Rattle.world_plain.specs.ends.Ends.{durables_of, rules_of}
+use Rattle.world_letters.specs.lines.LastLines.{AreDone, HasClients}
+use Rattle.world_letters.specs.lives.Legal.{AreCaused, NoneIsStopped}
+use Rattle.world_causes.specs.outcomes.Outcomes.{is_failed}
+use Rattle.world_contents.specs.reads.Reads.{Reads}
+use Rattle.world_contents.specs.reads.Transactions.{decided_of}
+use Rattle.world_contents.specs.reads.Versions.{Versions}
 use Rattle.world_legal.specs.reasons.Accounted.{stored_over}
-use Rattle.world_verdicts.specs.Verdicts.{HasWrites}
-use Rattle.world_whole.specs.Begins.{IsBegun, IsSimple, held_at}
+use Rattle.world_contents.specs.verdicts.Verdicts.{HasWrites}
+use Rattle.world_plain.specs.whole.Begins.{IsBegun, IsSimple, held_at}
 
 -- ---- a run is over
 

@@ -17,27 +17,27 @@ use Rattle.daos_model.specs.Durables.{entry_of}
 use Rattle.daos_model.specs.Family.{resolved}
 use Rattle.daos_model.specs.Opening.{Opening, top}
 use Rattle.dtx_base.specs.Leading.{entry_attempt}
-use Rattle.world_attempts.specs.Attempts.{IsItsEntry, entry_at, entry_in, leader_of}
-use Rattle.world_attempts.specs.History.{Decided, History}
-use Rattle.world_attempts.specs.MarkTurns.{found-attempt}
-use Rattle.world_attempts.specs.Stored.{row-found}
+use Rattle.world_commit.specs.attempts.Attempts.{IsItsEntry, entry_at, entry_in, leader_of}
+use Rattle.world_commit.specs.attempts.History.{Decided, History}
+use Rattle.world_commit.specs.attempts.MarkTurns.{found-attempt}
+use Rattle.world_commit.specs.attempts.Stored.{row-found}
 use Rattle.world_base.specs.declared.target.TargetState.{TargetState}
 use Rattle.world_base.specs.declared.world.World.{World}
 use Rattle.world_base.specs.Events.{Rules}
-use Rattle.world_ends.specs.Ends.{durables_of}
-use Rattle.world_ends.specs.LastStand.{from-durables}
-use Rattle.world_epochs.specs.Epochs.{Epochs, HasLine, IsPresent}
-use Rattle.world_hearing.specs.Deciding.{AreEnded, MayEnd, end-all}
-use Rattle.world_lines.specs.LastLines.{AreDone}
-use Rattle.world_outcomes.specs.Outcomes.{is_failed}
-use Rattle.world_reads.specs.ChangeLaws.{entry-among}
-use Rattle.world_reads.specs.Given.{Given}
+use Rattle.world_plain.specs.ends.Ends.{durables_of}
+use Rattle.world_plain.specs.ends.LastStand.{from-durables}
+use Rattle.world_letters.specs.epochs.Epochs.{Epochs, HasLine, IsPresent}
+use Rattle.world_causes.specs.hearing.Deciding.{AreEnded, MayEnd, end-all}
+use Rattle.world_letters.specs.lines.LastLines.{AreDone}
+use Rattle.world_causes.specs.outcomes.Outcomes.{is_failed}
+use Rattle.world_contents.specs.reads.ChangeLaws.{entry-among}
+use Rattle.world_contents.specs.reads.Given.{Given}
 use Rattle.world_legal.specs.reasons.Accounted.{Accounted}
-use Rattle.world_causes.specs.Causes.{Stored}
-use Rattle.world_standing.specs.Requests.{heard-right}
-use Rattle.world_verdicts.specs.Verdicts.{HasWrites}
-use Rattle.world_whole.specs.Begins.{IsSimple}
-use Rattle.world_whole.specs.Everything.{AreBefore}
+use Rattle.world_causes.specs.causes.Causes.{Stored}
+use Rattle.world_standing.specs.standing.Requests.{heard-right}
+use Rattle.world_contents.specs.verdicts.Verdicts.{HasWrites}
+use Rattle.world_plain.specs.whole.Begins.{IsSimple}
+use Rattle.world_plain.specs.whole.Everything.{AreBefore}
 use Rattle.world_legal.specs.closing.Closing.{Concluded, IsResolved, IsToldOf, Resolves}
 use Rattle.world_legal.specs.closing.Holding.{AreHeld, HasEntries, decided-held, durable-at, held-at, held-resolved, resolved-held}
 

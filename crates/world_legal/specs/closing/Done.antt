@@ -27,10 +27,10 @@ use Rattle.model_laws.specs.DecidedLaws.{has-all}
 use Rattle.model_laws.specs.Lists.{at-within}
 use Rattle.model_laws.specs.Members.{Has, contains-from_has, has-cases, has-from_filter, has-from_map}
 use Rattle.model_laws.specs.PlaceLaws.{asked-member}
-use Rattle.world_asks.specs.Asks.{IsQuery, IsQueryOf, IsVerdict}
-use Rattle.world_attempts.specs.Attempts.{IsOther, inc_at, leader_of, one_if, others_of, row_at, row_in}
-use Rattle.world_attempts.specs.History.{History}
-use Rattle.world_attempts.specs.Stored.{row-found}
+use Rattle.world_commit.specs.asks.Asks.{IsQuery, IsQueryOf, IsVerdict}
+use Rattle.world_commit.specs.attempts.Attempts.{IsOther, inc_at, leader_of, one_if, others_of, row_at, row_in}
+use Rattle.world_commit.specs.attempts.History.{History}
+use Rattle.world_commit.specs.attempts.Stored.{row-found}
 use Rattle.world_base.specs.declared.client.ClientPlan.{ClientPlan}
 use Rattle.world_base.specs.declared.client.ClientState.{ClientState}
 use Rattle.world_base.specs.declared.client.Present.{Present}
@@ -44,20 +44,20 @@ use Rattle.world_base.specs.declared.world.World.{World}
 use Rattle.world_base.specs.ClientTurns.{is_done, member_asked, waits}
 use Rattle.world_base.specs.Events.{Rules, client_plan}
 use Rattle.world_base.specs.Letters.{client, is_talk_of, letter_of, target}
-use Rattle.world_clients.specs.Standing.{AreOfPresent, HasTold, has_number, number_of}
-use Rattle.world_fates.specs.Facts.{IsOneUnless, IsSaidSo, down_in, is_talk, knows_down, talking}
-use Rattle.world_lines.specs.LastLines.{HasClients}
-use Rattle.world_lives.specs.Legal.{NoneIsStopped}
-use Rattle.world_questions.specs.Facts.{IsAsked, IsOnQuery, IsReset}
+use Rattle.world_letters.specs.clients.Standing.{AreOfPresent, HasTold, has_number, number_of}
+use Rattle.world_commit.specs.fates.Facts.{IsOneUnless, IsSaidSo, down_in, is_talk, knows_down, talking}
+use Rattle.world_letters.specs.lines.LastLines.{HasClients}
+use Rattle.world_letters.specs.lives.Legal.{NoneIsStopped}
+use Rattle.world_commit.specs.questions.Facts.{IsAsked, IsOnQuery, IsReset}
 use Rattle.world_legal.specs.reasons.Accounted.{Accounted}
-use Rattle.world_standing.specs.Unsnapped.{is_of_snapshots}
-use Rattle.world_causes.specs.Causes.{Stored}
-use Rattle.world_talks.specs.Asked.{ARead, ASnapshot, AnAggregation, Asked, ItsWrites, group_of_read}
-use Rattle.world_talks.specs.AskLaws.{sent-is-asked}
-use Rattle.world_waits.specs.ClientLaws.{present-of}
-use Rattle.world_waits.specs.Waits as wait
-use Rattle.world_waits.specs.Waits.{CollectedAt, Held, HoldsIt, IsQuestion, ItsAsk, ItsRequest, OpenAt, ParkedAt, TalksSo, Waits, asked_of, collected_at, held_by, held_from, held_of, is_asked_by, is_collected_of, is_open_of, is_parked_of, is_waited_by, open_at, parked_at}
-use Rattle.world_whole.specs.Begins.{IsSimple}
+use Rattle.world_standing.specs.standing.Unsnapped.{is_of_snapshots}
+use Rattle.world_causes.specs.causes.Causes.{Stored}
+use Rattle.world_letters.specs.talks.Asked.{ARead, ASnapshot, AnAggregation, Asked, ItsWrites, group_of_read}
+use Rattle.world_letters.specs.talks.AskLaws.{sent-is-asked}
+use Rattle.world_letters.specs.waits.ClientLaws.{present-of}
+use Rattle.world_letters.specs.waits.Waits as wait
+use Rattle.world_letters.specs.waits.Waits.{CollectedAt, Held, HoldsIt, IsQuestion, ItsAsk, ItsRequest, OpenAt, ParkedAt, TalksSo, Waits, asked_of, collected_at, held_by, held_from, held_of, is_asked_by, is_collected_of, is_open_of, is_parked_of, is_waited_by, open_at, parked_at}
+use Rattle.world_plain.specs.whole.Begins.{IsSimple}
 use Rattle.world_legal.specs.closing.Closing.{IsNowhere, IsOver, IsStill, WaitsForNone}
 use Rattle.world_legal.specs.closing.Gone.{NoneGoesToGivenUp}
 use Rattle.world_legal.specs.closing.Holding.{leader-there, other-there, writes-led}

@@ -11,7 +11,7 @@ use Rattle.world_base.specs.declared.world.World.{World}
 use Rattle.world_base.specs.Events.{Rules}
 use Rattle.world_base.specs.Letters.{target}
 use Rattle.world_base.specs.Stops.{Begins, Goes, WorldEvent, WorldRun, is_down_at, is_given_up, is_not_to_down, is_to_down, reset_letter, swept}
-use Rattle.world_whole.specs.Begins.{IsBegun}
+use Rattle.world_plain.specs.whole.Begins.{IsBegun}
 
 -- no letter in flight goes to a target that was given up
 abbrev pub NoneGoesToGivenUp : World → Type 0

@@ -23,19 +23,19 @@ use Rattle.daos_model.specs.Durables.{entry_of}
 use Rattle.daos_model.specs.Family.{all_hold_from, holds, is_in_field, is_resolved_entry, is_within, resolved}
 use Rattle.daos_model.specs.FormLaws.{length-map}
 use Rattle.dtx_base.specs.Members.{all_targets, has_target, is_other_member, other_members}
-use Rattle.world_addresses.specs.Addresses.{IsPlaced, crowd}
-use Rattle.world_addresses.specs.TurnAddresses.{bit-of, writes-within}
-use Rattle.world_attempts.specs.Attempts.{Entries, IsHeld, IsItsEntry, IsOther, entry_at, entry_in, first_entry, leader_of, members_of, writes_of}
-use Rattle.world_attempts.specs.History.{Decided, History}
-use Rattle.world_attempts.specs.MemberBits.{is-other_same, other-from_test}
+use Rattle.world_letters.specs.addresses.Addresses.{IsPlaced, crowd}
+use Rattle.world_letters.specs.addresses.TurnAddresses.{bit-of, writes-within}
+use Rattle.world_commit.specs.attempts.Attempts.{Entries, IsHeld, IsItsEntry, IsOther, entry_at, entry_in, first_entry, leader_of, members_of, writes_of}
+use Rattle.world_commit.specs.attempts.History.{Decided, History}
+use Rattle.world_commit.specs.attempts.MemberBits.{is-other_same, other-from_test}
 use Rattle.world_base.specs.declared.target.TargetState.{TargetState}
 use Rattle.world_base.specs.declared.world.World.{World}
 use Rattle.world_base.specs.Events.{Rules}
-use Rattle.world_ends.specs.Ends.{durable_of, durables_of}
-use Rattle.world_ends.specs.LastStand.{from-durables}
-use Rattle.world_whole.specs.BeginLaws.{get-map}
-use Rattle.world_whole.specs.ScriptForm.{of-end}
-use Rattle.world_whole.specs.Sharing.{members-below}
+use Rattle.world_plain.specs.ends.Ends.{durable_of, durables_of}
+use Rattle.world_plain.specs.ends.LastStand.{from-durables}
+use Rattle.world_plain.specs.whole.BeginLaws.{get-map}
+use Rattle.world_plain.specs.whole.ScriptForm.{of-end}
+use Rattle.world_plain.specs.whole.Sharing.{members-below}
 use Rattle.world_legal.specs.closing.Closing.{IsResolved}
 
 -- ---- who is there

@@ -8,8 +8,8 @@ use Rattle.model_laws.specs.Members.{Has, contains-from_has, has-from_map}
 use Rattle.base_messages.specs.declared.actor.ActorId.{ActorId}
 use Rattle.base_messages.specs.declared.message.Message.{Message, more_of-Message}
 use Rattle.base_messages.specs.declared.message.Message.TheVariants as message
-use Rattle.world_attempts.specs.Counting.{has-taken}
-use Rattle.world_attempts.specs.History.{History}
+use Rattle.world_commit.specs.attempts.Counting.{has-taken}
+use Rattle.world_commit.specs.attempts.History.{History}
 use Rattle.world_base.specs.declared.did.Did.{Did}
 use Rattle.world_base.specs.declared.request.CommitRequest.{CommitRequest}
 use Rattle.world_base.specs.declared.request.FetchRequest.{FetchRequest}
@@ -27,17 +27,17 @@ use Rattle.world_base.specs.Requests.{issued_for}
 use Rattle.world_base.specs.Roles.{is_prepared}
 use Rattle.world_base.specs.Stops.{AtWork, CutOf, Draws, Fails, Further, GivenUp, Happening, Hearing, IdleWork, IsCut, IsInHand, Opens, Plainly, TargetCut, WorldEvent}
 use Rattle.world_base.specs.TargetTurns.{commit_request, fetch_request}
-use Rattle.world_causes.specs.Causes.{Dated}
-use Rattle.world_causes.specs.IssuedOnce.{IssuedOnce, events-keep-issued-once}
-use Rattle.world_causes.specs.Storing.{AreApart, dated_ids}
-use Rattle.world_epochs.specs.Epochs.{AsksEpoch, IsUnissued, PlainEpochs}
-use Rattle.world_fates.specs.Facts.{Attempts}
-use Rattle.world_fates.specs.Rightly.{events-are-right}
-use Rattle.world_hearing.specs.Listening.{listens}
-use Rattle.world_restarts.specs.CutLaws.{commit-is-cut}
-use Rattle.world_statuses.specs.Events.{HappensWithoutSnapshots}
-use Rattle.world_statuses.specs.Heard.{is_of_attempts}
-use Rattle.world_stops.specs.CutEvents.{IsWithoutSnapshots, is_without_snapshots}
+use Rattle.world_causes.specs.causes.Causes.{Dated}
+use Rattle.world_causes.specs.causes.IssuedOnce.{IssuedOnce, events-keep-issued-once}
+use Rattle.world_causes.specs.causes.Storing.{AreApart, dated_ids}
+use Rattle.world_letters.specs.epochs.Epochs.{AsksEpoch, IsUnissued, PlainEpochs}
+use Rattle.world_commit.specs.fates.Facts.{Attempts}
+use Rattle.world_commit.specs.fates.Rightly.{events-are-right}
+use Rattle.world_causes.specs.hearing.Listening.{listens}
+use Rattle.world_causes.specs.restarts.CutLaws.{commit-is-cut}
+use Rattle.world_commit.specs.statuses.Events.{HappensWithoutSnapshots}
+use Rattle.world_commit.specs.statuses.Heard.{is_of_attempts}
+use Rattle.world_commit.specs.stops.CutEvents.{IsWithoutSnapshots, is_without_snapshots}
 
 -- ---- what is issued
 

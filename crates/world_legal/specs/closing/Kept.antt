@@ -13,7 +13,7 @@ use Rattle.daos_model.specs.Changes.{reopened}
 use Rattle.daos_model.specs.declared.durable.Durable.{Durable}
 use Rattle.daos_model.specs.FormLaws.{length-map}
 use Rattle.daos_model.specs.Opening.{Opening}
-use Rattle.world_addresses.specs.Staying.{events-keep-targets}
+use Rattle.world_letters.specs.addresses.Staying.{events-keep-targets}
 use Rattle.world_base.specs.declared.did.Did.{Did}
 use Rattle.world_base.specs.declared.target.TargetMemory.{TargetMemory}
 use Rattle.world_base.specs.declared.target.TargetPlan.{TargetPlan}
@@ -32,16 +32,16 @@ use Rattle.world_base.specs.Statuses.{status_refusal}
 use Rattle.world_base.specs.Stops.{AtWork, Begins, CutOf, Draws, Fails, Further, GivenUp, Goes, Happening, Hearing, IdleWork, IsCut, Opens, Plainly, WorldEvent, WorldRun}
 use Rattle.world_base.specs.TargetTurns.{commit_request, fetch_request, prepare_request}
 use Rattle.world_base.specs.Turns.{Whole}
-use Rattle.world_epochs.specs.Sayings.{Known, StepFits}
-use Rattle.world_hearing.specs.Storing.{AllFit, ack-fits, commit-fits, fetch-fits, idle-fits, look-fits, mark-fits, marked-fits, prepare-fits, query-fits, verdict-fits}
-use Rattle.world_lives.specs.Events.{happening-adds}
-use Rattle.world_reads.specs.EventLaws.{at-or-there}
-use Rattle.world_restarts.specs.CutLaws.{commit-is-cut}
-use Rattle.world_restarts.specs.Cuts.{cut-keeps}
-use Rattle.world_statuses.specs.Events.{HappensWithoutSnapshots}
-use Rattle.world_statuses.specs.Heard.{is_of_attempts}
-use Rattle.world_stops.specs.CutEvents.{IsWithoutSnapshots, is_without_snapshots}
-use Rattle.world_whole.specs.Begins.{IsBegun, first_client}
+use Rattle.world_letters.specs.epochs.Sayings.{Known, StepFits}
+use Rattle.world_causes.specs.hearing.Storing.{AllFit, ack-fits, commit-fits, fetch-fits, idle-fits, look-fits, mark-fits, marked-fits, prepare-fits, query-fits, verdict-fits}
+use Rattle.world_letters.specs.lives.Events.{happening-adds}
+use Rattle.world_contents.specs.reads.EventLaws.{at-or-there}
+use Rattle.world_causes.specs.restarts.CutLaws.{commit-is-cut}
+use Rattle.world_causes.specs.restarts.Cuts.{cut-keeps}
+use Rattle.world_commit.specs.statuses.Events.{HappensWithoutSnapshots}
+use Rattle.world_commit.specs.statuses.Heard.{is_of_attempts}
+use Rattle.world_commit.specs.stops.CutEvents.{IsWithoutSnapshots, is_without_snapshots}
+use Rattle.world_plain.specs.whole.Begins.{IsBegun, first_client}
 
 -- ---- how many there are
 

@@ -26,27 +26,27 @@ use Rattle.daos_model.specs.OutcomesLegal.{OutcomesLegal}
 use Rattle.daos_model.specs.Snapshots.{ComesFrom, NoneLegal, SnapshotsLegal}
 use Rattle.daos_model.specs.Stops.{AreCounted, StopsLegal, aggregate_numbers, restart_numbers}
 use Rattle.daos_model.specs.Transactions.{attempt_ops, command_of, numbered_at}
-use Rattle.world_attempts.specs.History.{History}
+use Rattle.world_commit.specs.attempts.History.{History}
 use Rattle.world_base.specs.declared.client.ClientState.{ClientState}
 use Rattle.world_base.specs.declared.world.World.{World}
 use Rattle.world_base.specs.Events.{Rules, client_plan}
-use Rattle.world_causes.specs.Causes.{Stored}
-use Rattle.world_causes.specs.Shown.{Causes, OutcomeStands}
-use Rattle.world_clients.specs.Answered.{EndsAsAnswered, EndsWell, IsAnsweredWhole}
-use Rattle.world_ends.specs.Ends.{rules_of}
-use Rattle.world_ends.specs.FormLaws.{no-ops, no-snaps, some-op}
-use Rattle.world_epochs.specs.Epochs.{Epochs, Unsnapped}
-use Rattle.world_epochs.specs.PlainScripts.{command-plain, no-snapshots}
-use Rattle.world_gots.specs.Gots.{AreServed, Gots, IsLineServed}
-use Rattle.world_gots.specs.StepGots.{ops-of-attempt}
-use Rattle.world_gots.specs.ToldLaws.{nothing-told}
-use Rattle.world_lines.specs.LastLines.{AreDone, HasClients, lines-answered, lines-in-turn}
-use Rattle.world_lines.specs.Lines.{Lines}
-use Rattle.world_lives.specs.Legal.{AreCaused, NoneIsStopped, stops-legal}
-use Rattle.world_lives.specs.Lives.{Lives}
-use Rattle.world_outcomes.specs.Outcomes.{Outcomes}
-use Rattle.world_snapshots.specs.Makings.{ComesOf, IsAggregationOf, Makings}
-use Rattle.world_verdicts.specs.Verdicts.{HasWrites}
+use Rattle.world_causes.specs.causes.Causes.{Stored}
+use Rattle.world_causes.specs.causes.Shown.{Causes, OutcomeStands}
+use Rattle.world_letters.specs.clients.Answered.{EndsAsAnswered, EndsWell, IsAnsweredWhole}
+use Rattle.world_plain.specs.ends.Ends.{rules_of}
+use Rattle.world_plain.specs.ends.FormLaws.{no-ops, no-snaps, some-op}
+use Rattle.world_letters.specs.epochs.Epochs.{Epochs, Unsnapped}
+use Rattle.world_letters.specs.epochs.PlainScripts.{command-plain, no-snapshots}
+use Rattle.world_contents.specs.gots.Gots.{AreServed, Gots, IsLineServed}
+use Rattle.world_contents.specs.gots.StepGots.{ops-of-attempt}
+use Rattle.world_contents.specs.gots.ToldLaws.{nothing-told}
+use Rattle.world_letters.specs.lines.LastLines.{AreDone, HasClients, lines-answered, lines-in-turn}
+use Rattle.world_letters.specs.lines.Lines.{Lines}
+use Rattle.world_letters.specs.lives.Legal.{AreCaused, NoneIsStopped, stops-legal}
+use Rattle.world_letters.specs.lives.Lives.{Lives}
+use Rattle.world_causes.specs.outcomes.Outcomes.{Outcomes}
+use Rattle.world_letters.specs.snapshots.Makings.{ComesOf, IsAggregationOf, Makings}
+use Rattle.world_contents.specs.verdicts.Verdicts.{HasWrites}
 use Rattle.world_legal.specs.closing.Closing.{report_over}
 
 -- ---- commands of attempts

@@ -28,21 +28,21 @@ use Rattle.daos_model.specs.Opening.{Opening}
 use Rattle.daos_model.specs.ReadsLegal.{AttemptReadsLegal, IsRightAnswer, IsRightCondition, IsToldRight, ReadsLegal, map_at, map_read}
 use Rattle.daos_model.specs.TookEffect.{took}
 use Rattle.daos_model.specs.Transactions.{attempt_ops}
-use Rattle.world_attempts.specs.History.{History}
+use Rattle.world_commit.specs.attempts.History.{History}
 use Rattle.world_base.specs.declared.world.World.{World}
 use Rattle.world_base.specs.ClientTurns.{is_yes}
 use Rattle.world_base.specs.Events.{Rules}
-use Rattle.world_ends.specs.Ends.{durables_of}
-use Rattle.world_ends.specs.LastReads.{decided-form, opening-dkeys}
-use Rattle.world_epochs.specs.Epochs.{Unsnapped}
-use Rattle.world_epochs.specs.PlainScripts.{no-snapshots}
-use Rattle.world_gots.specs.Gots.{Gots, IsLineServed}
-use Rattle.world_gots.specs.MoreLaws.{all-more, served-more, stays-remembered}
-use Rattle.world_gots.specs.Right.{SeenHaveDkeys}
-use Rattle.world_gots.specs.ToldLaws.{lines-right, yes-is}
-use Rattle.world_reads.specs.Reads.{map_seen, map_then}
-use Rattle.world_reads.specs.Transactions.{transactions}
-use Rattle.world_whole.specs.Begins.{IsOpeningPlain}
+use Rattle.world_plain.specs.ends.Ends.{durables_of}
+use Rattle.world_plain.specs.ends.LastReads.{decided-form, opening-dkeys}
+use Rattle.world_letters.specs.epochs.Epochs.{Unsnapped}
+use Rattle.world_letters.specs.epochs.PlainScripts.{no-snapshots}
+use Rattle.world_contents.specs.gots.Gots.{Gots, IsLineServed}
+use Rattle.world_contents.specs.gots.MoreLaws.{all-more, served-more, stays-remembered}
+use Rattle.world_contents.specs.gots.Right.{SeenHaveDkeys}
+use Rattle.world_contents.specs.gots.ToldLaws.{lines-right, yes-is}
+use Rattle.world_contents.specs.reads.Reads.{map_seen, map_then}
+use Rattle.world_contents.specs.reads.Transactions.{transactions}
+use Rattle.world_plain.specs.whole.Begins.{IsOpeningPlain}
 use Rattle.world_legal.specs.closing.Closing.{Concluded, report_over}
 use Rattle.world_legal.specs.closing.Took.{AreLines, took-same_map}
 

@@ -11,38 +11,38 @@ use Rattle.daos_model.specs.Sound.{Sound}
 use Rattle.daos_model.specs.Stops.{AreCounted, restart_numbers}
 use Rattle.dtx_base.specs.Leading.{undecided_attempt}
 use Rattle.dtx_base.specs.Rows.{row_of}
-use Rattle.world_attempts.specs.Attempts.{inc_at, leader_of, row_in}
-use Rattle.world_attempts.specs.History.{History}
+use Rattle.world_commit.specs.attempts.Attempts.{inc_at, leader_of, row_in}
+use Rattle.world_commit.specs.attempts.History.{History}
 use Rattle.world_base.specs.declared.target.TargetState.{TargetState}
 use Rattle.world_base.specs.declared.world.World.{World}
 use Rattle.world_base.specs.Ended.{HasEnded}
 use Rattle.world_base.specs.Events.{Rules}
 use Rattle.world_base.specs.Stops.{Begins, Goes, WorldEvent, WorldRun, swept}
-use Rattle.world_causes.specs.Causes.{Stored}
-use Rattle.world_causes.specs.IssuedOnce.{IssuedOnce}
-use Rattle.world_causes.specs.LastCauses.{stored-are-told}
-use Rattle.world_causes.specs.Shown.{Causes}
-use Rattle.world_causes.specs.Storing.{AreApart, dated_ids}
-use Rattle.world_ends.specs.Ends.{durables_of, rules_of}
-use Rattle.world_ends.specs.LinesApart.{lines-apart}
-use Rattle.world_epochs.specs.Epochs.{HasLine}
-use Rattle.world_epochs.specs.PlainLaws.{plain-epochs}
-use Rattle.world_epochs.specs.PlainScripts.{no-snapshots}
-use Rattle.world_fates.specs.Asked.{AskedRight}
-use Rattle.world_fates.specs.Facts.{talking}
-use Rattle.world_lives.specs.Legal.{AreCaused}
-use Rattle.world_lives.specs.Lives.{Lives}
+use Rattle.world_causes.specs.causes.Causes.{Stored}
+use Rattle.world_causes.specs.causes.IssuedOnce.{IssuedOnce}
+use Rattle.world_causes.specs.causes.LastCauses.{stored-are-told}
+use Rattle.world_causes.specs.causes.Shown.{Causes}
+use Rattle.world_causes.specs.causes.Storing.{AreApart, dated_ids}
+use Rattle.world_plain.specs.ends.Ends.{durables_of, rules_of}
+use Rattle.world_plain.specs.ends.LinesApart.{lines-apart}
+use Rattle.world_letters.specs.epochs.Epochs.{HasLine}
+use Rattle.world_letters.specs.epochs.PlainLaws.{plain-epochs}
+use Rattle.world_letters.specs.epochs.PlainScripts.{no-snapshots}
+use Rattle.world_commit.specs.fates.Asked.{AskedRight}
+use Rattle.world_commit.specs.fates.Facts.{talking}
+use Rattle.world_letters.specs.lives.Legal.{AreCaused}
+use Rattle.world_letters.specs.lives.Lives.{Lives}
 use Rattle.world_legal.specs.reasons.Accounted.{Accounted, AccountedStill, stored_over}
 use Rattle.world_legal.specs.reasons.Events.{events-keep-accounts}
 use Rattle.world_legal.specs.reasons.Knowing.{DownsAreKnown}
 use Rattle.world_legal.specs.reasons.Runs.{accounts-begin}
-use Rattle.world_requests.specs.Rows.{commits-find}
-use Rattle.world_standing.specs.Events as stand
-use Rattle.world_statuses.specs.Events.{HappensWithoutSnapshots}
-use Rattle.world_showing.specs.Happening.{stored_in}
-use Rattle.world_whole.specs.Begins.{IsBegun, IsSimple, held_at}
-use Rattle.world_whole.specs.Everything.{AreBefore}
-use Rattle.world_whole.specs.Whole.{held-before}
+use Rattle.world_commit.specs.requests.Rows.{commits-find}
+use Rattle.world_standing.specs.standing.Events as stand
+use Rattle.world_commit.specs.statuses.Events.{HappensWithoutSnapshots}
+use Rattle.world_causes.specs.showing.Happening.{stored_in}
+use Rattle.world_plain.specs.whole.Begins.{IsBegun, IsSimple, held_at}
+use Rattle.world_plain.specs.whole.Everything.{AreBefore}
+use Rattle.world_plain.specs.whole.Whole.{held-before}
 use Rattle.world_legal.specs.closing.Asking.{AreAsking, events-ask}
 use Rattle.world_legal.specs.closing.Causes.{AllAreTold, causes-shown}
 use Rattle.world_legal.specs.closing.Closing.{Concluded, EndedRunsAreLegal, EndedRunsAreOver, EndedRunsConclude, IsOver, IsStill, RunsKeepSound, RunsStandForResolved, StandsForResolved, StillRunsAreOver, report_over}

@@ -22,29 +22,29 @@ use Rattle.daos_model.specs.Family.{Agree, created_snaps, is_in_field}
 use Rattle.daos_model.specs.Opening.{Opening}
 use Rattle.daos_model.specs.Sound.{IsCovered, IsOfEntry, IsPlaced, IsSoundAt, SayTheSame, Sound}
 use Rattle.dtx_base.specs.Members.{has_target, is_other_member}
-use Rattle.world_attempts.specs.Attempts.{IsItsEntry, IsOther, leader_of, members_of, writes_of}
-use Rattle.world_attempts.specs.History.{History}
-use Rattle.world_attempts.specs.MemberBits.{is-other_same}
+use Rattle.world_commit.specs.attempts.Attempts.{IsItsEntry, IsOther, leader_of, members_of, writes_of}
+use Rattle.world_commit.specs.attempts.History.{History}
+use Rattle.world_commit.specs.attempts.MemberBits.{is-other_same}
 use Rattle.world_base.specs.declared.target.TargetState.{TargetState}
 use Rattle.world_base.specs.declared.world.World.{World}
 use Rattle.world_base.specs.Events.{Rules}
 use Rattle.world_base.specs.Stops.{Begins, Goes, WorldRun}
-use Rattle.world_causes.specs.Causes.{Stored}
-use Rattle.world_ends.specs.Ends.{durable_of, durables_of}
-use Rattle.world_ends.specs.FamilyStands.{none-created}
-use Rattle.world_ends.specs.LastStand.{from-durables}
-use Rattle.world_ends.specs.Settled.{covered-within, floors-rise}
+use Rattle.world_causes.specs.causes.Causes.{Stored}
+use Rattle.world_plain.specs.ends.Ends.{durable_of, durables_of}
+use Rattle.world_plain.specs.ends.FamilyStands.{none-created}
+use Rattle.world_plain.specs.ends.LastStand.{from-durables}
+use Rattle.world_plain.specs.ends.Settled.{covered-within, floors-rise}
 use Rattle.world_base.specs.Commits.{bits_of}
-use Rattle.world_reads.specs.Given.{FitsTargets}
-use Rattle.world_reads.specs.MemberLaws.{bits-has}
-use Rattle.world_reads.specs.Versions.{VersionsStand}
+use Rattle.world_contents.specs.reads.Given.{FitsTargets}
+use Rattle.world_contents.specs.reads.MemberLaws.{bits-has}
+use Rattle.world_contents.specs.reads.Versions.{VersionsStand}
 use Rattle.world_legal.specs.reasons.Accounted.{Accounted}
-use Rattle.world_standing.specs.Covering.{AreAll, StaysCovered, all-put, epochs-puts, epochs-settled, events-keep}
-use Rattle.world_standing.specs.Runs.{runs-stand}
-use Rattle.world_standing.specs.Unsnapped.{nothing-heard}
-use Rattle.world_whole.specs.Begins.{IsBegun, IsSimple}
-use Rattle.world_whole.specs.BeginLaws.{get-map}
-use Rattle.world_whole.specs.Everything.{AreBefore}
+use Rattle.world_standing.specs.standing.Covering.{AreAll, StaysCovered, all-put, epochs-puts, epochs-settled, events-keep}
+use Rattle.world_standing.specs.standing.Runs.{runs-stand}
+use Rattle.world_standing.specs.standing.Unsnapped.{nothing-heard}
+use Rattle.world_plain.specs.whole.Begins.{IsBegun, IsSimple}
+use Rattle.world_plain.specs.whole.BeginLaws.{get-map}
+use Rattle.world_plain.specs.whole.Everything.{AreBefore}
 use Rattle.world_legal.specs.closing.Concluding.{given, has-entries, its, one-epoch}
 use Rattle.world_legal.specs.closing.Holding.{field-is, many}
 use Rattle.world_legal.specs.closing.Kept.{HoldsNoSnapshots}

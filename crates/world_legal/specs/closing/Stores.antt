@@ -34,24 +34,24 @@ use Rattle.daos_model.specs.Forms.{is_write_in_form}
 use Rattle.daos_model.specs.Opening.{Given as Run, Opening, top}
 use Rattle.daos_model.specs.TookEffect.{took}
 use Rattle.daos_model.specs.Versions.{writes_in}
-use Rattle.world_attempts.specs.History.{History, is_decided}
+use Rattle.world_commit.specs.attempts.History.{History, is_decided}
 use Rattle.world_base.specs.declared.target.TargetState.{TargetState}
 use Rattle.world_base.specs.declared.world.World.{World}
 use Rattle.world_base.specs.Events.{Rules}
-use Rattle.world_causes.specs.Shown.{FloorsShown, HasLine, IsOfBefore, IsTold}
-use Rattle.world_ends.specs.Ends.{durables_of, rules_of}
-use Rattle.world_ends.specs.FamilyStands.{below-lease, mark-below, none-created}
-use Rattle.world_ends.specs.FormLaws.{no-snaps}
-use Rattle.world_ends.specs.LastStand.{from-durables}
-use Rattle.world_epochs.specs.Epochs.{Unsnapped}
-use Rattle.world_reads.specs.ChangeLaws.{decided-has, has-decided}
-use Rattle.world_reads.specs.Given.{Given}
-use Rattle.world_reads.specs.Transactions.{counts_by, decided_of, transactions}
-use Rattle.world_reads.specs.Versions.{VersionsStand, is_own_in, mark_of}
-use Rattle.world_snapshots.specs.Makings.{ComesOf, Makings}
-use Rattle.world_whole.specs.Begins.{IsOpeningPlain}
-use Rattle.world_whole.specs.Everything.{AreUnpruned}
-use Rattle.world_whole.specs.ScriptForm.{of-end}
+use Rattle.world_causes.specs.causes.Shown.{FloorsShown, HasLine, IsOfBefore, IsTold}
+use Rattle.world_plain.specs.ends.Ends.{durables_of, rules_of}
+use Rattle.world_plain.specs.ends.FamilyStands.{below-lease, mark-below, none-created}
+use Rattle.world_plain.specs.ends.FormLaws.{no-snaps}
+use Rattle.world_plain.specs.ends.LastStand.{from-durables}
+use Rattle.world_letters.specs.epochs.Epochs.{Unsnapped}
+use Rattle.world_contents.specs.reads.ChangeLaws.{decided-has, has-decided}
+use Rattle.world_contents.specs.reads.Given.{Given}
+use Rattle.world_contents.specs.reads.Transactions.{counts_by, decided_of, transactions}
+use Rattle.world_contents.specs.reads.Versions.{VersionsStand, is_own_in, mark_of}
+use Rattle.world_letters.specs.snapshots.Makings.{ComesOf, Makings}
+use Rattle.world_plain.specs.whole.Begins.{IsOpeningPlain}
+use Rattle.world_plain.specs.whole.Everything.{AreUnpruned}
+use Rattle.world_plain.specs.whole.ScriptForm.{of-end}
 use Rattle.world_legal.specs.closing.Closing.{Concluded, Resolves, StandsForResolved, report_over}
 use Rattle.world_legal.specs.closing.Outcomes.{no-aggregation}
 use Rattle.world_legal.specs.closing.Took.{AreLines, took-same_map}

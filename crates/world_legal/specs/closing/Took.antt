@@ -27,16 +27,16 @@ use Rattle.daos_model.specs.Opening.{Opening}
 use Rattle.daos_model.specs.TookEffect.{all_taken, taken_at, taken_by, took, took_effect}
 use Rattle.daos_model.specs.Transactions.{attempt_ops, writes_of}
 use Rattle.daos_model.specs.declared.durable.Version.{Version}
-use Rattle.world_attempts.specs.History as history
-use Rattle.world_attempts.specs.History.{History}
+use Rattle.world_commit.specs.attempts.History as history
+use Rattle.world_commit.specs.attempts.History.{History}
 use Rattle.world_base.specs.declared.world.World.{World}
 use Rattle.world_base.specs.Events.{Rules}
-use Rattle.world_causes.specs.LastCauses.{ids}
-use Rattle.world_causes.specs.Storing as storing
-use Rattle.world_ends.specs.Ends.{durables_of}
-use Rattle.world_ends.specs.Took.{with_writes, written-minors}
-use Rattle.world_epochs.specs.PlainScripts.{NoSnapshots}
-use Rattle.world_reads.specs.Transactions.{decided_of, transactions}
+use Rattle.world_causes.specs.causes.LastCauses.{ids}
+use Rattle.world_causes.specs.causes.Storing as storing
+use Rattle.world_plain.specs.ends.Ends.{durables_of}
+use Rattle.world_plain.specs.ends.Took.{with_writes, written-minors}
+use Rattle.world_letters.specs.epochs.PlainScripts.{NoSnapshots}
+use Rattle.world_contents.specs.reads.Transactions.{decided_of, transactions}
 use Rattle.world_legal.specs.closing.Closing.{Concluded, IsToldOf}
 
 -- ---- as transactions

@@ -8,25 +8,25 @@ use Rattle.daos_model.specs.Attempts.{up_to_last_of}
 use Rattle.daos_model.specs.CausesShown.{StopsAfter}
 use Rattle.daos_model.specs.Durables.{entry_of, is_entry_of}
 use Rattle.model_laws.specs.Members.{Has}
-use Rattle.world_attempts.specs.Attempts.{IsBorn, entry_in, is_known_in, leader_of}
-use Rattle.world_attempts.specs.Counting.{has-taken}
-use Rattle.world_attempts.specs.History.{GrowsBy, History}
+use Rattle.world_commit.specs.attempts.Attempts.{IsBorn, entry_in, is_known_in, leader_of}
+use Rattle.world_commit.specs.attempts.Counting.{has-taken}
+use Rattle.world_commit.specs.attempts.History.{GrowsBy, History}
 use Rattle.world_base.specs.declared.target.TargetState.{TargetState}
 use Rattle.world_base.specs.declared.world.World.{World}
 use Rattle.world_base.specs.Events.{ByClient, ByTarget, Rules, ToClient, ToTarget}
 use Rattle.world_base.specs.Stops.{Draws, Fails, Further, GivenUp, Happening, IsCut, Opens, Plainly, swept}
-use Rattle.world_causes.specs.Lasting.{since-more}
-use Rattle.world_epochs.specs.Epochs.{IsPresent}
-use Rattle.world_fates.specs.Facts.{Attempts}
-use Rattle.world_fates.specs.Rightly.{letters-tell}
-use Rattle.world_handing.specs.Begun.{handed-where}
-use Rattle.world_hearing.specs.Going.{EntriesWrite}
-use Rattle.world_losses.specs.Clients.{of-others, present-not-over}
-use Rattle.world_outcomes.specs.Outcomes.{Outcomes}
-use Rattle.world_statuses.specs.Events.{HappensWithoutSnapshots, told_by}
-use Rattle.world_stops.specs.Happenings.{rightly}
-use Rattle.world_stops.specs.Stops.{sweeping-keeps}
-use Rattle.world_verdicts.specs.Verdicts.{HasWrites}
+use Rattle.world_causes.specs.causes.Lasting.{since-more}
+use Rattle.world_letters.specs.epochs.Epochs.{IsPresent}
+use Rattle.world_commit.specs.fates.Facts.{Attempts}
+use Rattle.world_commit.specs.fates.Rightly.{letters-tell}
+use Rattle.world_causes.specs.handing.Begun.{handed-where}
+use Rattle.world_causes.specs.hearing.Going.{EntriesWrite}
+use Rattle.world_causes.specs.losses.Clients.{of-others, present-not-over}
+use Rattle.world_causes.specs.outcomes.Outcomes.{Outcomes}
+use Rattle.world_commit.specs.statuses.Events.{HappensWithoutSnapshots, told_by}
+use Rattle.world_commit.specs.stops.Happenings.{rightly}
+use Rattle.world_commit.specs.stops.Stops.{sweeping-keeps}
+use Rattle.world_contents.specs.verdicts.Verdicts.{HasWrites}
 use Rattle.world_legal.specs.doubts.Clients.{Goes, IsBegun, going-goes, hearing-goes}
 use Rattle.world_legal.specs.doubts.Doubts.{Doubts, InFlight, InLines, IsInDoubt, IsToldCommitted, ItsLeaderStopped}
 use Rattle.world_legal.specs.doubts.Laws.{DoubtsBegin, EventsKeepDoubts, IsBeside}

@@ -1,21 +1,21 @@
 -- The laws of doubts, as statements.
 use Rattle.std.specs.Prelude.{◌≡◌, ◌<◌, []}
-use Rattle.world_attempts.specs.History.{GrowsBy, History}
+use Rattle.world_commit.specs.attempts.History.{GrowsBy, History}
 use Rattle.world_base.specs.declared.world.World.{World}
 use Rattle.world_base.specs.Events.{Rules}
 use Rattle.world_base.specs.Stops.{WorldEvent}
-use Rattle.world_fates.specs.Asked.{AskedRight}
-use Rattle.world_fates.specs.Facts.{Attempts}
-use Rattle.world_fates.specs.Keeping.{HasNoneYet}
-use Rattle.world_hearing.specs.Going.{EntriesWrite}
-use Rattle.world_lines.specs.Lines.{Endings, Lines}
-use Rattle.world_losses.specs.ClientHears.{LossesAreAsked}
-use Rattle.world_losses.specs.Losses.{Losses}
-use Rattle.world_outcomes.specs.Outcomes.{Outcomes}
-use Rattle.world_outcomes.specs.Premises.{AsksGoRight}
-use Rattle.world_statuses.specs.Events.{HappensWithoutSnapshots, told_by}
-use Rattle.world_waits.specs.Premises.{RequestsAreOfClients}
-use Rattle.world_waits.specs.Waits.{Conversation}
+use Rattle.world_commit.specs.fates.Asked.{AskedRight}
+use Rattle.world_commit.specs.fates.Facts.{Attempts}
+use Rattle.world_commit.specs.fates.Keeping.{HasNoneYet}
+use Rattle.world_causes.specs.hearing.Going.{EntriesWrite}
+use Rattle.world_letters.specs.lines.Lines.{Endings, Lines}
+use Rattle.world_causes.specs.losses.ClientHears.{LossesAreAsked}
+use Rattle.world_causes.specs.losses.Losses.{Losses}
+use Rattle.world_causes.specs.outcomes.Outcomes.{Outcomes}
+use Rattle.world_causes.specs.outcomes.Premises.{AsksGoRight}
+use Rattle.world_commit.specs.statuses.Events.{HappensWithoutSnapshots, told_by}
+use Rattle.world_letters.specs.waits.Premises.{RequestsAreOfClients}
+use Rattle.world_letters.specs.waits.Waits.{Conversation}
 use Rattle.world_legal.specs.doubts.Doubts.{Doubts}
 
 -- they hold where nothing is in flight, told or kept

@@ -20,19 +20,19 @@ use Rattle.dtx_base.specs.Leading.{LeaderOf, LeaderStep, down_told, ended, entry
 use Rattle.dtx_base.specs.RowLaws.{row-map, row-with, row-without}
 use Rattle.dtx_base.specs.Rows.{is_among, row_of, with_row, without_row}
 use Rattle.model_laws.specs.Members.{Has, has-cases}
-use Rattle.world_attempts.specs.History.{Tells}
-use Rattle.world_attempts.specs.Stored.{row-gone}
-use Rattle.world_attempts.specs.Turning.{one-or_other}
+use Rattle.world_commit.specs.attempts.History.{Tells}
+use Rattle.world_commit.specs.attempts.Stored.{row-gone}
+use Rattle.world_commit.specs.attempts.Turning.{one-or_other}
 use Rattle.world_base.specs.declared.request.CommitRequest.{CommitRequest}
 use Rattle.world_base.specs.declared.did.Did.{Did}
 use Rattle.world_base.specs.declared.target.TargetMemory.{TargetMemory}
-use Rattle.world_outcomes.specs.Outcomes.{commits}
-use Rattle.world_outcomes.specs.Telling.{end_to, post_to, single}
-use Rattle.world_talks.specs.Carriers as carrier
-use Rattle.world_talks.specs.LeaveLaws as leave
-use Rattle.world_talks.specs.LeaveLaws.{AckIs, CommitLeaves, ToTargets}
-use Rattle.world_waits.specs.Premises.{is_end}
-use Rattle.world_waits.specs.ResetTurns.{EndsWait, ResetIs, Stays}
+use Rattle.world_causes.specs.outcomes.Outcomes.{commits}
+use Rattle.world_causes.specs.outcomes.Telling.{end_to, post_to, single}
+use Rattle.world_letters.specs.talks.Carriers as carrier
+use Rattle.world_letters.specs.talks.LeaveLaws as leave
+use Rattle.world_letters.specs.talks.LeaveLaws.{AckIs, CommitLeaves, ToTargets}
+use Rattle.world_letters.specs.waits.Premises.{is_end}
+use Rattle.world_letters.specs.waits.ResetTurns.{EndsWait, ResetIs, Stays}
 
 -- ---- what is told
 

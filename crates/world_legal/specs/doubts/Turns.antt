@@ -19,10 +19,10 @@ use Rattle.dtx_base.specs.Joining as member
 use Rattle.dtx_base.specs.Leading.{LeaderOf, entry_led, knowing, reset_of, undecided_attempt}
 use Rattle.dtx_base.specs.Rows.{is_among, row_of}
 use Rattle.model_laws.specs.Members.{Has, has-cases, has-from_filter, has-map, has-right}
-use Rattle.world_attempts.specs.Attempts.{entry_at, entry_in, is_known_in, leader_of, row_in}
-use Rattle.world_attempts.specs.Counting.{has-taken}
-use Rattle.world_attempts.specs.History.{History, Tells}
-use Rattle.world_attempts.specs.MarkTurns.{led-found, target-is}
+use Rattle.world_commit.specs.attempts.Attempts.{entry_at, entry_in, is_known_in, leader_of, row_in}
+use Rattle.world_commit.specs.attempts.Counting.{has-taken}
+use Rattle.world_commit.specs.attempts.History.{History, Tells}
+use Rattle.world_commit.specs.attempts.MarkTurns.{led-found, target-is}
 use Rattle.world_base.specs.declared.did.Did.{Did}
 use Rattle.world_base.specs.declared.target.TargetMemory.{TargetMemory}
 use Rattle.world_base.specs.declared.target.TargetPlan.{TargetPlan}
@@ -40,21 +40,21 @@ use Rattle.world_base.specs.Roles.{is_in_doubt, leader_at, member_at}
 use Rattle.world_base.specs.Statuses.{status_refusal}
 use Rattle.world_base.specs.TargetTurns.{commit_request, fetch_request, prepare_request}
 use Rattle.world_base.specs.Turns.{Whole}
-use Rattle.world_fates.specs.Asked.{AskedRight}
-use Rattle.world_fates.specs.Facts.{Attempts, IsAckRight, IsRow, IsSaidSo, IsStateRight}
-use Rattle.world_fates.specs.Lefts.{fetch-left, mark-answers, marked-left, query-answers, verdict-left}
-use Rattle.world_fates.specs.Told.{silent_at}
-use Rattle.world_fates.specs.Working.{ArePlain, mild-untold, plain-mild}
-use Rattle.world_outcomes.specs.Premises.{AsksGoRight}
-use Rattle.world_outcomes.specs.Telling.{ack-tells, commit-ends, end_to, post_to, silent-tells, single}
-use Rattle.world_requests.specs.Rows.{commits-find}
-use Rattle.world_statuses.specs.Fates.{tells_fate, told_by_it}
-use Rattle.world_statuses.specs.Heard.{is_of_attempts}
-use Rattle.world_talks.specs.LeaveLaws as leave
-use Rattle.world_talks.specs.LeaveLaws.{AckIs, ToTargets}
-use Rattle.world_waits.specs.Premises.{RequestsAreOfClients}
-use Rattle.world_waits.specs.ResetTurns.{reset-is}
-use Rattle.world_waits.specs.StopTurns.{nothing-changes}
+use Rattle.world_commit.specs.fates.Asked.{AskedRight}
+use Rattle.world_commit.specs.fates.Facts.{Attempts, IsAckRight, IsRow, IsSaidSo, IsStateRight}
+use Rattle.world_commit.specs.fates.Lefts.{fetch-left, mark-answers, marked-left, query-answers, verdict-left}
+use Rattle.world_commit.specs.fates.Told.{silent_at}
+use Rattle.world_commit.specs.fates.Working.{ArePlain, mild-untold, plain-mild}
+use Rattle.world_causes.specs.outcomes.Premises.{AsksGoRight}
+use Rattle.world_causes.specs.outcomes.Telling.{ack-tells, commit-ends, end_to, post_to, silent-tells, single}
+use Rattle.world_commit.specs.requests.Rows.{commits-find}
+use Rattle.world_commit.specs.statuses.Fates.{tells_fate, told_by_it}
+use Rattle.world_commit.specs.statuses.Heard.{is_of_attempts}
+use Rattle.world_letters.specs.talks.LeaveLaws as leave
+use Rattle.world_letters.specs.talks.LeaveLaws.{AckIs, ToTargets}
+use Rattle.world_letters.specs.waits.Premises.{RequestsAreOfClients}
+use Rattle.world_letters.specs.waits.ResetTurns.{reset-is}
+use Rattle.world_letters.specs.waits.StopTurns.{nothing-changes}
 use Rattle.world_legal.specs.doubts.Rows.{EndsGoToClients, HasRow, LeavesRows, NoneCommitted, ack-rows, ask-rows, commit-rows, joins-untold, none-both, one-other, reset-rows, reset-untold, rows-same}
 
 -- ---- what tells no ends

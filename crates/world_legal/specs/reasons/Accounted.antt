@@ -3,18 +3,18 @@
 use Rattle.std.specs.Prelude.{ℕ, ◌++◌, List, []}
 use Rattle.daos_model.specs.declared.durable.Version.{Version}
 use Rattle.daos_model.specs.Opening.{Opening}
-use Rattle.world_attempts.specs.History.{Grew, History}
+use Rattle.world_commit.specs.attempts.History.{Grew, History}
 use Rattle.world_base.specs.declared.world.World.{World}
 use Rattle.world_base.specs.Events.{Rules}
 use Rattle.world_base.specs.Stops.{Begins, Goes, WorldEvent, WorldRun}
-use Rattle.world_causes.specs.Causes.{Stored}
-use Rattle.world_handing.specs.Groups.{ClientsAskWithin}
-use Rattle.world_losses.specs.Losses.{Losses}
-use Rattle.world_showing.specs.Happening.{stored_in}
-use Rattle.world_standing.specs.Standing.{Standing}
-use Rattle.world_stored.specs.Over.{StoringOver}
-use Rattle.world_whole.specs.Begins.{IsBegun, IsSimple, held_at, no_history}
-use Rattle.world_whole.specs.Everything.{AreBefore}
+use Rattle.world_causes.specs.causes.Causes.{Stored}
+use Rattle.world_causes.specs.handing.Groups.{ClientsAskWithin}
+use Rattle.world_causes.specs.losses.Losses.{Losses}
+use Rattle.world_causes.specs.showing.Happening.{stored_in}
+use Rattle.world_standing.specs.standing.Standing.{Standing}
+use Rattle.world_causes.specs.stored.Over.{StoringOver}
+use Rattle.world_plain.specs.whole.Begins.{IsBegun, IsSimple, held_at, no_history}
+use Rattle.world_plain.specs.whole.Everything.{AreBefore}
 use Rattle.world_legal.specs.reasons.Downs.{DownsAreTold}
 use Rattle.world_legal.specs.reasons.Knowing.{DownsAreKnown}
 

@@ -4,32 +4,32 @@ use Rattle.std.proofs.Common.{sym, subst}
 use Rattle.daos_model.specs.declared.durable.Version.{Version}
 use Rattle.daos_model.specs.Opening.{Opening}
 use Rattle.model_laws.specs.Members.{has-from_contains}
-use Rattle.world_attempts.specs.History.{History}
+use Rattle.world_commit.specs.attempts.History.{History}
 use Rattle.world_base.specs.declared.world.World.{World}
 use Rattle.world_base.specs.Events.{ByClient, ByTarget, Rules, ToClient, ToTarget}
 use Rattle.world_base.specs.Stops.{Draws, Fails, Further, GivenUp, Happening, IsCut, Opens, Plainly, WorldEvent}
-use Rattle.world_causes.specs.Causes.{Stored}
-use Rattle.world_ends.specs.PlainCauses.{plain-causes}
-use Rattle.world_handing.specs.Begun.{leaders-targets, losses-asked, readers-new}
-use Rattle.world_handing.specs.Fitting.{hears-fitly}
-use Rattle.world_handing.specs.Groups.{groups-stay}
-use Rattle.world_handing.specs.Handing.{commits-of_clients, hands-over}
-use Rattle.world_handing.specs.Losing.{open-held}
-use Rattle.world_handing.specs.Places.{places-right}
-use Rattle.world_handing.specs.Targets.{PlacesAreRight, asks-its_targets}
-use Rattle.world_handing.specs.Tellers.{are-begun, ends-told}
-use Rattle.world_losses.specs.Keeping.{AllBeside}
-use Rattle.world_losses.specs.Laws as losses
-use Rattle.world_losses.specs.Losses.{Losses}
-use Rattle.world_requests.specs.Rows.{commits-find}
-use Rattle.world_showing.specs.Happening.{stored_in}
-use Rattle.world_standing.specs.Events as stands
-use Rattle.world_standing.specs.Standing.{Standing}
-use Rattle.world_stored.specs.Happening.{IsHeardFitly, happening-over}
-use Rattle.world_stored.specs.Over.{IsStoringKnown, StoringOver}
-use Rattle.world_stored.specs.Stopping.{sweep-keeps}
-use Rattle.world_whole.specs.Begins.{IsSimple}
-use Rattle.world_whole.specs.Everything.{AreBefore}
+use Rattle.world_causes.specs.causes.Causes.{Stored}
+use Rattle.world_plain.specs.ends.PlainCauses.{plain-causes}
+use Rattle.world_causes.specs.handing.Begun.{leaders-targets, losses-asked, readers-new}
+use Rattle.world_causes.specs.handing.Fitting.{hears-fitly}
+use Rattle.world_causes.specs.handing.Groups.{groups-stay}
+use Rattle.world_causes.specs.handing.Handing.{commits-of_clients, hands-over}
+use Rattle.world_causes.specs.handing.Losing.{open-held}
+use Rattle.world_causes.specs.handing.Places.{places-right}
+use Rattle.world_causes.specs.handing.Targets.{PlacesAreRight, asks-its_targets}
+use Rattle.world_causes.specs.handing.Tellers.{are-begun, ends-told}
+use Rattle.world_causes.specs.losses.Keeping.{AllBeside}
+use Rattle.world_causes.specs.losses.Laws as losses
+use Rattle.world_causes.specs.losses.Losses.{Losses}
+use Rattle.world_commit.specs.requests.Rows.{commits-find}
+use Rattle.world_causes.specs.showing.Happening.{stored_in}
+use Rattle.world_standing.specs.standing.Events as stands
+use Rattle.world_standing.specs.standing.Standing.{Standing}
+use Rattle.world_causes.specs.stored.Happening.{IsHeardFitly, happening-over}
+use Rattle.world_causes.specs.stored.Over.{IsStoringKnown, StoringOver}
+use Rattle.world_causes.specs.stored.Stopping.{sweep-keeps}
+use Rattle.world_plain.specs.whole.Begins.{IsSimple}
+use Rattle.world_plain.specs.whole.Everything.{AreBefore}
 use Rattle.world_legal.specs.reasons.Accounted.{Accounted, AccountedStill, EventsKeepAccounts}
 use Rattle.world_legal.specs.reasons.Downs.{DownsAreTold, events-keep-downs}
 use Rattle.world_legal.specs.reasons.Knowing.{DownsAreKnown, events-keep-known}

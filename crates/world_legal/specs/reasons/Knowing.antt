@@ -9,11 +9,11 @@ use Rattle.base_messages.specs.declared.message.Message.TheVariants as message
 use Rattle.daos_model.specs.Changes.{reopened}
 use Rattle.dtx_base.specs.Members.{has_target}
 use Rattle.model_laws.specs.Members.{Has, has-left}
-use Rattle.world_asks.specs.RowsKept.{IsFresh, hears-rows}
-use Rattle.world_attempts.specs.Attempts.{row_in}
-use Rattle.world_attempts.specs.Counting.{has-taken}
-use Rattle.world_attempts.specs.History.{History}
-use Rattle.world_attempts.specs.MemberBits.{has-none}
+use Rattle.world_commit.specs.asks.RowsKept.{IsFresh, hears-rows}
+use Rattle.world_commit.specs.attempts.Attempts.{row_in}
+use Rattle.world_commit.specs.attempts.Counting.{has-taken}
+use Rattle.world_commit.specs.attempts.History.{History}
+use Rattle.world_commit.specs.attempts.MemberBits.{has-none}
 use Rattle.world_base.specs.declared.target.Life.TheVariants.{Down}
 use Rattle.world_base.specs.declared.target.TargetState.{TargetState}
 use Rattle.world_base.specs.declared.world.World.{World}
@@ -21,15 +21,15 @@ use Rattle.world_base.specs.Events.{ByClient, ByTarget, Rules, TargetHearsRightl
 use Rattle.world_base.specs.MemoryLaws.{idle-leaves}
 use Rattle.world_base.specs.Statuses.{opening_memory}
 use Rattle.world_base.specs.Stops.{Draws, Fails, Further, GivenUp, Happening, HearsMore, IsCut, Opens, Plainly, WorldEvent, opened_at, stopped_at, stops_so_far}
-use Rattle.world_fates.specs.Facts.{Attempts}
-use Rattle.world_fates.specs.Rightly.{letters-tell}
-use Rattle.world_questions.specs.Flying.{IsWithoutCollections}
-use Rattle.world_questions.specs.Hearing.{is_of_stops}
-use Rattle.world_questions.specs.Sending.{TellsOfDown, more-down}
-use Rattle.world_reads.specs.EventLaws.{at-or-there}
-use Rattle.world_requests.specs.Rows.{CommitsFindNoRow}
-use Rattle.world_stops.specs.Happenings.{rightly}
-use Rattle.world_stops.specs.Questions.{opening-down}
+use Rattle.world_commit.specs.fates.Facts.{Attempts}
+use Rattle.world_commit.specs.fates.Rightly.{letters-tell}
+use Rattle.world_commit.specs.questions.Flying.{IsWithoutCollections}
+use Rattle.world_commit.specs.questions.Hearing.{is_of_stops}
+use Rattle.world_commit.specs.questions.Sending.{TellsOfDown, more-down}
+use Rattle.world_contents.specs.reads.EventLaws.{at-or-there}
+use Rattle.world_commit.specs.requests.Rows.{CommitsFindNoRow}
+use Rattle.world_commit.specs.stops.Happenings.{rightly}
+use Rattle.world_commit.specs.stops.Questions.{opening-down}
 use Rattle.world_legal.specs.reasons.Downs.{DownsAreTold, TellsDown}
 
 -- ---- the fact

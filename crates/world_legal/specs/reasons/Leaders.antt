@@ -25,11 +25,11 @@ use Rattle.dtx_base.specs.declared.leading.Undecided.{Undecided}
 use Rattle.dtx_base.specs.Leading.{LeaderOf, entry_led, first_down, is_down_among, undecided_of}
 use Rattle.dtx_base.specs.Members.{all_targets, has_target}
 use Rattle.model_laws.specs.Members.{Has, contains-from_has}
-use Rattle.world_addresses.specs.TurnAddresses.{bit-of}
-use Rattle.world_attempts.specs.Attempts.{IsOther, entry_in, row_in}
-use Rattle.world_attempts.specs.Asked.{IsCommitNew}
-use Rattle.world_attempts.specs.History.{History}
-use Rattle.world_attempts.specs.MarkTurns.{led-found}
+use Rattle.world_letters.specs.addresses.TurnAddresses.{bit-of}
+use Rattle.world_commit.specs.attempts.Attempts.{IsOther, entry_in, row_in}
+use Rattle.world_commit.specs.attempts.Asked.{IsCommitNew}
+use Rattle.world_commit.specs.attempts.History.{History}
+use Rattle.world_commit.specs.attempts.MarkTurns.{led-found}
 use Rattle.world_base.specs.declared.letter.Letter.{Letter}
 use Rattle.world_base.specs.declared.request.CommitRequest.{CommitRequest}
 use Rattle.world_base.specs.declared.target.TargetState.{TargetState}
@@ -39,25 +39,25 @@ use Rattle.world_base.specs.Events.{Rules, target_plan}
 use Rattle.world_base.specs.Letters.{client, target}
 use Rattle.world_base.specs.Roles.{leader_at}
 use Rattle.world_base.specs.Statuses.{down_of, status_refusal}
-use Rattle.world_causes.specs.Causes.{Stored, epochs_told}
-use Rattle.world_causes.specs.Lasting.{refusal-shows}
-use Rattle.world_causes.specs.MemberTurns.{IsAck}
-use Rattle.world_causes.specs.ReadTurns.{none-told}
-use Rattle.world_causes.specs.Requests.{found-row}
-use Rattle.world_causes.specs.Shown.{Causes, MeetsUnresolved, MessageStands, OutcomeStands, limit_over}
-use Rattle.world_epochs.specs.Epochs.{IsPresent}
-use Rattle.world_fates.specs.Facts.{IsAskedSo, IsSaidSo}
-use Rattle.world_handing.specs.Dates.{epochs-of_commits}
-use Rattle.world_handing.specs.Handing.{asked-right, hands-over}
-use Rattle.world_handing.specs.Places.{snapshots-read}
-use Rattle.world_handing.specs.Targets.{member-is_target, other-is_target}
-use Rattle.world_losses.specs.Losses.{tells_stop}
-use Rattle.world_outcomes.specs.Premises.{hands}
-use Rattle.world_showing.specs.Further.{AsksAfter, IsAskKnown, IsGone, TellsReset}
-use Rattle.world_standing.specs.Requests.{Heard}
-use Rattle.world_statuses.specs.Senders.{IsSentRightly}
-use Rattle.world_talks.specs.Asked.{commit_of}
-use Rattle.world_whole.specs.Begins.{IsSimple}
+use Rattle.world_causes.specs.causes.Causes.{Stored, epochs_told}
+use Rattle.world_causes.specs.causes.Lasting.{refusal-shows}
+use Rattle.world_causes.specs.causes.MemberTurns.{IsAck}
+use Rattle.world_causes.specs.causes.ReadTurns.{none-told}
+use Rattle.world_causes.specs.causes.Requests.{found-row}
+use Rattle.world_causes.specs.causes.Shown.{Causes, MeetsUnresolved, MessageStands, OutcomeStands, limit_over}
+use Rattle.world_letters.specs.epochs.Epochs.{IsPresent}
+use Rattle.world_commit.specs.fates.Facts.{IsAskedSo, IsSaidSo}
+use Rattle.world_causes.specs.handing.Dates.{epochs-of_commits}
+use Rattle.world_causes.specs.handing.Handing.{asked-right, hands-over}
+use Rattle.world_causes.specs.handing.Places.{snapshots-read}
+use Rattle.world_causes.specs.handing.Targets.{member-is_target, other-is_target}
+use Rattle.world_causes.specs.losses.Losses.{tells_stop}
+use Rattle.world_causes.specs.outcomes.Premises.{hands}
+use Rattle.world_causes.specs.showing.Further.{AsksAfter, IsAskKnown, IsGone, TellsReset}
+use Rattle.world_standing.specs.standing.Requests.{Heard}
+use Rattle.world_commit.specs.statuses.Senders.{IsSentRightly}
+use Rattle.world_letters.specs.talks.Asked.{commit_of}
+use Rattle.world_plain.specs.whole.Begins.{IsSimple}
 use Rattle.world_legal.specs.reasons.Accounted.{Accounted}
 use Rattle.world_legal.specs.reasons.Downs.{TellsDown}
 use Rattle.world_legal.specs.reasons.Waiting.{waiter-present}

@@ -12,9 +12,9 @@ use Rattle.daos_model.specs.Blocks.{blocks}
 use Rattle.daos_model.specs.Opening.{Opening, top}
 use Rattle.dtx_base.specs.Members as members
 use Rattle.model_laws.specs.Members.{Has, contains-from_has, has-from_filter}
-use Rattle.world_attempts.specs.Asked.{IsCommitNew}
-use Rattle.world_attempts.specs.Attempts.{IsOther, entry_at, entry_in, leader_of, writes_of}
-use Rattle.world_attempts.specs.History.{History}
+use Rattle.world_commit.specs.attempts.Asked.{IsCommitNew}
+use Rattle.world_commit.specs.attempts.Attempts.{IsOther, entry_at, entry_in, leader_of, writes_of}
+use Rattle.world_commit.specs.attempts.History.{History}
 use Rattle.world_base.specs.declared.letter.Letter.{Letter}
 use Rattle.world_base.specs.declared.request.CommitRequest.{CommitRequest}
 use Rattle.world_base.specs.declared.request.FetchRequest.{FetchRequest}
@@ -26,31 +26,31 @@ use Rattle.world_base.specs.Commits as commit
 use Rattle.world_base.specs.Events.{Rules, client_plan, kept, target_plan}
 use Rattle.world_base.specs.Letters.{Takes, client, target}
 use Rattle.world_base.specs.Requests.{fetch_message}
-use Rattle.world_causes.specs.Causes.{Stored}
-use Rattle.world_causes.specs.CommitTurns.{IsCommit}
-use Rattle.world_causes.specs.PrepareTurns.{IsPrepare}
-use Rattle.world_causes.specs.ReadTurns.{IsFetch}
-use Rattle.world_causes.specs.Requests.{commit-asked, fetch-asked, leader-holds, prepare-to, prepared-blocks}
-use Rattle.world_causes.specs.Shown.{Causes}
-use Rattle.world_epochs.specs.Epochs.{PlainEpochs, reads_snapshot}
-use Rattle.world_epochs.specs.PlainLaws.{plain-epochs}
-use Rattle.world_epochs.specs.PlainScripts.{at-none}
-use Rattle.world_fates.specs.Facts.{IsPrepareRight, IsSaidSo}
-use Rattle.world_firsts.specs.Firsts.{MessageTells}
-use Rattle.world_handing.specs.Dates.{epochs-of_commits}
-use Rattle.world_handing.specs.Handing as handing
-use Rattle.world_handing.specs.Handing.{IsAskedBy, IsCommitAsked, asked-right}
-use Rattle.world_handing.specs.Places.{snapshots-read}
-use Rattle.world_handing.specs.Targets.{other-is_target, question-target}
-use Rattle.world_standing.specs.Requests.{Heard}
-use Rattle.world_talks.specs.AskLaws.{sent-is-asked}
-use Rattle.world_talks.specs.Asked.{commit_of}
-use Rattle.world_talks.specs.InFlight.{HearsRequest}
-use Rattle.world_talks.specs.TalkLaws.{taken-from}
-use Rattle.world_waits.specs.ClientLaws.{question-about}
-use Rattle.world_waits.specs.Requests.{is_request}
-use Rattle.world_waits.specs.Waits.{IsQuestion, ItsAsk, ItsRequest}
-use Rattle.world_whole.specs.Begins.{IsSimple}
+use Rattle.world_causes.specs.causes.Causes.{Stored}
+use Rattle.world_causes.specs.causes.CommitTurns.{IsCommit}
+use Rattle.world_causes.specs.causes.PrepareTurns.{IsPrepare}
+use Rattle.world_causes.specs.causes.ReadTurns.{IsFetch}
+use Rattle.world_causes.specs.causes.Requests.{commit-asked, fetch-asked, leader-holds, prepare-to, prepared-blocks}
+use Rattle.world_causes.specs.causes.Shown.{Causes}
+use Rattle.world_letters.specs.epochs.Epochs.{PlainEpochs, reads_snapshot}
+use Rattle.world_letters.specs.epochs.PlainLaws.{plain-epochs}
+use Rattle.world_letters.specs.epochs.PlainScripts.{at-none}
+use Rattle.world_commit.specs.fates.Facts.{IsPrepareRight, IsSaidSo}
+use Rattle.world_causes.specs.firsts.Firsts.{MessageTells}
+use Rattle.world_causes.specs.handing.Dates.{epochs-of_commits}
+use Rattle.world_causes.specs.handing.Handing as handing
+use Rattle.world_causes.specs.handing.Handing.{IsAskedBy, IsCommitAsked, asked-right}
+use Rattle.world_causes.specs.handing.Places.{snapshots-read}
+use Rattle.world_causes.specs.handing.Targets.{other-is_target, question-target}
+use Rattle.world_standing.specs.standing.Requests.{Heard}
+use Rattle.world_letters.specs.talks.AskLaws.{sent-is-asked}
+use Rattle.world_letters.specs.talks.Asked.{commit_of}
+use Rattle.world_letters.specs.talks.InFlight.{HearsRequest}
+use Rattle.world_letters.specs.talks.TalkLaws.{taken-from}
+use Rattle.world_letters.specs.waits.ClientLaws.{question-about}
+use Rattle.world_letters.specs.waits.Requests.{is_request}
+use Rattle.world_letters.specs.waits.Waits.{IsQuestion, ItsAsk, ItsRequest}
+use Rattle.world_plain.specs.whole.Begins.{IsSimple}
 use Rattle.world_legal.specs.reasons.Accounted.{Accounted}
 use Rattle.world_legal.specs.reasons.Events.{places}
 

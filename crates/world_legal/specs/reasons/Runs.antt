@@ -6,13 +6,13 @@ use Rattle.daos_model.specs.Opening.{Opening}
 use Rattle.world_base.specs.declared.world.World.{World}
 use Rattle.world_base.specs.Events.{Rules, client_plan}
 use Rattle.world_base.specs.Stops.{Begins, Goes}
-use Rattle.world_handing.specs.Groups.{ClientsAskWithin, IsWithin}
-use Rattle.world_losses.specs.Beginning.{losses-begin}
-use Rattle.world_standing.specs.Runs.{none-yet, standing-begins}
-use Rattle.world_stored.specs.Happening.{storing-begins}
-use Rattle.world_whole.specs.BeginLaws.{idle}
-use Rattle.world_whole.specs.Begins.{IsBegun, IsSimple, held_at, no_history}
-use Rattle.world_whole.specs.Whole.{held-before}
+use Rattle.world_causes.specs.handing.Groups.{ClientsAskWithin, IsWithin}
+use Rattle.world_causes.specs.losses.Beginning.{losses-begin}
+use Rattle.world_standing.specs.standing.Runs.{none-yet, standing-begins}
+use Rattle.world_causes.specs.stored.Happening.{storing-begins}
+use Rattle.world_plain.specs.whole.BeginLaws.{idle}
+use Rattle.world_plain.specs.whole.Begins.{IsBegun, IsSimple, held_at, no_history}
+use Rattle.world_plain.specs.whole.Whole.{held-before}
 use Rattle.world_legal.specs.reasons.Accounted.{Accounted, RunsAreAccounted, stored_over}
 use Rattle.world_legal.specs.reasons.Downs.{downs-begin}
 use Rattle.world_legal.specs.reasons.Knowing.{known-begin}

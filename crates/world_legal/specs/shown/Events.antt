@@ -3,31 +3,31 @@ use Rattle.std.specs.Prelude.{ℕ, ◌++◌, List, [], slice_get}
 use Rattle.std.proofs.Common.{sym, ◌∙◌, ap, subst}
 use Rattle.daos_model.specs.declared.durable.Version.{Version}
 use Rattle.daos_model.specs.Opening.{Opening, top}
-use Rattle.world_attempts.specs.History.{History}
+use Rattle.world_commit.specs.attempts.History.{History}
 use Rattle.world_base.specs.declared.world.World.{World}
 use Rattle.world_base.specs.Events.{Rules}
 use Rattle.world_base.specs.Stops.{Begins, Goes, WorldEvent}
-use Rattle.world_causes.specs.Causes.{Stored}
-use Rattle.world_causes.specs.Shown.{Causes}
-use Rattle.world_causes.specs.ShownLaws.{plain-causes-stand}
+use Rattle.world_causes.specs.causes.Causes.{Stored}
+use Rattle.world_causes.specs.causes.Shown.{Causes}
+use Rattle.world_causes.specs.causes.ShownLaws.{plain-causes-stand}
 use Rattle.world_legal.specs.doubts.Doubts.{Doubts}
 use Rattle.world_legal.specs.doubts.Events.{doubts-begin, events-keep-doubts}
 use Rattle.world_legal.specs.doubts.Laws.{IsBeside}
-use Rattle.world_ends.specs.Carried.{carried-begins}
-use Rattle.world_ends.specs.PlainCauses.{plain-causes}
-use Rattle.world_epochs.specs.PlainLaws.{plain-epochs}
-use Rattle.world_handing.specs.Begun.{losses-asked}
-use Rattle.world_handing.specs.Handing.{asks-right}
+use Rattle.world_plain.specs.ends.Carried.{carried-begins}
+use Rattle.world_plain.specs.ends.PlainCauses.{plain-causes}
+use Rattle.world_letters.specs.epochs.PlainLaws.{plain-epochs}
+use Rattle.world_causes.specs.handing.Begun.{losses-asked}
+use Rattle.world_causes.specs.handing.Handing.{asks-right}
 use Rattle.world_legal.specs.reasons.Accounted.{Accounted, stored_over}
 use Rattle.world_legal.specs.reasons.Events as accounts
 use Rattle.world_legal.specs.reasons.Runs.{accounts-begin}
-use Rattle.world_showing.specs.Happening.{IsKnown, happening-keeps, stored_in}
-use Rattle.world_showing.specs.Stopping.{sweep-keeps}
-use Rattle.world_standing.specs.Events as stands
-use Rattle.world_standing.specs.Runs.{none-yet}
-use Rattle.world_whole.specs.Begins.{IsSimple, held_at, no_history}
-use Rattle.world_whole.specs.Everything.{AreBefore}
-use Rattle.world_whole.specs.Whole.{held-before}
+use Rattle.world_causes.specs.showing.Happening.{IsKnown, happening-keeps, stored_in}
+use Rattle.world_causes.specs.showing.Stopping.{sweep-keeps}
+use Rattle.world_standing.specs.standing.Events as stands
+use Rattle.world_standing.specs.standing.Runs.{none-yet}
+use Rattle.world_plain.specs.whole.Begins.{IsSimple, held_at, no_history}
+use Rattle.world_plain.specs.whole.Everything.{AreBefore}
+use Rattle.world_plain.specs.whole.Whole.{held-before}
 use Rattle.world_legal.specs.shown.Explained.{EventsKeepExplanations, Explained, ExplainedStill, RunsAreExplained, RunsBeginExplained, RunsShowCauses, WhatIsHeardIsKnown}
 use Rattle.world_legal.specs.shown.Known.{heard-known}
 

@@ -2,17 +2,17 @@
 use Rattle.std.specs.Prelude.{ℕ, ◌++◌, List, []}
 use Rattle.daos_model.specs.declared.durable.Version.{Version}
 use Rattle.daos_model.specs.Opening.{Opening}
-use Rattle.world_attempts.specs.History.{Grew, History}
+use Rattle.world_commit.specs.attempts.History.{Grew, History}
 use Rattle.world_base.specs.declared.world.World.{World}
 use Rattle.world_base.specs.Events.{Rules}
 use Rattle.world_base.specs.Stops.{Happening, WorldEvent, WorldRun}
-use Rattle.world_causes.specs.Causes.{Stored}
-use Rattle.world_causes.specs.Shown.{Causes}
+use Rattle.world_causes.specs.causes.Causes.{Stored}
+use Rattle.world_causes.specs.causes.Shown.{Causes}
 use Rattle.world_legal.specs.doubts.Doubts.{Doubts}
 use Rattle.world_legal.specs.reasons.Accounted.{Accounted, stored_over}
-use Rattle.world_showing.specs.Happening.{IsHeardKnown, stored_in}
-use Rattle.world_whole.specs.Begins.{IsBegun, IsSimple, held_at, no_history}
-use Rattle.world_whole.specs.Everything.{AreBefore}
+use Rattle.world_causes.specs.showing.Happening.{IsHeardKnown, stored_in}
+use Rattle.world_plain.specs.whole.Begins.{IsBegun, IsSimple, held_at, no_history}
+use Rattle.world_plain.specs.whole.Everything.{AreBefore}
 
 -- ---- the facts
 

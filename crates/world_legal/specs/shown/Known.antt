@@ -14,8 +14,8 @@ use Rattle.dtx_base.specs.declared.member.Parked.{Parked}
 use Rattle.dtx_base.specs.Joining.{is_asker, is_waiting}
 use Rattle.dtx_base.specs.LeaderLaws.{same-is}
 use Rattle.model_laws.specs.Members.{Has, contains-from_has}
-use Rattle.world_attempts.specs.Counting.{has-taken}
-use Rattle.world_attempts.specs.History.{History}
+use Rattle.world_commit.specs.attempts.Counting.{has-taken}
+use Rattle.world_commit.specs.attempts.History.{History}
 use Rattle.world_base.specs.declared.letter.Letter.{Letter}
 use Rattle.world_base.specs.declared.target.Life.TheVariants.{Running}
 use Rattle.world_base.specs.declared.target.TargetState.{TargetState}
@@ -23,25 +23,25 @@ use Rattle.world_base.specs.declared.world.World.{World}
 use Rattle.world_base.specs.Events.{ByClient, ByTarget, Rules, ToClient, ToTarget, target_plan}
 use Rattle.world_base.specs.Letters.{target}
 use Rattle.world_base.specs.Stops.{Draws, Fails, Further, GivenUp, Happening, IsCut, Opens, Plainly}
-use Rattle.world_causes.specs.Causes.{IsUndecidedFor, Stored}
-use Rattle.world_causes.specs.Floors.{floors-told}
-use Rattle.world_causes.specs.Heard.{IsHeardAs, IsKnownAt}
-use Rattle.world_causes.specs.Requests.{stamps-of-reads}
-use Rattle.world_causes.specs.Shown.{Causes, IsOpenTo}
-use Rattle.world_causes.specs.Unsettled.{versions-written}
-use Rattle.world_causes.specs.VerdictTurns.{IsAskFit, IsVerdict}
+use Rattle.world_causes.specs.causes.Causes.{IsUndecidedFor, Stored}
+use Rattle.world_causes.specs.causes.Floors.{floors-told}
+use Rattle.world_causes.specs.causes.Heard.{IsHeardAs, IsKnownAt}
+use Rattle.world_causes.specs.causes.Requests.{stamps-of-reads}
+use Rattle.world_causes.specs.causes.Shown.{Causes, IsOpenTo}
+use Rattle.world_causes.specs.causes.Unsettled.{versions-written}
+use Rattle.world_causes.specs.causes.VerdictTurns.{IsAskFit, IsVerdict}
 use Rattle.world_legal.specs.doubts.Doubts.{Doubts}
-use Rattle.world_epochs.specs.Epochs.{IsPresent, PlainEpochs}
-use Rattle.world_epochs.specs.PlainLaws.{plain-epochs}
-use Rattle.world_losses.specs.ClientHears.{TellsLoss}
+use Rattle.world_letters.specs.epochs.Epochs.{IsPresent, PlainEpochs}
+use Rattle.world_letters.specs.epochs.PlainLaws.{plain-epochs}
+use Rattle.world_causes.specs.losses.ClientHears.{TellsLoss}
 use Rattle.world_legal.specs.reasons.Accounted.{Accounted}
 use Rattle.world_legal.specs.reasons.Hearing.{hear-of_stops}
 use Rattle.world_legal.specs.reasons.Leaders.{acks-known, asks-known, commits-meet, lost-questions-known, states-known}
 use Rattle.world_legal.specs.reasons.Requests.{commits-known, fetches-known, prepares-known}
-use Rattle.world_showing.specs.Further.{IsHeardFurther, IsResetKnown, TellsReset}
-use Rattle.world_showing.specs.Happening.{IsHeardKnown}
-use Rattle.world_whole.specs.Begins.{IsSimple}
-use Rattle.world_whole.specs.Everything.{AreBefore}
+use Rattle.world_causes.specs.showing.Further.{IsHeardFurther, IsResetKnown, TellsReset}
+use Rattle.world_causes.specs.showing.Happening.{IsHeardKnown}
+use Rattle.world_plain.specs.whole.Begins.{IsSimple}
+use Rattle.world_plain.specs.whole.Everything.{AreBefore}
 use Rattle.world_legal.specs.shown.Open.{opens-here, query-open, stopped-open}
 use Rattle.world_legal.specs.shown.Parked.{parked-fit, parked-meets, parked-present}
 

@@ -19,11 +19,11 @@ use Rattle.dtx_base.specs.Leading.{entry_led, query_answer, verdict_on}
 use Rattle.dtx_base.specs.Rows.{is_among}
 use Rattle.model_laws.specs.Lists.{any-of}
 use Rattle.model_laws.specs.Members.{Has, any-has, contains-from_has, has-any}
-use Rattle.world_attempts.specs.Attempts.{IsItsEntry, IsOther, entry_at, entry_in, is_known_at, is_known_in, leader_of}
-use Rattle.world_attempts.specs.History.{History}
-use Rattle.world_attempts.specs.MarkTurns.{led-found}
-use Rattle.world_attempts.specs.MemberBits.{other-no_leader}
-use Rattle.world_attempts.specs.Stored.{among-is}
+use Rattle.world_commit.specs.attempts.Attempts.{IsItsEntry, IsOther, entry_at, entry_in, is_known_at, is_known_in, leader_of}
+use Rattle.world_commit.specs.attempts.History.{History}
+use Rattle.world_commit.specs.attempts.MarkTurns.{led-found}
+use Rattle.world_commit.specs.attempts.MemberBits.{other-no_leader}
+use Rattle.world_commit.specs.attempts.Stored.{among-is}
 use Rattle.world_base.specs.declared.target.TargetState.{TargetState}
 use Rattle.world_base.specs.declared.target.TargetPlan.{TargetPlan}
 use Rattle.world_base.specs.declared.world.World.{World}
@@ -32,19 +32,19 @@ use Rattle.world_base.specs.Roles.{leader_at, other_leader, other_leader_of}
 use Rattle.daos_model.specs.declared.durable.Durable.{Durable}
 use Rattle.daos_model.specs.declared.durable.Version.{Version}
 use Rattle.daos_model.specs.Opening.{Opening, top}
-use Rattle.world_causes.specs.Paths.{AreOpen, IsKnown, IsMet, IsOpenStill, IsOthers}
-use Rattle.world_causes.specs.ReadTurns.{unended-open}
-use Rattle.world_causes.specs.Shown.{IsOpenToAll, IsUnknown, LeaderStopped}
-use Rattle.world_causes.specs.Turns.{HasNoLine}
-use Rattle.world_causes.specs.Unsettled.{versions-prepared}
+use Rattle.world_causes.specs.causes.Paths.{AreOpen, IsKnown, IsMet, IsOpenStill, IsOthers}
+use Rattle.world_causes.specs.causes.ReadTurns.{unended-open}
+use Rattle.world_causes.specs.causes.Shown.{IsOpenToAll, IsUnknown, LeaderStopped}
+use Rattle.world_causes.specs.causes.Turns.{HasNoLine}
+use Rattle.world_causes.specs.causes.Unsettled.{versions-prepared}
 use Rattle.world_legal.specs.doubts.Doubts.{Doubts, InLines, IsInDoubt, ItsLeaderStopped}
 use Rattle.world_legal.specs.doubts.Recounting.{entry-writes}
-use Rattle.world_epochs.specs.Epochs.{PlainEpochs}
-use Rattle.world_fates.specs.Facts.{Attempts}
-use Rattle.world_hearing.specs.Going.{EntriesWrite}
-use Rattle.world_outcomes.specs.Outcomes.{Outcomes, is_failed}
-use Rattle.world_reads.specs.Versions.{IsPreparedAt, Versions}
-use Rattle.world_verdicts.specs.Verdicts.{HasWrites}
+use Rattle.world_letters.specs.epochs.Epochs.{PlainEpochs}
+use Rattle.world_commit.specs.fates.Facts.{Attempts}
+use Rattle.world_causes.specs.hearing.Going.{EntriesWrite}
+use Rattle.world_causes.specs.outcomes.Outcomes.{Outcomes, is_failed}
+use Rattle.world_contents.specs.reads.Versions.{IsPreparedAt, Versions}
+use Rattle.world_contents.specs.verdicts.Verdicts.{HasWrites}
 
 -- ---- lines
 

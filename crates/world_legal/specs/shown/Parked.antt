@@ -17,7 +17,7 @@ use Rattle.dtx_base.specs.declared.member.Parked.{Parked}
 use Rattle.model_laws.specs.Lists.{has-at}
 use Rattle.model_laws.specs.Members.{Has, contains-from_has, has-filter, has-left, has-map, has-right}
 use Rattle.model_laws.specs.TargetLaws.{same_number}
-use Rattle.world_attempts.specs.History.{History}
+use Rattle.world_commit.specs.attempts.History.{History}
 use Rattle.world_base.specs.declared.client.ClientState.{ClientState}
 use Rattle.world_base.specs.declared.client.Present.{Present}
 use Rattle.world_base.specs.declared.request.FetchRequest.{FetchRequest}
@@ -29,27 +29,27 @@ use Rattle.world_base.specs.Letters.{talk_of, target}
 use Rattle.world_base.specs.Reads.{fetch_at}
 use Rattle.world_base.specs.Requests.{fetch_message}
 use Rattle.world_base.specs.TargetTurns.{fetch_request}
-use Rattle.world_causes.specs.Causes.{MeetsOther, Stored}
-use Rattle.world_causes.specs.Growth.{question-asks}
-use Rattle.world_causes.specs.Premises.{MessageBears}
-use Rattle.world_causes.specs.Shown.{Causes, IsFirstOf, limit_over}
-use Rattle.world_causes.specs.VerdictTurns.{IsAskFit}
-use Rattle.world_epochs.specs.Asking.{ops-at}
-use Rattle.world_epochs.specs.Epochs.{BearsEpoch, BearsIssued, IsPresent, PlainEpochs}
-use Rattle.world_epochs.specs.PlainLaws.{plain-epochs}
-use Rattle.world_epochs.specs.PlainScripts.{at-none}
-use Rattle.world_firsts.specs.Firsts.{GoesWith}
-use Rattle.world_handing.specs.Targets.{question-target}
+use Rattle.world_causes.specs.causes.Causes.{MeetsOther, Stored}
+use Rattle.world_causes.specs.causes.Growth.{question-asks}
+use Rattle.world_causes.specs.causes.Premises.{MessageBears}
+use Rattle.world_causes.specs.causes.Shown.{Causes, IsFirstOf, limit_over}
+use Rattle.world_causes.specs.causes.VerdictTurns.{IsAskFit}
+use Rattle.world_letters.specs.epochs.Asking.{ops-at}
+use Rattle.world_letters.specs.epochs.Epochs.{BearsEpoch, BearsIssued, IsPresent, PlainEpochs}
+use Rattle.world_letters.specs.epochs.PlainLaws.{plain-epochs}
+use Rattle.world_letters.specs.epochs.PlainScripts.{at-none}
+use Rattle.world_causes.specs.firsts.Firsts.{GoesWith}
+use Rattle.world_causes.specs.handing.Targets.{question-target}
 use Rattle.dtx_base.specs.Joining.{asker}
 use Rattle.world_legal.specs.reasons.Accounted.{Accounted}
 use Rattle.world_legal.specs.reasons.Events.{places}
-use Rattle.world_standing.specs.Requests.{Heard}
-use Rattle.world_talks.specs.AskLaws.{asked-read, sent-is-asked}
-use Rattle.world_talks.specs.Asked.{Asked, AsksRead}
-use Rattle.world_waits.specs.ClientLaws.{present-of}
-use Rattle.world_waits.specs.Passing.{held-beside}
-use Rattle.world_waits.specs.Waits.{ARead, Conversation, Held, HoldsIt, IsAsked, IsHeld, IsQuestion, IsReplied, ItsAsk, ItsRequest, ParkedAt, TalksSo, collected_at, held_by, held_of, is_collected_of, is_open_of, is_parked_of, asked_of, open_at, parked_at}
-use Rattle.world_whole.specs.Begins.{IsSimple}
+use Rattle.world_standing.specs.standing.Requests.{Heard}
+use Rattle.world_letters.specs.talks.AskLaws.{asked-read, sent-is-asked}
+use Rattle.world_letters.specs.talks.Asked.{Asked, AsksRead}
+use Rattle.world_letters.specs.waits.ClientLaws.{present-of}
+use Rattle.world_letters.specs.waits.Passing.{held-beside}
+use Rattle.world_letters.specs.waits.Waits.{ARead, Conversation, Held, HoldsIt, IsAsked, IsHeld, IsQuestion, IsReplied, ItsAsk, ItsRequest, ParkedAt, TalksSo, collected_at, held_by, held_of, is_collected_of, is_open_of, is_parked_of, asked_of, open_at, parked_at}
+use Rattle.world_plain.specs.whole.Begins.{IsSimple}
 
 -- what a client asked that waits at a target
 pub record IsHeldFor (r : Rules) (w : World) (t : ℕ) (ask : Message) : Type 0 where

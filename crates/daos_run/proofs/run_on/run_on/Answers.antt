@@ -13,7 +13,7 @@ use Rattle.daos_run.proofs.Started.{all-set, run-gone, run-read, run-served}
 use Rattle.daos_run.proofs.Whole.{all-tell, break-off, can-start, come-from, may-start, started, told-first}
 use Rattle.run_opening.specs.All.{MayBeFound}
 use Rattle.run_targets.specs.Ends.{BreaksOffSo, ComesTo, stores_of}
-use Rattle.world_whole.specs.Begins.{declared_conts}
+use Rattle.world_plain.specs.whole.Begins.{declared_conts}
 use Rattle.daos_run.proofs.run_on.run_on.Goals as goal
 
 pub open_parts-requires-clause-running : goal.open_parts-requires-clause-running

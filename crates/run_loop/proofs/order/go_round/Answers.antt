@@ -1,11 +1,11 @@
 use Rattle.std.proofs.Common.{refl}
-use Rattle.run_steps.specs.Breaking.{broke-after-err, broke-between}
-use Rattle.run_steps.specs.Going.{rounds-are-run}
+use Rattle.run_laws.specs.steps.Breaking.{broke-after-err, broke-between}
+use Rattle.run_laws.specs.steps.Going.{rounds-are-run}
 use Rattle.run_loop.specs.Loops.{none-in, round-more, rounds-over, some-in}
-use Rattle.run_shows.specs.Serving.{served-then}
+use Rattle.run_laws.specs.shows.Serving.{served-then}
 use Rattle.run_stage.specs.Now.{stage_now}
-use Rattle.run_steps.specs.Going.{goes-none}
-use Rattle.run_turns.specs.Orders.{NoRound, Rounds}
+use Rattle.run_laws.specs.steps.Going.{goes-none}
+use Rattle.run_laws.specs.turns.Orders.{NoRound, Rounds}
 use Rattle.run_loop.proofs.order.go_round.Goals as goal
 
 pub loop-init : goal.loop-init

@@ -1,6 +1,6 @@
 use Rattle.run_stage.specs.Now.{stage_now}
-use Rattle.run_steps.specs.Going.{GoesOn}
-use Rattle.run_turns.specs.Orders.{Rounds}
+use Rattle.run_laws.specs.steps.Going.{GoesOn}
+use Rattle.run_laws.specs.turns.Orders.{Rounds}
 use Rattle.run_loop.proofs.order.go_round.Given as goal
 
 -- there were some rounds

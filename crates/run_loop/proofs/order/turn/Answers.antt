@@ -1,11 +1,11 @@
-use Rattle.run_steps.specs.Breaking.{broke-between-err, target-turn-breaks-err}
+use Rattle.run_laws.specs.steps.Breaking.{broke-between-err, target-turn-breaks-err}
 use Rattle.std.specs.Prelude.{◌≡◌, Some, slice_get}
 use Rattle.std.proofs.Common.{ap, subst, sym}
 use Rattle.run_loop.proofs.Turns.{client-goes-on, client-number, target-goes-on, target-number}
-use Rattle.run_shows.specs.Accounts.{AreServed}
-use Rattle.run_shows.specs.Serving.{served-first}
+use Rattle.run_laws.specs.shows.Accounts.{AreServed}
+use Rattle.run_laws.specs.shows.Serving.{served-first}
 use Rattle.run_stage.specs.Now.{stage_now}
-use Rattle.run_steps.specs.Steps.{can-turn}
+use Rattle.run_laws.specs.steps.Steps.{can-turn}
 use Rattle.world_base.specs.declared.target.Life.TheVariants.{Down}
 use Rattle.run_loop.proofs.order.turn.Goals as goal
 

@@ -2,7 +2,7 @@ use Rattle.std.specs.Prelude.{◌<◌}
 use Rattle.std.proofs.Common.{arith, subst}
 use Rattle.run_base.specs.Letters.{IsPicked}
 use Rattle.run_base.specs.Picks.{count_to}
-use Rattle.run_shows.specs.Shown.{hears-one}
+use Rattle.run_laws.specs.shows.Shown.{hears-one}
 use Rattle.run_stage.proofs.Working.{heard-one, only-messages}
 use Rattle.world_base.specs.Letters.{client}
 use Rattle.run_stage.proofs.turns.hear_or_go.Goals as goal

@@ -1,7 +1,7 @@
 use Rattle.std.proofs.Common.{refl, subst, sym}
 use Rattle.run_base.specs.Letters.{IsPicked}
-use Rattle.run_shows.specs.KindsLaws.{heard-once, idle-once}
-use Rattle.run_shows.specs.Turned.{ByHearing}
+use Rattle.run_laws.specs.shows.KindsLaws.{heard-once, idle-once}
+use Rattle.run_laws.specs.shows.Turned.{ByHearing}
 use Rattle.run_stage.proofs.Working.{only-messages}
 use Rattle.target_parts.specs.Readings.{IsReadOn, not-read_on}
 use Rattle.run_stage.proofs.work.hear_or_idle.Goals as goal

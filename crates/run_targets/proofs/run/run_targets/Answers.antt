@@ -1,7 +1,7 @@
 use Rattle.run_targets.proofs.Runs.{all-served, answers-begin, breaks-early, breaks-late, comes, goes, put-served, put-unfused}
 use Rattle.run_targets.proofs.Telling.{kinds-last, told-last}
-use Rattle.run_ends.specs.Starts.{given_by}
-use Rattle.world_ends.specs.Ends.{rules_of}
+use Rattle.run_laws.specs.ends.Starts.{given_by}
+use Rattle.world_plain.specs.ends.Ends.{rules_of}
 use Rattle.run_targets.proofs.run.run_targets.Goals as goal
 
 pub returns-in-Err-clause-served : goal.returns-in-Err-clause-served

@@ -3,7 +3,7 @@ use Rattle.base_messages.specs.declared.message.Message.{Reset}
 use Rattle.target_parts.specs.Knowing.{memory_of}
 use Rattle.target_core.specs.Targets.{HasFormAfterStops, HearsOrStops, is_collecting}
 use Rattle.target_core.proofs.Heard.{hears-ask, hears-reset, hears-status, hears-status_is, reset-form}
-use Rattle.world_kinds.specs.TurnLaws.{turn-carries}
+use Rattle.world_letters.specs.kinds.TurnLaws.{turn-carries}
 use Rattle.target_core.proofs.after_stops.hear_after_stops.Goals as goal
 
 pub hear_reset-requires-clause-one : goal.hear_reset-requires-clause-one

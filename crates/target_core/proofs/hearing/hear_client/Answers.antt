@@ -2,9 +2,9 @@ use Rattle.std.proofs.Common.{subst, sym, ◌∷◌, []}
 use Rattle.target_parts.specs.Knowing.{memory_of}
 use Rattle.target_core.specs.Targets.{CanHear, HearsOrStops}
 use Rattle.target_core.proofs.Heard.{hears-fetch}
-use Rattle.world_kinds.specs.TurnLaws.{turn-heard}
+use Rattle.world_letters.specs.kinds.TurnLaws.{turn-heard}
 use Rattle.std.specs.Prelude.{IfOk}
-use Rattle.world_kinds.specs.Loads.{AnswersOnce}
+use Rattle.world_letters.specs.kinds.Loads.{AnswersOnce}
 use Rattle.target_core.proofs.hearing.hear_client.Goals as goal
 
 pub hear_fetch-requires-clause-enlisted : goal.hear_fetch-requires-clause-enlisted

@@ -1,5 +1,5 @@
 use Rattle.std.proofs.Common.{ap}
-use Rattle.world_kinds.specs.TurnLaws.{turn-heard}
+use Rattle.world_letters.specs.kinds.TurnLaws.{turn-heard}
 use Rattle.target_core.proofs.hearing.hear_other.Goals as goal
 
 pub returns-then-is_after_stops-clause-reads : goal.returns-then-is_after_stops-clause-reads

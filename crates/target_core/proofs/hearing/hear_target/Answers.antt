@@ -3,7 +3,7 @@ use Rattle.base_messages.specs.declared.message.Message.TheVariants.{Mark, Marke
 use Rattle.target_parts.specs.Knowing.{memory_of}
 use Rattle.target_core.specs.Targets.{CanHear, HearsOrStops}
 use Rattle.target_core.proofs.Heard.{hears-ack, hears-mark, hears-marked, hears-prepare, hears-query, hears-verdict}
-use Rattle.world_kinds.specs.TurnLaws.{turn-carries, turn-heard}
+use Rattle.world_letters.specs.kinds.TurnLaws.{turn-carries, turn-heard}
 use Rattle.target_core.proofs.hearing.hear_target.Goals as goal
 
 pub hear_prepare-requires-clause-here : goal.hear_prepare-requires-clause-here

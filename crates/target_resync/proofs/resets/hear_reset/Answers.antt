@@ -10,8 +10,8 @@ use Rattle.target_parts.specs.Standing.{target-known}
 use Rattle.target_parts.specs.Stops.{stop_memory}
 use Rattle.target_resync.proofs.Resetting.{freed-by, leads-reset, member-known, nothing-freed, own-reset, reset-left_so, reset-posts, rows-by}
 use Rattle.target_resync.proofs.Silent.{silent-done, silent-wanting}
-use Rattle.world_kinds.specs.TurnLaws.{reset-answers, sent-by}
-use Rattle.world_kinds.specs.PostLaws.{resets-carry}
+use Rattle.world_letters.specs.kinds.TurnLaws.{reset-answers, sent-by}
+use Rattle.world_letters.specs.kinds.PostLaws.{resets-carry}
 use Rattle.dtx_base.specs.Leading.{reset_heard}
 use Rattle.target_resync.proofs.resets.hear_reset.Goals as goal
 

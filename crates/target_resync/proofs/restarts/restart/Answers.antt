@@ -3,11 +3,11 @@ use Rattle.base_types.specs.Epochs.{restart_floor}
 use Rattle.daos_model.specs.declared.durable.Durable.{Durable}
 use Rattle.dtx_base.specs.Leading.{first_memory, is_led, is_open}
 use Rattle.world_base.specs.Statuses.{opening_memory}
-use Rattle.world_posts.specs.AfterStops.{openings-post-in-form}
-use Rattle.world_posts.specs.Forms.{Follows}
+use Rattle.world_contents.specs.posts.AfterStops.{openings-post-in-form}
+use Rattle.world_contents.specs.posts.Forms.{Follows}
 use Rattle.target_parts.specs.Running.{told-before}
 use Rattle.target_resync.proofs.Opened.{did-first, heard-raised, leads-first, memory-first, opening-is, own-first, target-first}
-use Rattle.world_kinds.specs.PostLaws.{CarryNone, statuses-carry}
+use Rattle.world_letters.specs.kinds.PostLaws.{CarryNone, statuses-carry}
 use Rattle.target_resync.proofs.restarts.restart.Goals as goal
 
 pub returns-clause-opened : goal.returns-clause-opened

@@ -10,7 +10,7 @@ use Rattle.world_base.specs.Requests.{says}
 use Rattle.world_base.specs.Statuses.{state_of, status_left}
 use Rattle.target_parts.specs.Knowing.{memory_of}
 use Rattle.target_resync.proofs.Silent.{silent-said}
-use Rattle.world_kinds.specs.TurnLaws.{says-none}
+use Rattle.world_letters.specs.kinds.TurnLaws.{says-none}
 use Rattle.target_resync.proofs.statuses.hear_status.Goals as goal
 
 pub returns-clause-turn : goal.returns-clause-turn

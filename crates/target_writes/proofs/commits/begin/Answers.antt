@@ -6,8 +6,8 @@ use Rattle.target_parts.specs.Knowing.{AreRowsOpen, IsApart, IsOpenHere, memory_
 use Rattle.target_parts.specs.Standing.{target-on}
 use Rattle.target_writes.proofs.Beginning.{begun-here, begun-rows, begun-told}
 use Rattle.target_writes.proofs.Posting.{begun-posts}
-use Rattle.world_kinds.specs.TurnLaws.{sent-by, unread-answers}
-use Rattle.world_kinds.specs.PostLaws.{beginnings-carry}
+use Rattle.world_letters.specs.kinds.TurnLaws.{sent-by, unread-answers}
+use Rattle.world_letters.specs.kinds.PostLaws.{beginnings-carry}
 use Rattle.target_writes.proofs.commits.begin.Goals as goal
 
 pub returns-clause-begun : goal.returns-clause-begun

@@ -1,8 +1,8 @@
 use Rattle.std.specs.Prelude.{◌≡◌, slice_get, slice_set, Some}
 use Rattle.std.proofs.Common.{ap, subst, sym}
 use Rattle.model_laws.specs.Lists.{at-index}
-use Rattle.run_shows.specs.Openings.{HasFuse}
-use Rattle.run_shows.specs.Serving.{served-by-fuse, served-one}
+use Rattle.run_laws.specs.shows.Openings.{HasFuse}
+use Rattle.run_laws.specs.shows.Serving.{served-by-fuse, served-one}
 use Rattle.run_watch.specs.Watches.{next_fuse}
 use Rattle.run_stage.specs.Now.{stage_now}
 use Rattle.run_stage.proofs.Opening.{armed-so, same-there}

@@ -2,8 +2,8 @@ use Rattle.std.specs.Prelude.{◌<◌, ◌∷◌, ◌++◌, [], length}
 use Rattle.std.proofs.Common.{◌∙◌, add-one, ap, arith, subst, suc, sym}
 use Rattle.std.proofs.lemmas.List.{append_assoc}
 use Rattle.run_base.specs.Picks.{numbered}
-use Rattle.run_shows.specs.Due.{AreDue, first_targets}
-use Rattle.run_shows.specs.Shown.{client-due-shown, client-is-there, client-is-up, has-it, has-none, target-is-there, target-is-up}
+use Rattle.run_laws.specs.shows.Due.{AreDue, first_targets}
+use Rattle.run_laws.specs.shows.Shown.{client-due-shown, client-is-there, client-is-up, has-it, has-none, target-is-there, target-is-up}
 use Rattle.run_stage.specs.Now.{stage_now}
 use Rattle.world_base.specs.Letters.{client, target}
 use Rattle.run_stage.proofs.stage.Stage.due.Goals as goal

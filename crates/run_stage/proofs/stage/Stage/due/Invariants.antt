@@ -1,6 +1,6 @@
 use Rattle.std.specs.Prelude.{length}
 use Rattle.run_base.specs.Picks.{numbered}
-use Rattle.run_shows.specs.Due.{AreDue, first_targets}
+use Rattle.run_laws.specs.shows.Due.{AreDue, first_targets}
 use Rattle.run_stage.specs.Now.{stage_now}
 use Rattle.world_base.specs.Letters.{client}
 use Rattle.run_stage.proofs.stage.Stage.due.Given as goal

@@ -1,8 +1,8 @@
 use Rattle.std.specs.Prelude.{true, false, refl}
 use Rattle.model_laws.specs.Lists.{at-within}
-use Rattle.run_shows.specs.Parts.{target-there}
-use Rattle.run_shows.specs.Shown.{target-due-shown}
-use Rattle.run_shows.specs.Stages.{IsPlace}
+use Rattle.run_laws.specs.shows.Parts.{target-there}
+use Rattle.run_laws.specs.shows.Shown.{target-due-shown}
+use Rattle.run_laws.specs.shows.Stages.{IsPlace}
 use Rattle.run_stage.specs.Now.{stage_now}
 use Rattle.world_base.specs.declared.target.Life.TheVariants.{Down, Running, Stopped}
 use Rattle.run_stage.proofs.stage.Stage.is_target_due.Goals as goal

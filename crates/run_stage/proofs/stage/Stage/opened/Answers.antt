@@ -1,7 +1,7 @@
 use Rattle.std.specs.Prelude.{◌<◌, ◌≡◌, length, OnOk}
 use Rattle.std.proofs.Common.{◌∙◌, ap, arith, subst, sym}
-use Rattle.run_shows.specs.ListLaws.{length-set}
-use Rattle.run_shows.specs.Turned.{followed, swept_stage, with_between}
+use Rattle.run_laws.specs.shows.ListLaws.{length-set}
+use Rattle.run_laws.specs.shows.Turned.{followed, swept_stage, with_between}
 use Rattle.run_stage.specs.Now.{stage_now}
 use Rattle.run_stage.proofs.Opening.{armed-watch, on-err, opened-so}
 use Rattle.run_stage.proofs.Stopping.{watched}

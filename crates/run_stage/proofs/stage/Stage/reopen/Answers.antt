@@ -1,10 +1,10 @@
 use Rattle.std.proofs.Common.{◌∙◌, ap, refl, subst, sym}
 use Rattle.std.proofs.Math.ListN.{set}
 use Rattle.model_laws.specs.Lists.{at-index}
-use Rattle.run_shows.specs.Accounts.{AreServed}
-use Rattle.run_shows.specs.Serving.{served-by-opening, served-first, served-one, served-then}
+use Rattle.run_laws.specs.shows.Accounts.{AreServed}
+use Rattle.run_laws.specs.shows.Serving.{served-by-opening, served-first, served-one, served-then}
 use Rattle.run_stage.specs.Now.{stage_now}
-use Rattle.run_shows.specs.Steps.{NotBegun}
+use Rattle.run_laws.specs.shows.Steps.{NotBegun}
 use Rattle.run_stage.proofs.Opening.{on-err, opened-broke, opening-broke, reopened-not, reopened-whole, same-there}
 use Rattle.target_parts.specs.Readings.{IsReadOn, not-read_on}
 use Rattle.world_base.specs.StepLaws.{set-here}

@@ -1,6 +1,6 @@
 use Rattle.std.proofs.Common.{◌∙◌, ap, sym}
-use Rattle.run_shows.specs.Sweeping.{nothing-lost}
-use Rattle.run_shows.specs.Turned.{with_between}
+use Rattle.run_laws.specs.shows.Sweeping.{nothing-lost}
+use Rattle.run_laws.specs.shows.Turned.{with_between}
 use Rattle.run_stage.specs.Now.{stage_now}
 use Rattle.run_stage.proofs.stage.Stage.sweep.Goals as goal
 

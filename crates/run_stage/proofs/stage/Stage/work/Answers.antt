@@ -1,7 +1,7 @@
 use Rattle.std.proofs.Common.{◌∙◌, ap, subst, sym}
 use Rattle.model_laws.specs.Lists.{at-index}
-use Rattle.run_shows.specs.Accounts.{AreServed}
-use Rattle.run_shows.specs.Serving.{served-by-runs, served-one}
+use Rattle.run_laws.specs.shows.Accounts.{AreServed}
+use Rattle.run_laws.specs.shows.Serving.{served-by-runs, served-one}
 use Rattle.run_stage.specs.Now.{stage_now}
 use Rattle.run_stage.proofs.Opening.{same-there}
 use Rattle.run_stage.proofs.Working.{work-broke, worked-cut, worked-whole}

@@ -1,9 +1,9 @@
 use Rattle.std.proofs.Common.{◌≡◌, ◌∙◌, ap, subst, ◌∷◌, []}
 use Rattle.std.specs.Prelude.{IfOk}
-use Rattle.world_posts.specs.Forms.{PostsInForm}
+use Rattle.world_contents.specs.posts.Forms.{PostsInForm}
 use Rattle.target_parts.specs.Readings.{IsReadUpTo, most_readings, unread}
 use Rattle.target_core.specs.Targets.{has_epoch, is_of_client}
-use Rattle.world_kinds.specs.Loads.{AnswersOnce}
+use Rattle.world_letters.specs.kinds.Loads.{AnswersOnce}
 use Rattle.target_core.proofs.target.Target.hear.Goals as goal
 
 pub returns-clause-clock : goal.returns-clause-clock

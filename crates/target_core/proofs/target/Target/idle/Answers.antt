@@ -1,11 +1,11 @@
 use Rattle.std.proofs.Common.{◌≡◌, Some, subst, []}
 use Rattle.std.specs.Prelude.{IfOk}
-use Rattle.world_posts.specs.Forms.{PostsInForm}
+use Rattle.world_contents.specs.posts.Forms.{PostsInForm}
 use Rattle.daos_model.specs.declared.durable.Durable.{Durable}
 use Rattle.target_parts.specs.Knowing.{memory_of}
 use Rattle.target_core.specs.Targets.{IdlesOrStops}
 use Rattle.target_core.proofs.Heard.{idles}
-use Rattle.world_kinds.specs.Loads.{AnswersOnce}
+use Rattle.world_letters.specs.kinds.Loads.{AnswersOnce}
 use Rattle.target_core.proofs.target.Target.idle.Goals as goal
 
 pub returns-clause-turn : goal.returns-clause-turn

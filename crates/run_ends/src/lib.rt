@@ -1,2 +1,0 @@
-// How a run of clients and targets begins, and what it comes to.
-#![tactic(auto)]

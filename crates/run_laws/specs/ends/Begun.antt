@@ -1,0 +1,160 @@
+-- The world that a run begins with.
+use Rattle.std.specs.Prelude.{ℕ, ◌≡◌, ◌≤◌, ◌+◌, ◌^◌, true, List, [], length, map, replicate, slice_get, Option, Some, None, is_some, refl}
+use Rattle.std.proofs.Common.{sym, ◌∙◌, ap, subst, arith}
+use Rattle.std.proofs.lemmas.Bool.{true≢false}
+use Rattle.client_core.specs.Clients.{ClientNow}
+use Rattle.daos_model.specs.declared.durable.Durable.{Durable}
+use Rattle.daos_model.specs.Durables.{empty_durable}
+use Rattle.daos_model.specs.FormLaws.{length-map}
+use Rattle.daos_model.specs.Opening.{Given}
+use Rattle.model_laws.specs.Lists.{length-replicate}
+use Rattle.model_laws.specs.Members.{has-from_contains}
+use Rattle.run_base.specs.Letters.{BetweenNow}
+use Rattle.run_base.specs.Sweeps.{lives_of}
+use Rattle.run_laws.specs.shows.CanGo.{CanGo}
+use Rattle.run_laws.specs.shows.Going.{AreAlike}
+use Rattle.run_laws.specs.shows.ListLaws.{map-get}
+use Rattle.run_laws.specs.shows.Shows.{IsCounted, IsGoing, IsTargetOf, Shows, state_of}
+use Rattle.run_laws.specs.shows.Stages.{StageNow}
+use Rattle.run_watch.specs.Watches.{WatchNow, first_watch}
+use Rattle.target_core.specs.Targets.{TargetOf}
+use Rattle.vos_store.specs.Calls.{State}
+use Rattle.world_base.specs.declared.target.Life.{Life}
+use Rattle.world_base.specs.declared.target.Life.TheVariants.{Running}
+use Rattle.world_base.specs.declared.target.TargetState.{TargetState}
+use Rattle.world_base.specs.declared.world.World.{World}
+use Rattle.world_base.specs.Events.{target_plan}
+use Rattle.world_base.specs.Stops.{Begins}
+use Rattle.world_plain.specs.ends.Ends.{rules_of}
+use Rattle.world_contents.specs.posts.Forms.{ClientsWait}
+use Rattle.world_plain.specs.whole.Begins.{AreEnlisted, IsBegun, StartsWith, no_leading}
+use Rattle.run_laws.specs.ends.Places.{from-map, maps-replicate, one-there, replicate-at}
+use Rattle.run_laws.specs.ends.Starts.{AllTell, HaveStarted, KeepsAtFirst, stores_of, target_state}
+
+-- ---- what stores tell
+
+-- what a store tells that it keeps; where it tells nothing, nothing is kept
+abbrev pub or_empty : Option Durable → Durable
+or_empty None = empty_durable 1
+or_empty (Some d) = d
+
+pub told-is : (o : Option Durable) → is_some o ≡ true → o ≡ Some (or_empty o)
+told-is None h = absurd (true≢false (sym h))
+told-is (Some d) h = refl
+
+pub told-there : {S C : Type 0} (durable : S → Option Durable) (xs : List (TargetOf S C)) → AllTell durable (stores_of xs) → (t : ℕ) (x : TargetOf S C) → slice_get xs t ≡ Some x → is_some (durable x.store) ≡ true
+told-there durable xs told t x at = told t x.store (map-get (λ y. y.store) xs t x at)
+
+-- ---- before any turn
+
+-- nothing lies between actors
+abbrev pub nothing : BetweenNow
+nothing = record { messages = []; asked = []; issued = []; lines = [] }
+
+-- clients and targets, and how these stand, before any turn
+abbrev pub first_stage : {S C : Type 0} → List ClientNow → List (TargetOf S C) → WatchNow → StageNow S C
+first_stage cs xs watch = record { clients = cs; targets = xs; watch = watch; between = nothing }
+
+-- so many targets run, and nothing has happened yet, whichever stop lines are to come
+abbrev pub IsFirstWatch : ℕ → WatchNow → Type 0
+IsFirstWatch targets watch = watch ≡ first_watch targets watch.stops
+
+none-waits : ClientsWait no_leading
+none-waits u c i is = absurd i
+
+module _ {S C : Type 0} (durable : S → Option Durable) (state : S → State) where
+  -- a target, as it is in a world
+  abbrev pub state_now : TargetOf S C → TargetState
+  state_now x = target_state durable state x (or_empty (durable x.store))
+
+  -- the world of clients and targets, before its first event
+  abbrev pub first_world : List ClientNow → List (TargetOf S C) → World
+  first_world cs xs = record { targets = map state_now xs; clients = map state_of cs; messages = []; asked = []; issued = []; numbers = record { restarts = 0; aggregates = 0 }; lines = [] }
+
+  module _ (g : Given) (cs : List ClientNow) (xs : List (TargetOf S C)) (k : HaveStarted durable state g cs xs) where
+    made : (t : ℕ) (x : TargetOf S C) → slice_get xs t ≡ Some x → x.plan ≡ target_plan (rules_of g) t
+    made t x at = (k.each t x at).plan
+
+    -- ---- where stores tell what they keep
+
+    module _ (told : AllTell durable (stores_of xs)) where
+      its : (t : ℕ) (x : TargetOf S C) → slice_get xs t ≡ Some x → durable x.store ≡ Some (or_empty (durable x.store))
+      its t x at = told-is (durable x.store) (told-there durable xs told t x at)
+
+      keeps : (t : ℕ) (x : TargetOf S C) → slice_get xs t ≡ Some x → KeepsAtFirst durable state g t x (or_empty (durable x.store))
+      keeps t x at = (k.each t x at).kept (or_empty (durable x.store)) (its t x at)
+
+      -- a run begins so
+      pub is-begun : IsBegun (rules_of g) g.opening (first_world cs xs)
+      is-begun = record {
+        plain = k.plain;
+        targets = length-map state_now xs ∙ k.many;
+        starts = λ t z here. let x = from-map state_now xs t z here in subst (StartsWith g.script.targets t g.opening) (sym x.is) (keeps t x.of_it x.at).starts;
+        enlisted = λ t z here. let x = from-map state_now xs t z here in subst (λ y. AreEnlisted g.script y.durable) (sym x.is) (keeps t x.of_it x.at).enlisted;
+        clients = k.those.states;
+        messages = refl;
+        asked = refl;
+        issued = refl;
+        lines = refl;
+      }
+
+      now : (found : Durable) (t : ℕ) (x : TargetOf S C) → slice_get xs t ≡ Some x → IsTargetOf durable state (target_plan (rules_of g) t) Running found x (state_now x)
+      now found t x at = record { made = made t x at; lives = refl; so = record { told = its t x at; free = refl; opening = refl; opened = (k.each t x at).opened; running = (k.each t x at).running; knows = refl } }
+
+      -- and this is what the actors show
+      pub shows-first : (watch : WatchNow) → IsFirstWatch g.script.targets watch → (found : ℕ → Durable) → Shows durable state (rules_of g) found (first_stage cs xs watch) (first_world cs xs)
+      shows-first watch first found = record {
+        clients = refl;
+        plans = k.those.plans;
+        many = length-map state_now xs;
+        lives = lives;
+        targets = λ t x life s place here.
+            let y = from-map state_now xs t s here in
+            let runs : life ≡ Running = replicate-at g.script.targets t Running life (ap (λ w. slice_get w.lives t) (sym first) ∙ place.stands) in
+            subst (λ l. IsTargetOf durable state (target_plan (rules_of g) t) l (found t) x s) (sym runs)
+            (subst (IsTargetOf durable state (target_plan (rules_of g) t) Running (found t) x) (ap state_now (one-there xs t x y.of_it place.there y.at) ∙ sym y.is) (now (found t) t x place.there));
+        messages = refl;
+        asked = refl;
+        issued = refl;
+        lines = refl;
+        restarts = ap (λ w. w.restarts) (sym first);
+      }
+        where
+          lives : lives_of (first_world cs xs) ≡ watch.lives
+          lives = maps-replicate state_now (λ s. s.life) Running xs (λ x. refl) ∙ ap (λ n. replicate n Running) k.many ∙ ap (λ w. w.lives) (sym first)
+
+    -- ---- whether or not they do
+
+    module _ (may : S → Durable → Type 0) (watch : WatchNow) (first : IsFirstWatch g.script.targets watch) where
+      going : AllTell durable (stores_of xs) → IsGoing durable state may (first_stage cs xs watch)
+      going told = record {
+        rules = rules_of g;
+        opening = g.opening;
+        first = first_world cs xs;
+        simple = k.simple;
+        begun = is-begun told;
+        reached = λ found are. record { now = first_world cs xs; run = Begins; shows = shows-first told watch first found };
+        counted = λ t x life place. subst (IsCounted durable state may (2 ^ 63 + 1 + watch.openings) x) (sym (runs t life place.stands)) (seldom t x place.there);
+      }
+        where
+          runs : (t : ℕ) (life : Life) → slice_get watch.lives t ≡ Some life → life ≡ Running
+          runs t life stands = replicate-at g.script.targets t Running life (ap (λ w. slice_get w.lives t) (sym first) ∙ stands)
+
+          seldom : (t : ℕ) (x : TargetOf S C) → slice_get xs t ≡ Some x → (d : Durable) → durable x.store ≡ Some d → d.incarnation ≤ 2 ^ 63 + 1 + watch.openings
+          seldom t x at d is = let low = ((k.each t x at).kept d is).seldom in omega (arith, low)
+
+      -- the actors can have their turns
+      pub can-go : AreAlike durable → CanGo durable state may (first_stage cs xs watch)
+      can-go alike = record {
+        rules = rules_of g;
+        simple = k.simple;
+        plans = k.those.plans;
+        made = made;
+        many = k.many;
+        standing = ap (λ w. length w.lives) first ∙ length-replicate g.script.targets Running ∙ sym k.many;
+        openings = let none = ap (λ w. w.openings) first in omega (arith, none);
+        work = λ t x place. record { opened = (k.each t x place.there).opened; running = (k.each t x place.there).running; waiting = subst ClientsWait (sym (k.each t x place.there).leader) none-waits };
+        messages = λ l i. absurd (has-from_contains [] l i);
+        asked = λ l i. absurd (has-from_contains [] l i);
+        told = λ t x d at is. going (λ u s to. alike x.store s (ap is_some is));
+      }

@@ -1,0 +1,165 @@
+-- What a run of targets comes to.
+use Rattle.std.specs.Prelude.{ℕ, ◌≡◌, ◌≤◌, ◌<◌, ◌+◌, ◌-◌, ◌^◌, ◌⊎◌, Bool, true, false, List, [], Contains, length, slice_get, is_some, Option, Some, None}
+use Rattle.base_types.specs.declared.entry.Entry.{Entry}
+use Rattle.base_types.specs.declared.id.AttemptId.{AttemptId}
+use Rattle.base_types.specs.declared.report.Line.{Line}
+use Rattle.base_types.specs.declared.report.Report.{Report}
+use Rattle.base_types.specs.declared.script.Script.{Script}
+use Rattle.daos_model.specs.declared.durable.Durable.{Durable}
+use Rattle.daos_model.specs.Durables.{entry_of}
+use Rattle.daos_model.specs.Family.{created_snaps}
+use Rattle.daos_model.specs.Finals.{HeadlineOver}
+use Rattle.daos_model.specs.Headline.{Headline}
+use Rattle.daos_model.specs.Opening.{Given, Outside, undisturbed}
+use Rattle.daos_model.specs.Sound.{Sound}
+use Rattle.daos_model.specs.Stops.{down_targets, least, stop_numbers}
+use Rattle.dtx_base.specs.Members.{has_target}
+use Rattle.report_writer.specs.Forms.{IsReportOf}
+pub use Rattle.run_opening.specs.All.{AreKept, MayBeFound}
+use Rattle.run_laws.specs.steps.Ended.{CanReopen}
+use Rattle.run_laws.specs.turns.Orders.{InOrder}
+use Rattle.script_runnable.specs.Keyed.{MapHasKeys, ScriptHasKeys}
+use Rattle.vos_store.specs.Calls.{State}
+use Rattle.world_commit.specs.attempts.Attempts.{IsOther}
+use Rattle.world_base.specs.declared.target.TargetState.{TargetState}
+use Rattle.world_base.specs.declared.world.World.{World}
+use Rattle.world_plain.specs.ends.Ends.{durables_of, rules_of}
+use Rattle.world_standing.specs.external.Order.{AreExternallyConsistent, KeepsTheBound}
+use Rattle.world_plain.specs.facts.Facts.{IsMember}
+pub use Rattle.run_laws.specs.reports.Closings.{StandsForResolved}
+pub use Rattle.world_plain.specs.lone.LoneRuns.{AreIssuedThere}
+use Rattle.world_plain.specs.whole.Begins.{IsBegun}
+
+-- ---- the report
+
+-- the report of these lines; it names the least of the targets that were given up, if one was
+abbrev pub report_with : Script → List Line → Report
+report_with s lines = record { targets = s.targets; lines = lines; down = least (down_targets lines) }
+
+-- it is the one of its lines for a script: it names its targets, and the least of those that were given up
+abbrev pub IsReportOfLines : Script → Report → Type 0
+IsReportOfLines s q = q ≡ report_with s q.lines
+
+-- the report is legal though the outside failed no region, whichever attempts are taken as resolved
+abbrev pub IsLegal : Given → Report → Type 0
+IsLegal g q = (resolved : AttemptId → Bool) → Headline g undisturbed resolved q
+
+-- ---- the outside
+
+-- An outside that may have failed each target's store, xs at first and ys in the end, as often as its count rose. Of a store it may say
+-- nothing; where it says how often it failed it at most, the store tells its fuse, so that no other stops it, and its count doesn't stand at
+-- its end.
+pub record IsOutside {S : Type 0} (state : S → State) (o : Outside) (xs ys : List S) : Type 0 where
+  pub counts : (t : ℕ) (x y : S) (k : ℕ) → slice_get xs t ≡ Some x → slice_get ys t ≡ Some y → o.rises t ≡ Some k → ((state x).tells_fuse ≡ true) × ((state y).faults < 2 ^ 64 - 1) × ((state y).faults ≤ (state x).faults + k)
+
+-- ---- the stores in the end
+
+-- a target keeps an entry of an attempt, and has committed it
+pub record IsCommittedIn (d : Durable) (x : AttemptId) : Type 0 where
+  pub entry : Entry
+  pub found : entry_of d x ≡ Some entry
+  pub committed : entry.committed ≡ true
+
+-- a member of an attempt was given up, as a line tells
+pub record LacksMember (g : Given) (q : Report) (x : AttemptId) : Type 0 where
+  pub member : ℕ
+  pub its : IsMember (rules_of g) x member
+  pub down : Contains (down_targets q.lines) member
+
+-- Each entry that is kept by a target that wasn't given up is committed, or a member of its attempt was given up. Of what is committed at a target,
+-- whatever the next openings find, each member keeps an entry.
+pub record LeavesSettled {S : Type 0} (durable : S → Option Durable) (may : S → Durable → Type 0) (g : Given) (q : Report) (ys : List S) : Type 0 where
+  pub entries : (t : ℕ) (y : S) (d : Durable) (e : Entry) → slice_get ys t ≡ Some y → (Contains (down_targets q.lines) t → ⊥) → durable y ≡ Some d → Contains d.entries e → (e.committed ≡ true) ⊎ LacksMember g q e.attempt
+  pub held : (lasts : List Durable) → MayBeFound may ys lasts → (t : ℕ) (d : Durable) (e : Entry) → slice_get lasts t ≡ Some d → Contains d.entries e → e.committed ≡ true → (m : ℕ) (f : Durable) → IsMember (rules_of g) e.attempt m → slice_get lasts m ≡ Some f → is_some (entry_of f e.attempt) ≡ true
+
+-- Each target of which no line tells that it was given up has a store that runs.
+abbrev pub LeavesRunning : {S : Type 0} → (S → State) → Report → List S → Type 0
+LeavesRunning {S} state q ys = (t : ℕ) (y : S) → slice_get ys t ≡ Some y → (Contains (down_targets q.lines) t → ⊥) → (state y).stopped ≡ false
+
+-- ---- where nothing stopped
+
+-- In the end the stores stand for what the report tells, by the headline, where replicas agree; and nothing is left to settle: each entry is
+-- committed, and so at each member that it names; and where its leader keeps it, each other member has confirmed that.
+pub record StandPlainly {S : Type 0} (durable : S → Option Durable) (g : Given) (q : Report) (ys : List S) : Type 0 where
+  pub lasts : List Durable
+  pub kept : AreKept durable ys lasts
+  pub headline : HeadlineOver g undisturbed lasts q
+  pub settled : (t : ℕ) (d : Durable) (e : Entry) → slice_get lasts t ≡ Some d → Contains d.entries e → e.committed ≡ true
+  pub everywhere : (t : ℕ) (d : Durable) (e : Entry) → slice_get lasts t ≡ Some d → Contains d.entries e → (m : ℕ) (f : Durable) → has_target e.members m ≡ true → slice_get lasts m ≡ Some f → IsCommittedIn f e.attempt
+  pub confirmed : (t : ℕ) (d : Durable) (e : Entry) → slice_get lasts t ≡ Some d → Contains d.entries e → e.leader ≡ t → (m : ℕ) → IsOther (rules_of g) e.attempt m → has_target e.confirmed m ≡ true
+
+-- Where no line tells of a stop, the run ended as one in which nothing can stop.
+pub record EndsUnstopped {S : Type 0} (durable : S → Option Durable) (g : Given) (q : Report) (ys : List S) : Type 0 where
+  pub stand : StandPlainly durable g q ys
+  pub legal : IsLegal g q
+  pub none_down : q.down ≡ None
+
+-- ---- the order
+
+-- A report's lines are those of a run of the world in the order that the job names, to where that order ends: turn by turn, those of the
+-- actor and the message that it picks. It begins where no client had a turn, with as many blocks free at each target as the opening says.
+pub record FollowsOrder (g : Given) (q : Report) : Type 0 where
+  pub first : World
+  pub begun : IsBegun (rules_of g) g.opening first
+  pub free : (t : ℕ) (s : TargetState) → slice_get first.targets t ≡ Some s → s.free ≡ g.opening.free t
+  pub restarts : first.numbers.restarts ≡ 0
+  pub last : World
+  pub run : InOrder (rules_of g) g.job.order first last
+  pub lines : q.lines ≡ last.lines
+
+-- a target of a world is as its store says: it keeps what that tells, and was opened with the floor of its last opening
+pub record IsAsStored {S : Type 0} (durable : S → Option Durable) (state : S → State) (x : S) (s : TargetState) : Type 0 where
+  pub kept : durable x ≡ Some s.durable
+  pub opening : s.opening ≡ (state x).opening
+
+-- That run begins with the targets over these stores, as they are, and the next openings of their stores may find what the targets keep in the end.
+pub record IsOrdered {S : Type 0} (durable : S → Option Durable) (state : S → State) (may : S → Durable → Type 0) (g : Given) (q : Report) (xs ys : List S) : Type 0 where
+  pub follows : FollowsOrder g q
+  pub begins : (t : ℕ) (x : S) (s : TargetState) → slice_get xs t ≡ Some x → slice_get follows.first.targets t ≡ Some s → IsAsStored durable state x s
+  pub kept : MayBeFound may ys (durables_of follows.last)
+
+-- ---- a run after this one
+
+-- What was kept is sound together, and target 0 holds no snapshot as created.
+pub record IsSoundAgain (lasts : List Durable) : Type 0 where
+  pub sound : Sound lasts
+  pub unsnapped : created_snaps lasts ≡ []
+
+-- Where the stores kept what is sound together, so is whatever their next openings find.
+abbrev pub LeavesSound : {S : Type 0} → (S → Option Durable) → (S → Durable → Type 0) → List S → List S → Type 0
+LeavesSound durable may xs ys = (F : List Durable) → AreKept durable xs F → Sound F → (lasts : List Durable) → MayBeFound may ys lasts → IsSoundAgain lasts
+
+-- Each store may be opened again.
+abbrev pub LeavesReopenable : {S : Type 0} → (S → Option Durable) → (S → Durable → Type 0) → List S → Type 0
+LeavesReopenable {S} durable may ys = (t : ℕ) (y : S) → slice_get ys t ≡ Some y → CanReopen durable may y
+
+-- ---- where memory was wanting
+
+-- Whatever the next openings find stands for the opening and the attempts that are resolved there; and it is sound where the stores kept what is
+-- sound together.
+pub record BreaksOffSo {S : Type 0} (durable : S → Option Durable) (may : S → Durable → Type 0) (g : Given) (xs ys : List S) : Type 0 where
+  pub stand : (lasts : List Durable) → MayBeFound may ys lasts → StandsForResolved g.script g.opening lasts
+  pub sound : LeavesSound durable may xs ys
+
+-- ---- all of it
+
+-- where the clocks keep the bound, conflicting committed attempts have epochs in the order of real time
+abbrev pub IsInRealTime : Given → Report → Type 0
+IsInRealTime g q = KeepsTheBound g.script g.job.epsilon q.lines → AreExternallyConsistent g.script q.lines
+
+-- What a run of these targets, which begins so, comes to. Whatever the next openings of their stores find, these stand for what the report
+-- tells, which is legal, by the headline, for each outside that may have failed them so. The report is in form where names and keys are keys;
+-- one of the targets issued each epoch of which it tells, and conflicting committed attempts have epochs in the order of real time where clocks
+-- keep the bound; stores of targets that weren't given up run, and nothing is left to settle there; what is kept is sound again, and may be opened
+-- again; and the report tells of the turns in the order asked, where just so many blocks were free at the beginning.
+pub record ComesTo {S : Type 0} (durable : S → Option Durable) (state : S → State) (may : S → Durable → Type 0) (g : Given) (xs ys : List S) (q : Report) : Type 0 where
+  pub stand : (lasts : List Durable) (o : Outside) → MayBeFound may ys lasts → IsOutside state o xs ys → HeadlineOver g o lasts q
+  pub form : ScriptHasKeys g.script → MapHasKeys g.opening.stand.now → IsReportOf g.script q
+  pub issued : AreIssuedThere q
+  pub in_real_time : IsInRealTime g q
+  pub running : LeavesRunning state q ys
+  pub settled : LeavesSettled durable may g q ys
+  pub unstopped : stop_numbers q.lines ≡ [] → EndsUnstopped durable g q ys
+  pub sound : LeavesSound durable may xs ys
+  pub reopens : LeavesReopenable durable may ys
+  pub ordered : ((t : ℕ) (x : S) → slice_get xs t ≡ Some x → (state x).free ≡ g.opening.free t) → IsOrdered durable state may g q xs ys

@@ -1,0 +1,108 @@
+-- What the first world of a run keeps, and what is found where it broke off.
+use Rattle.std.specs.Prelude.{ℕ, ◌≡◌, ◌<◌, true, List, [], length, slice_get, Option, Some, is_some}
+use Rattle.std.proofs.Common.{sym, ◌∙◌, ap, subst, arith}
+use Rattle.client_core.specs.Clients.{ClientNow}
+use Rattle.daos_model.specs.declared.durable.Durable.{Durable}
+use Rattle.daos_model.specs.Family.{created_snaps}
+use Rattle.daos_model.specs.FormLaws.{length-map}
+use Rattle.daos_model.specs.Opening.{Given}
+use Rattle.daos_model.specs.Sound.{Sound}
+use Rattle.model_laws.specs.Lists.{at-within}
+use Rattle.run_laws.specs.shows.Going.{AreAlike}
+use Rattle.run_laws.specs.shows.Broken.{HasBrokenOff, IsBrokenFrom, MayBeFoundOf}
+use Rattle.run_laws.specs.shows.ListLaws.{map-get}
+use Rattle.run_laws.specs.shows.Parts.{at-both}
+use Rattle.run_laws.specs.steps.Breaking.{Breaks}
+use Rattle.run_laws.specs.steps.Going.{AllTell as AllStoresTell}
+use Rattle.run_watch.specs.Watches.{WatchNow}
+use Rattle.target_core.specs.Targets.{TargetOf}
+use Rattle.vos_store.specs.Calls.{State}
+use Rattle.world_base.specs.declared.world.World.{World}
+use Rattle.world_base.specs.Events.{Rules}
+use Rattle.world_base.specs.Stops.{Begins, WorldRun}
+use Rattle.world_plain.specs.ends.Ends.{durable_of, durables_of, rules_of}
+use Rattle.run_laws.specs.reports.Closings.{StandsForResolved, runs-keep_sound, runs-stand_for_resolved}
+use Rattle.world_plain.specs.whole.Begins.{IsBegun, IsSimple}
+use Rattle.run_laws.specs.ends.Arming.{HaveFuses}
+use Rattle.run_laws.specs.ends.Begun.{IsFirstWatch, first_stage, first_world, is-begun, or_empty, shows-first, state_now, told-is, told-there}
+use Rattle.run_laws.specs.ends.Comes.{AreKept, BreaksOffSo, IsSoundAgain, MayBeFound}
+use Rattle.run_laws.specs.ends.Lasts.{found_at, one-may_be}
+use Rattle.run_laws.specs.ends.Places.{from-map, same-lists}
+use Rattle.run_laws.specs.ends.Starts.{AllTell, HaveStarted, stores_of}
+
+-- ---- soundness
+
+-- what a run from a world has come to is sound again, where that world kept what is sound together
+pub sound-again : (r : Rules) (g : Given) (first last : World) (F lasts : List Durable) → IsSimple r → IsBegun r g.opening first → WorldRun r first last → durables_of first ≡ F → durables_of last ≡ lasts → Sound F → IsSoundAgain lasts
+sound-again r g first last F lasts simple begun run kept keeps sound = record {
+  sound = subst Sound keeps (runs-keep_sound r g.opening first last simple begun (subst Sound (sym kept) sound) run);
+  unsnapped = subst (λ ds. created_snaps ds ≡ []) keeps (runs-stand_for_resolved r g.opening first last simple begun run).snaps;
+}
+
+module _ {S C : Type 0} (durable : S → Option Durable) (state : S → State) (may : S → Durable → Type 0) where
+  -- each of these targets keeps what that one kept
+  abbrev pub KeepAlike : List (TargetOf S C) → List (TargetOf S C) → Type 0
+  KeepAlike xs ys = (t : ℕ) (x y : TargetOf S C) → slice_get xs t ≡ Some x → slice_get ys t ≡ Some y → durable y.store ≡ durable x.store
+
+  -- where the stores of a run's targets tell what they keep, all stores do
+  pub all-tell : AreAlike durable → (g : Given) (cs : List ClientNow) (xs : List (TargetOf S C)) → HaveStarted durable state g cs xs → AllTell durable (stores_of xs) → AllStoresTell durable
+  all-tell alike g cs xs k told s =
+      let some : 0 < g.script.targets = k.simple.some_target in
+      let many : length xs ≡ g.script.targets = k.many in
+      let x = at-within xs 0 (omega (arith, some, many)) in
+      alike x.0.store s (told-there durable xs told 0 x.0 x.1)
+
+  -- ---- the first world
+
+  pub first-keeps : (cs : List ClientNow) (xs armed : List (TargetOf S C)) → length armed ≡ length xs → KeepAlike xs armed → ((s : S) → is_some (durable s) ≡ true) → (F : List Durable) → AreKept durable (stores_of xs) F → durables_of (first_world durable state cs armed) ≡ F
+  first-keeps cs xs armed many alike all F f = same-lists (durables_of (first_world durable state cs armed)) F many-first (λ t d z here at.
+      let s = from-map durable_of (first_world durable state cs armed).targets t d here in
+      let y = from-map (state_now durable state) armed t s.of_it s.at in
+      let x = at-both armed xs t y.of_it (sym many) y.at in
+      let told : Some s.of_it.durable ≡ Some z = ap (λ q. Some q.durable) y.is ∙ sym (told-is (durable y.of_it.store) (all y.of_it.store)) ∙ alike t x.0 y.of_it x.1 y.at ∙ f.each t x.0.store z (map-get (λ p. p.store) xs t x.0 x.1) at in
+      let same : s.of_it.durable ≡ z = cc in
+      s.is ∙ same)
+    where
+      many-first : length (durables_of (first_world durable state cs armed)) ≡ length F
+      many-first = length-map durable_of (first_world durable state cs armed).targets ∙ length-map (state_now durable state) armed ∙ many ∙ sym (length-map (λ p. p.store) xs) ∙ sym f.many
+
+  -- ---- where a run broke off
+
+  module _ (g : Given) (cs : List ClientNow) (xs armed rest ys : List (TargetOf S C)) (now : WatchNow) (begins : HaveStarted durable state g cs armed) (told : AllTell durable (stores_of armed)) (all : AllStoresTell durable) (first : IsFirstWatch g.script.targets now)
+      (many : length armed ≡ length xs) (alike : KeepAlike xs armed) (broke : Breaks durable state may (first_stage cs armed now) rest) {write : ℕ → ℕ} (unfused : HaveFuses durable state may write rest ys) where
+    abbrev r : Rules
+    r = rules_of g
+
+    abbrev first_one : World
+    first_one = first_world durable state cs armed
+
+    begun : IsBegun r g.opening first_one
+    begun = is-begun durable state g cs armed begins told
+
+    module _ (lasts : List Durable) (m : MayBeFound may (stores_of ys) lasts) where
+      may-be : MayBeFoundOf durable state may rest (found_at lasts)
+      may-be t x at = let z = one-may_be durable state may rest ys unfused lasts m t x at in subst (may x.store) (ap or_empty (sym z.1)) z.2
+
+      from : IsBrokenFrom durable state may r (first_stage cs armed now) rest (found_at lasts)
+      from = broke all r (found_at lasts) may-be
+
+      came : HasBrokenOff r first_one (length rest) (found_at lasts)
+      came = from.led first_one (record { opening = g.opening; first = first_one; simple = begins.simple; begun = begun; run = Begins }) (shows-first durable state g cs armed begins told now first from.before)
+
+      run : WorldRun r first_one came.last
+      run = came.run first_one Begins
+
+      keeps : durables_of came.last ≡ lasts
+      keeps = same-lists (durables_of came.last) lasts many-last (λ t e d here at. let s = from-map durable_of came.last.targets t e here in s.is ∙ came.keeps t s.of_it s.at ∙ ap or_empty at)
+        where
+          many-last : length (durables_of came.last) ≡ length lasts
+          many-last = length-map durable_of came.last.targets ∙ came.many ∙ sym unfused.many ∙ sym (length-map (λ z. z.store) ys) ∙ sym m.many
+
+      stands : StandsForResolved g.script g.opening lasts
+      stands = subst (StandsForResolved g.script g.opening) keeps (runs-stand_for_resolved r g.opening first_one came.last begins.simple begun run)
+
+    pub breaks-off : BreaksOffSo durable may g (stores_of xs) (stores_of ys)
+    breaks-off = record {
+      stand = stands;
+      sound = λ F f sound lasts m. sound-again r g first_one (came lasts m).last F lasts begins.simple begun (run lasts m) (first-keeps cs xs armed many alike all F f) (keeps lasts m) sound;
+    }

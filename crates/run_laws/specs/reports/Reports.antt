@@ -1,0 +1,152 @@
+-- What a run in an order reports, where targets may stop and open again.
+use Rattle.std.specs.Prelude.{ℕ, ◌≡◌, ◌⊎◌, ◌≤◌, ◌<◌, ◌^◌, Bool, true, false, List, [], All, Contains, slice_get, Some, None}
+use Rattle.base_types.specs.declared.entry.Entry.{Entry}
+use Rattle.base_types.specs.declared.id.AttemptId.{AttemptId}
+use Rattle.base_types.specs.declared.outcome.Outcome.TheVariants.{Unknown}
+use Rattle.base_types.specs.declared.report.Attempt.{Attempt}
+use Rattle.base_types.specs.declared.report.Line.{Line}
+use Rattle.base_types.specs.declared.report.Line.TheVariants as line
+use Rattle.base_types.specs.declared.report.Report.{Report}
+use Rattle.model_laws.specs.Members.{Has}
+use Rattle.model_reports.specs.Lone.{AllAreCommitted, EachIsTriedOnce, EndsPlainly, EpochsRise, HasNoConditions, HasTicks, IsLone, NeverRestarts}
+use Rattle.model_reports.specs.Rooms.{HasRoom}
+use Rattle.daos_model.specs.Accesses.{attempt_targets}
+use Rattle.daos_model.specs.Attempts.{is_unknown, tries}
+use Rattle.daos_model.specs.Finals.{HeadlineOver}
+use Rattle.daos_model.specs.Headline.{Headline}
+use Rattle.daos_model.specs.Opening.{Given, Outside, undisturbed}
+use Rattle.daos_model.specs.Stops.{down_targets, stop_numbers}
+use Rattle.report_writer.specs.Forms.{IsReportOf}
+use Rattle.run_laws.specs.turns.Orders.{InOrder}
+use Rattle.script_runnable.specs.Keyed.{MapHasKeys, ScriptHasKeys}
+use Rattle.world_commit.specs.asks.Ends.{IsSettledAt}
+use Rattle.world_commit.specs.attempts.Attempts.{IsHeld}
+use Rattle.world_base.specs.declared.target.Life.TheVariants.{Running}
+use Rattle.world_base.specs.declared.target.TargetState.{TargetState}
+use Rattle.world_base.specs.declared.world.World.{World}
+use Rattle.world_base.specs.Events.{Rules}
+use Rattle.world_legal.specs.closing.Closing.{report_over}
+use Rattle.world_plain.specs.ends.Ends.{TellsPlain, durables_of, rules_of}
+use Rattle.world_plain.specs.facts.Facts.{IsMember}
+use Rattle.world_plain.specs.facts.Settled.{IsCommittedAtAll}
+use Rattle.world_letters.specs.lives.Legal.{AreCaused, NoneIsStopped}
+use Rattle.world_plain.specs.lone.LoneRuns.{AreIssuedThere}
+use Rattle.world_plain.specs.whole.Begins.{IsBegun, IsSimple}
+
+-- ---- the run
+
+-- A run in the order that the job names, of a script in form for some targets, without snapshots and aggregation, from its beginning, where no
+-- number of a restart or an aggregation was drawn yet. Targets may stop in it, open again, or be given up.
+pub record GoesInOrder (g : Given) (w v : World) : Type 0 where
+  pub simple : IsSimple (rules_of g)
+  pub begun : IsBegun (rules_of g) g.opening w
+  pub restarts : w.numbers.restarts ≡ 0
+  pub aggregates : w.numbers.aggregates ≡ 0
+  pub run : InOrder (rules_of g) g.job.order w v
+
+-- where it ends, so it is
+abbrev pub OfEachOrder : (Given → World → Type 0) → Type 0
+OfEachOrder P = (g : Given) (w v : World) → GoesInOrder g w v → P g v
+
+-- and so where no line tells of a stop
+abbrev pub OfEachUnstoppedOrder : (Given → World → Type 0) → Type 0
+OfEachUnstoppedOrder P = OfEachOrder (λ g v. stop_numbers v.lines ≡ [] → P g v)
+
+-- ---- what it reports
+
+-- numbers of a line of a stop or of an opening are as small as their types hold; so it is of each line that is kept as one
+abbrev pub HasTypedNumbers : Line → Type 0
+HasTypedNumbers (line.Stop number target) = number < 2 ^ 32
+HasTypedNumbers (line.Restart number target incarnation floor) = (number < 2 ^ 32) × (incarnation < 2 ^ 64)
+HasTypedNumbers l = Unit {0}
+
+abbrev pub AreTyped : List Line → Type 0
+AreTyped lines = (l : Line) → Has l lines → HasTypedNumbers l
+
+-- what the report's form asks for besides: names and keys are keys, and a command has at most 256 attempts
+pub record IsKeyed (g : Given) : Type 0 where
+  pub script : ScriptHasKeys g.script
+  pub opening : MapHasKeys g.opening.stand.now
+  pub byte : g.job.attempts ≤ 256
+
+-- ---- what is left of it
+
+-- a member of an attempt was given up: its leader, or another one
+pub record LacksMember (r : Rules) (v : World) (x : AttemptId) : Type 0 where
+  pub member : ℕ
+  pub its : IsMember r x member
+  pub down : Has (line.Down member) v.lines
+
+-- an entry is committed, or a member of its attempt was given up
+abbrev pub IsSettledOrLeft : Rules → World → Entry → Type 0
+IsSettledOrLeft r v e = (e.committed ≡ true) ⊎ LacksMember r v e.attempt
+
+-- Each target runs or is given up. Each entry that a running one keeps is committed, or a member of its attempt was given up. Where one is committed
+-- at some target, running or not, all members of its attempt hold that.
+pub record LeavesInTheEnd (r : Rules) (v : World) : Type 0 where
+  pub targets : NoneIsStopped v
+  pub entries : (t : ℕ) (s : TargetState) (e : Entry) → slice_get v.targets t ≡ Some s → s.life ≡ Running → Contains s.durable.entries e → IsSettledOrLeft r v e
+  pub held : (t : ℕ) (s : TargetState) (e : Entry) → slice_get v.targets t ≡ Some s → Contains s.durable.entries e → e.committed ≡ true → (m : ℕ) → IsMember r e.attempt m → IsHeld v m e.attempt
+
+-- ---- where nothing stopped
+
+-- The report is legal whichever attempts are taken as resolved, though the outside failed no region; no target was given up; lines tell of
+-- attempts alone, and of each what became of it. The targets stand for what it tells; nothing is left to settle at any: each entry is
+-- committed, and so at all members, those that it names and those by the script; and where its leader keeps it, each other member has confirmed that.
+pub record EndsPlainlyIn (g : Given) (v : World) : Type 0 where
+  pub legal : (resolved : AttemptId → Bool) → Headline g undisturbed resolved (report_over (rules_of g) v)
+  pub stands : HeadlineOver g undisturbed (durables_of v) (report_over (rules_of g) v)
+  pub none_down : (report_over (rules_of g) v).down ≡ None
+  pub tells : TellsPlain v
+  pub settled : (t : ℕ) (s : TargetState) → slice_get v.targets t ≡ Some s → IsSettledAt (rules_of g) t s
+  pub everywhere : (t : ℕ) (s : TargetState) (e : Entry) → slice_get v.targets t ≡ Some s → Contains s.durable.entries e → IsCommittedAtAll (rules_of g) v e
+
+-- A client that is alone is never told to restart: each of its commands has one attempt, in the order of the script, epochs rise in the
+-- order of the lines, and it is known what became of each; each is committed where there are no conditions, and room and ticks.
+pub record TellsOfLoneClient (g : Given) (q : Report) : Type 0 where
+  pub never_restarted : NeverRestarts q
+  pub one_attempt : EachIsTriedOnce g.script q
+  pub rising : EpochsRise q
+  pub plainly : EndsPlainly q
+  pub committed : HasNoConditions g.script → HasRoom g.script g.job.attempts g.opening.free → HasTicks g.script g.opening → AllAreCommitted q
+
+-- ---- the statements
+
+-- The report is legal in each part, and the targets stand for what it tells, and replicas agree; of what the outside did it is asked alone
+-- that it caused the stops for which the script doesn't ask, and what was given up.
+abbrev pub OrdersAreLegal : Type 0
+OrdersAreLegal = OfEachOrder (λ g v. (outside : Outside) → AreCaused g.script outside v → HeadlineOver g outside (durables_of v) (report_over (rules_of g) v))
+
+-- its text determines it
+abbrev pub OrdersReportInForm : Type 0
+OrdersReportInForm = OfEachOrder (λ g v. IsKeyed g → AreTyped v.lines → IsReportOf g.script (report_over (rules_of g) v))
+
+-- one of the targets issued each epoch of which it tells
+abbrev pub OrdersIssueThere : Type 0
+OrdersIssueThere = OfEachOrder (λ g v. AreIssuedThere (report_over (rules_of g) v))
+
+-- what is left in the end
+abbrev pub OrdersLeaveInTheEnd : Type 0
+OrdersLeaveInTheEnd = OfEachOrder (λ g v. LeavesInTheEnd (rules_of g) v)
+
+-- where no line tells of a stop, it is as where nothing can stop
+abbrev pub UnstoppedOrdersEndPlainly : Type 0
+UnstoppedOrdersEndPlainly = OfEachUnstoppedOrder EndsPlainlyIn
+
+-- and so it is of a client that is alone
+abbrev pub UnstoppedOrdersOfLoneClients : Type 0
+UnstoppedOrdersOfLoneClients = OfEachUnstoppedOrder (λ g v. IsLone g.script undisturbed → TellsOfLoneClient g (report_over (rules_of g) v))
+
+-- ---- of legal reports
+
+-- a legal report, of whatever run
+abbrev pub OfLegalReports : (Given → Report → Type 0) → Type 0
+OfLegalReports P = (g : Given) (o : Outside) (resolved : AttemptId → Bool) (q : Report) → Headline g o resolved q → P g q
+
+-- it is told as unknown what became of an attempt only by a target of the attempt that was given up
+abbrev pub UnknownIsOfGivenUp : Type 0
+UnknownIsOfGivenUp = OfLegalReports (λ g q. (a : Attempt) (t : ℕ) → Contains (tries q.lines) a → a.outcome ≡ Unknown t → Contains (attempt_targets g.script a.id) t × Has t (down_targets q.lines))
+
+-- so, where no target was given up, it is known of each
+abbrev pub NoneUnknownWithoutGivenUp : Type 0
+NoneUnknownWithoutGivenUp = OfLegalReports (λ g q. q.down ≡ None → All (λ a. is_unknown a.outcome ≡ false) (tries q.lines))

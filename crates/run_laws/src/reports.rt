@@ -1,0 +1,34 @@
+// What a run in an order reports, where targets may stop and open again.
+
+ghost use Rattle.run_laws.specs.reports.Reports.{NoneUnknownWithoutGivenUp, OrdersAreLegal, OrdersIssueThere, OrdersLeaveInTheEnd, OrdersReportInForm, UnknownIsOfGivenUp, UnstoppedOrdersEndPlainly, UnstoppedOrdersOfLoneClients};
+
+/// Says what a run in the order that the job names comes to, where targets may stop, open again, or be given
+/// up, of a script in form without snapshots and aggregation, from its beginning. The report of its lines is
+/// legal in each part, whatever the outside is taken to have done, if only it caused the stops for which the
+/// script doesn't ask, and what was given up; the targets stand for what it tells, and replicas agree. The
+/// text of the report determines it, where names and keys are keys, and the numbers of stops and openings are
+/// as small as their types hold. Each epoch of which it tells bears the number of one of the targets. In the end each
+/// target runs or is given up; and each entry that a running one keeps is committed, or a member of its attempt
+/// was given up. Of what is committed at one all members hold an entry.
+pub fn laws_of_ordered_reports()
+    ensures legal { OrdersAreLegal }
+    ensures form { OrdersReportInForm }
+    ensures issued { OrdersIssueThere }
+    ensures left { OrdersLeaveInTheEnd }
+{}
+
+/// Says that such a run of which no line tells of a stop ends as one in which nothing can stop: its report is
+/// legal though the outside failed no region, whichever attempts are taken as resolved; it names no target as
+/// given up; its lines tell of attempts alone, and of each what became of it; and nothing is left to settle at
+/// any target. So what holds of a client that is alone holds of it.
+pub fn laws_of_unstopped_reports()
+    ensures plainly { UnstoppedOrdersEndPlainly }
+    ensures lone { UnstoppedOrdersOfLoneClients }
+{}
+
+/// Says that a legal report tells of an attempt as unknown only by a target of the attempt that was given up,
+/// as a line tells; so, where it names no target as given up, it is known what became of each attempt.
+pub fn laws_of_unknown_outcomes()
+    ensures given_up { UnknownIsOfGivenUp }
+    ensures none { NoneUnknownWithoutGivenUp }
+{}

@@ -1,2 +1,0 @@
-// What the turns of actors lead to, by what each leaves of them.
-#![tactic(auto)]

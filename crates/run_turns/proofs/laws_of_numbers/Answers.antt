@@ -1,5 +1,0 @@
-use Rattle.run_turns.specs.Numbers.{all-told_are_counted, orders-tell_all, turns-tell_all}
-use Rattle.run_turns.proofs.laws_of_numbers.Goals as goal
-
-pub returns : goal.returns
-returns c = record { turns = turns-tell_all; orders = orders-tell_all; counted = all-told_are_counted }

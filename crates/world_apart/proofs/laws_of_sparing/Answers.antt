@@ -1,7 +1,0 @@
-use Rattle.world_apart.specs.Sparing.{event-spares}
-use Rattle.world_apart.specs.Sweeping.{sweeps-by_downs}
-use Rattle.world_apart.specs.Taking.{aggregate-stays, event-takes, restart-stays}
-use Rattle.world_apart.proofs.laws_of_sparing.Goals as goal
-
-pub returns : goal.returns
-returns c = record { spared = event-spares; numbers = event-takes; restarts = restart-stays; aggregates = aggregate-stays; swept = sweeps-by_downs }

@@ -1,0 +1,6 @@
+-- What targets keep and what they answered stands for the decided transactions.
+pub mod reads
+pub mod posts
+pub mod gots
+pub mod verdicts
+pub mod frozen

@@ -1,6 +1,0 @@
-use Rattle.world_freezings.specs.Fetching.{fetches-right, waiters-right}
-use Rattle.world_freezings.specs.Seeing.{fetches-ask, readers-see, waiting-see}
-use Rattle.world_freezings.proofs.laws_of_snapshot_reads.Goals as goal
-
-pub returns : goal.returns
-returns c = record { seen = readers-see; asked = fetches-ask; waiting = waiting-see; fetches = fetches-right; waiters = waiters-right }

@@ -1,0 +1,12 @@
+-- What goes about between clients and targets, and what lines tell of clients.
+pub mod clients
+pub mod kinds
+pub mod talks
+pub mod addresses
+pub mod waits
+pub mod lines
+pub mod endings
+pub mod lives
+pub mod epochs
+pub mod snapshots
+pub mod apart

@@ -1,0 +1,85 @@
+-- The epochs that lines tell of, with one line more.
+use Rattle.std.specs.Prelude.{ℕ, ◌≡◌, ◌<◌, ◌++◌, Bool, true, false, nat_eq, List, [], ◌∷◌, Contains, All, Option, Some, None, refl, if◌then◌else◌}
+use Rattle.std.specs.Cmp.{nat_eq_equiv}
+use Rattle.std.specs.List.{IsDistinct, list_any}
+use Rattle.std.proofs.Common.{append-nil, append_assoc, sym, ◌∙◌, ap, subst, ⊎_elim, arith}
+use Rattle.std.proofs.lemmas.Bool.{eqb-true}
+use Rattle.std.proofs.lemmas.List.Elements.{All-push, Contains-append_cases, Contains-append_left, Contains-append_right, Contains-push}
+use Rattle.std.proofs.lemmas.List.Folds.{list_any_none}
+use Rattle.std.proofs.lemmas.Map.Keys.{IsDistinct-push}
+use Rattle.base_types.specs.declared.epoch.Epoch.{Epoch}
+use Rattle.base_types.specs.declared.report.Attempt.{Attempt}
+use Rattle.base_types.specs.declared.report.Line.{Line}
+use Rattle.base_types.specs.declared.report.Line.TheVariants as line
+use Rattle.base_types.specs.declared.script.Script.{Script}
+use Rattle.daos_model.specs.Attempts.{epoch_or_none, has_own_epoch, own_epochs, tries}
+use Rattle.daos_model.specs.Order.{AreIssued}
+use Rattle.world_letters.specs.epochs.Lists.{all-each, contains-none, contains-one, tries-push}
+
+-- those of attempts, and of attempts after them
+pub own_epochs-append : (s : Script) (before after : List Attempt) → own_epochs s (before ++ after) ≡ own_epochs s before ++ own_epochs s after
+unfolding own_epochs
+own_epochs-append s [] after = refl
+own_epochs-append s (a ∷ before) after =
+    ap (λ es. (if has_own_epoch s a then epoch_or_none a.epoch else []) ++ es) (own_epochs-append s before after)
+    ∙ sym (append_assoc (if has_own_epoch s a then epoch_or_none a.epoch else []) (own_epochs s before) (own_epochs s after))
+
+-- one that an attempt has
+pub record HasOwn (attempts : List Attempt) (n : ℕ) : Type 0 where
+  pub a : Attempt
+  pub e : Epoch
+  pub among : Contains attempts a
+  pub known : a.epoch ≡ Some e
+  pub is : e.0 ≡ n
+
+own-one : (o : Option Epoch) (n : ℕ) → Contains (epoch_or_none o) n → (e : Epoch) × (o ≡ Some e) × (e.0 ≡ n)
+own-one None n h = absurd (contains-none n h)
+own-one (Some e) n h = (e, refl, contains-one e.0 n h)
+
+pub own_epochs-has : (s : Script) (attempts : List Attempt) (n : ℕ) → Contains (own_epochs s attempts) n → HasOwn attempts n
+unfolding own_epochs
+own_epochs-has s [] n h = absurd (contains-none n h)
+own_epochs-has s (a ∷ more) n h =
+    ⊎_elim (λ k. first (has_own_epoch s a) k)
+    (λ k. let l = own_epochs-has s more n k in record { a = l.a; e = l.e; among = Contains-append_right (a ∷ []) more l.a l.among; known = l.known; is = l.is })
+    (Contains-append_cases (if has_own_epoch s a then epoch_or_none a.epoch else []) (own_epochs s more) n h)
+  where
+    first : (b : Bool) → Contains (if b then epoch_or_none a.epoch else []) n → HasOwn (a ∷ more) n
+    first true k = let l = own-one a.epoch n k in record { a = a; e = l.0; among = Contains-append_left (a ∷ []) more a (Contains-push [] a); known = l.1; is = l.2 }
+    first false k = absurd (contains-none n k)
+
+-- a line more, whose epoch, if it has one, is above all of before the run, and no other line's
+pub issued-push : (s : Script) (top : ℕ) (lines : List Line) (a : Attempt) → AreIssued s top lines
+    → ((e : Epoch) → a.epoch ≡ Some e → (top < e.0) × ((b : Attempt) (f : Epoch) → Contains (tries lines) b → b.epoch ≡ Some f → (e.0 ≡ f.0) → ⊥)) → AreIssued s top (lines ++ line.Try a ∷ [])
+unfolding own_epochs
+issued-push s top lines a I new = record {
+  distinct = subst (λ es. IsDistinct nat_eq es) (sym all) (distinct-by (has_own_epoch s a) a.epoch refl);
+  above = subst (λ es. All (λ e. top < e) es) (sym all) (above-by (has_own_epoch s a) a.epoch refl);
+}
+  where
+    old : List ℕ
+    old = own_epochs s (tries lines)
+
+    all : own_epochs s (tries (lines ++ line.Try a ∷ [])) ≡ old ++ (if has_own_epoch s a then epoch_or_none a.epoch else [])
+    all = ap (own_epochs s) (tries-push lines a) ∙ own_epochs-append s (tries lines) (a ∷ []) ∙ ap (λ es. old ++ es) (append-nil (if has_own_epoch s a then epoch_or_none a.epoch else []))
+
+    apart : (e : Epoch) → a.epoch ≡ Some e → list_any (nat_eq e.0) old ≡ false
+    apart e is = list_any_none (nat_eq e.0) old (all-each (λ n. nat_eq e.0 n ≡ false) old (λ n h. by n h (nat_eq e.0 n) refl))
+      where
+        by : (n : ℕ) → Contains old n → (b : Bool) → nat_eq e.0 n ≡ b → nat_eq e.0 n ≡ false
+        by n h false same = same
+        by n h true same = let k = own_epochs-has s (tries lines) n h in absurd ((new e is).1 k.a k.e k.among k.known (eqb-true e.0 n same ∙ sym k.is))
+
+    distinct-by : (b : Bool) (o : Option Epoch) → a.epoch ≡ o → IsDistinct nat_eq (old ++ (if b then epoch_or_none o else []))
+    distinct-by false o is = subst (λ es. IsDistinct nat_eq es) (sym (append-nil old)) I.distinct
+    distinct-by true None is = subst (λ es. IsDistinct nat_eq es) (sym (append-nil old)) I.distinct
+    distinct-by true (Some e) is = IsDistinct-push nat_eq_equiv old e.0 I.distinct (apart e is)
+
+    above-by : (b : Bool) (o : Option Epoch) → a.epoch ≡ o → All (λ e. top < e) (old ++ (if b then epoch_or_none o else []))
+    above-by false o is = subst (λ es. All (λ e. top < e) es) (sym (append-nil old)) I.above
+    above-by true None is = subst (λ es. All (λ e. top < e) es) (sym (append-nil old)) I.above
+    above-by true (Some e) is = All-push (λ n. top < n) old e.0 I.above (new e is).0
+
+pub none-issued : (s : Script) (top : ℕ) (lines : List Line) → lines ≡ [] → AreIssued s top lines
+unfolding own_epochs IsDistinct tries
+none-issued s top lines none = subst (λ ls. AreIssued s top ls) (sym none) (record { distinct = tt; above = λ k d low. absurd (omega (arith, low)) })

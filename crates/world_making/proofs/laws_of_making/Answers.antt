@@ -1,6 +1,0 @@
-use Rattle.world_making.specs.Snapshots.{created-are_frozen, created-stay, freezes-stay}
-use Rattle.world_making.specs.Turns.{cuts-leave, hearings-leave}
-use Rattle.world_making.proofs.laws_of_making.Goals as goal
-
-pub returns : goal.returns
-returns c = record { heard = hearings-leave; cut = cuts-leave; freezes = freezes-stay; created = created-stay; held = created-are_frozen }

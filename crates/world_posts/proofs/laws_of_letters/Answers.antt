@@ -1,5 +1,0 @@
-use Rattle.world_posts.specs.FormLaws.{clients-send-letters, resets-are-letters, targets-send-letters}
-use Rattle.world_posts.proofs.laws_of_letters.Goals as goal
-
-pub returns : goal.returns
-returns c = record { clients = clients-send-letters; targets = targets-send-letters; resets = resets-are-letters }

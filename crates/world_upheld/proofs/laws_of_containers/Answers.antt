@@ -1,5 +1,0 @@
-use Rattle.world_upheld.proofs.laws_of_containers.Goals as goal
-use Rattle.world_upheld.specs.Containers.{all-events-keep_containers, runs-know_declared}
-
-pub returns : goal.returns
-returns c = record { events = all-events-keep_containers; runs = runs-know_declared }

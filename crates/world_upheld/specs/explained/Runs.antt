@@ -1,0 +1,76 @@
+-- A run begins so that outcomes show their causes; and in one that reads at no snapshot it is so at each moment.
+use Rattle.std.specs.Prelude.{ℕ, ◌≡◌, ◌≤◌, ◌+◌, ◌*◌, ◌/◌, Bool, true, false, nat_lt, slice_get, Some, if◌then◌else◌}
+use Rattle.std.proofs.Common.{sym, ◌∙◌, ap, subst, arith}
+use Rattle.base_types.specs.declared.id.ContId.{ContId}
+use Rattle.daos_model.specs.Durables.{row_of}
+use Rattle.daos_model.specs.Opening.{Opening, top}
+use Rattle.vos_store.specs.Answers.{floor_of}
+use Rattle.world_commit.specs.asks.Entries.{mapped}
+use Rattle.world_base.specs.declared.client.ClientState.{ClientState}
+use Rattle.world_base.specs.declared.target.TargetState.{TargetState}
+use Rattle.world_base.specs.declared.world.World.{World}
+use Rattle.world_base.specs.Events.{Rules}
+use Rattle.world_base.specs.Stops.{Begins, Goes}
+use Rattle.world_causes.specs.causes.CauseLaws.{IsBegun}
+use Rattle.world_upheld.specs.causing.Begin.{causes-begin, refusals-and_places_begin}
+use Rattle.world_legal.specs.reasons.Accounted.{stored_over}
+use Rattle.world_upheld.specs.upheld.Begins.{RunBeginsWith, client_begins}
+use Rattle.world_upheld.specs.upheld.BeginVersions.{same-row}
+use Rattle.world_upheld.specs.upheld.Runs.{held-first}
+use Rattle.world_upheld.specs.reasons.Reasons.{reasons-begin}
+use Rattle.world_plain.specs.whole.BeginLaws.{get-map}
+use Rattle.world_plain.specs.whole.Begins.{held_at, no_history}
+use Rattle.world_upheld.specs.explained.Explanations.{AllRunsShowCauses, RunsBeginWithExplanations, RunsHaveExplanations}
+use Rattle.world_upheld.specs.explained.Events.{all-events-keep_explanations, scripts-read_none}
+
+-- ---- the beginning
+
+epoch-low : (lease : ℕ) → (lease * 256 + 255) / 256 ≤ lease
+epoch-low lease = omega arith
+
+module _ (r : Rules) (o : Opening) (w : World) (B : RunBeginsWith r o w) where
+  -- clients' trackers cover all epochs of the opening, and no more
+  tracker-is : (n : ℕ) (c : ClientState) → slice_get w.clients n ≡ Some c → c.tracker.0 ≡ top o
+  tracker-is n c here =
+      let x = mapped (client_begins r o w) (slice_get r.script.clients n) c
+      (sym (get-map (client_begins r o w) r.script.clients n) ∙ ap (λ cs. slice_get cs n) (sym B.clients) ∙ here) in
+      sym (ap (λ z. z.tracker.0) x.2)
+
+  floor-low : (t : ℕ) (s : TargetState) (c : ContId) → slice_get w.targets t ≡ Some s → (floor_of s.opening s.durable c).0.0 ≤ top o
+  unfolding floor_of
+  floor-low t s c here = by (nat_lt s.opening.0.0 (row_of s.durable c).floor.0)
+    where
+      by : (b : Bool) → (if b then ((row_of s.durable c).floor, (row_of s.durable c).why) else s.opening).0.0 ≤ top o
+      by true = subst (λ x. x.floor.0 ≤ top o) (same-row s.durable c) ((B.starts t s here).opens.floors c).0
+      by false = (B.starts t s here).floor
+
+  begun : IsBegun o w
+  begun = record {
+    messages = B.messages;
+    issued = B.issued;
+    lines = B.lines;
+    parked = λ t s here. ap (λ m. m.parked) (B.starts t s here).member;
+    space = λ t s here. (B.starts t s here).free;
+    ticks = λ t s here. (B.starts t s here).ticks;
+    trackers = λ n c here. subst (λ e. e / 256 ≤ o.lease) (sym (tracker-is n c here)) (epoch-low o.lease);
+    floors = λ t s c here. (floor-low t s c here, subst (λ x. x.aggregated.0 ≤ top o) (same-row s.durable c) ((B.starts t s here).opens.floors c).1);
+    leases = λ t s here. (B.starts t s here).opens.lease;
+  }
+
+pub explanations-begin : RunsBeginWithExplanations
+explanations-begin r o w A B few =
+    let z = refusals-and_places_begin r o w B.messages few in
+    record { reasons = reasons-begin r o w A B; causes = causes-begin r o w (begun r o w B); places = z.1; refusals = z.0 }
+
+-- ---- runs
+
+pub runs-have_explanations : RunsHaveExplanations
+runs-have_explanations r o w v A B few none Begins = (no_history, explanations-begin r o w A B few)
+runs-have_explanations r o w v A B few none (Goes u x run e) =
+    let k = runs-have_explanations r o w u A B few none run in
+    let s = all-events-keep_explanations r o (held_at w) k.0 (stored_over r run) u v A (held-first r o w A B) k.1
+    (scripts-read_none r o (held_at w) k.0 (stored_over r run) u none k.1.reasons) e in
+    (s.later, s.explanations)
+
+pub all-runs-show : AllRunsShowCauses
+all-runs-show r o w v A B few none run = (runs-have_explanations r o w v A B few none run).1.causes

@@ -1,0 +1,76 @@
+-- What any run begins with: with what it asks where no snapshot is there, of all but snapshots, and with snapshots that earlier runs made.
+use Rattle.std.specs.Prelude.{ℕ, ◌≡◌, ◌≤◌, ◌<◌, ◌/◌, Bool, true, List, [], length, map, slice_get, Contains, Option, Some, None}
+use Rattle.base_types.specs.declared.epoch.Epoch.{Epoch}
+use Rattle.base_types.specs.declared.id.ContId.{ContId}
+use Rattle.base_types.specs.declared.script.Command.{Command}
+use Rattle.base_types.specs.declared.snapshot.Snap.{Snap}
+use Rattle.base_types.specs.Scripts.{IsInForm as IsScriptInForm}
+use Rattle.daos_model.specs.declared.cell.CellValue.{CellValue}
+use Rattle.daos_model.specs.declared.durable.Durable.{Durable}
+use Rattle.daos_model.specs.declared.durable.Version.{Version}
+use Rattle.daos_model.specs.Durables.{IsInForm, row_of}
+use Rattle.daos_model.specs.Opening.{Opening, kept_map}
+use Rattle.world_base.specs.declared.client.ClientState.{ClientState}
+use Rattle.world_base.specs.declared.target.TargetState.{TargetState}
+use Rattle.world_base.specs.declared.world.World.{World}
+use Rattle.world_base.specs.ClientTurns.{at_first}
+use Rattle.world_base.specs.Events.{Rules}
+use Rattle.world_making.specs.freezings.Freezings.{KeepsFrozen}
+use Rattle.world_making.specs.making.Snapshots.{holds_created}
+use Rattle.world_contents.specs.reads.Versions.{HoldsMap, is_own_in}
+use Rattle.world_plain.specs.whole.Begins.{AreEnlisted, StartsWith, first_tracker}
+
+-- ---- the rules
+
+-- A run of a script in form, for some targets whose numbers fit into epochs and into sets of members, which allows a command an attempt.
+pub record AreRulesInForm (r : Rules) : Type 0 where
+  pub form : IsScriptInForm r.script.targets r.script
+  pub some_target : 0 < r.script.targets
+  pub few_targets : r.script.targets ≤ 64
+  pub some_attempt : 0 < r.attempts
+
+-- ---- snapshots that are kept
+
+abbrev pub is_settled_version : Version → Bool
+is_settled_version v = v.done
+
+-- The snapshots that a target of so many holds when a run begins: no write at or below one is stored any more, and its lease covers it; and
+-- where the opening keeps the map of one, the target's versions below its epoch give that at its own cells.
+pub record KeepsSnapshots (targets t : ℕ) (o : Opening) (d : Durable) : Type 0 where
+  pub form : IsInForm d
+  pub floored : (s : Snap) → Contains d.snaps s → s.epoch.0 ≤ (row_of d s.cont).floor.0
+  pub leased : (s : Snap) → Contains d.snaps s → s.epoch.0 / 256 ≤ d.lease
+  pub maps : (s : Snap) (m : List CellValue) → Contains d.snaps s → kept_map s.cont s.epoch.0 o.stand.snaps ≡ Some m
+      → HoldsMap (is_own_in targets t s.cont) is_settled_version d.versions s.epoch.0 m
+
+-- a target, of which no snapshot is told
+abbrev pub without_snaps : TargetState → TargetState
+without_snaps s = record s { durable = record s.durable { snaps = [] } }
+
+-- ---- the world
+
+-- the snapshots that a target holds
+abbrev pub snaps_held : Option TargetState → List Snap
+snaps_held None = []
+snaps_held (Some s) = s.durable.snaps
+
+-- a client before its first turn, which knows the snapshots that the script names and target 0 holds as created
+abbrev pub client_begins : Rules → Opening → World → List Command → ClientState
+client_begins r o w commands = at_first r.script (snaps_held (slice_get w.targets 0)) (first_tracker o)
+
+-- A world before its first event: a target for each number, that starts with all but its snapshots as where there are none, and with these; a
+-- client for each list of the script; and nothing in flight, issued or told of. What target 0 holds as created each target holds frozen, and
+-- the opening keeps its map.
+pub record RunBeginsWith (r : Rules) (o : Opening) (w : World) : Type 0 where
+  pub targets : length w.targets ≡ r.script.targets
+  pub starts : (t : ℕ) (s : TargetState) → slice_get w.targets t ≡ Some s → StartsWith r.script.targets t o (without_snaps s)
+  pub snapshots : (t : ℕ) (s : TargetState) → slice_get w.targets t ≡ Some s → KeepsSnapshots r.script.targets t o s.durable
+  pub frozen : (z : TargetState) (c : ContId) (s : Epoch) → slice_get w.targets 0 ≡ Some z → holds_created z.durable c s ≡ true → (t : ℕ) → KeepsFrozen w t c s
+  pub kept : (z : TargetState) (c : ContId) (s : Epoch) → slice_get w.targets 0 ≡ Some z → holds_created z.durable c s ≡ true
+      → (m : List CellValue) × (kept_map c s.0 o.stand.snaps ≡ Some m)
+  pub enlisted : (t : ℕ) (s : TargetState) → slice_get w.targets t ≡ Some s → AreEnlisted r.script s.durable
+  pub clients : w.clients ≡ map (client_begins r o w) r.script.clients
+  pub messages : w.messages ≡ []
+  pub asked : w.asked ≡ []
+  pub issued : w.issued ≡ []
+  pub lines : w.lines ≡ []

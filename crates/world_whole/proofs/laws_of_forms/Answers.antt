@@ -1,6 +1,0 @@
-use Rattle.world_whole.specs.Posting.{clients-post-in-form, hearers-post-in-form}
-use Rattle.world_whole.specs.ScriptForm.{read-in-form, writes-are-in-form}
-use Rattle.world_whole.proofs.laws_of_forms.Goals as goal
-
-pub returns : goal.returns
-returns c = record { reads = read-in-form; writes = writes-are-in-form; posts = clients-post-in-form; answers = hearers-post-in-form }
