@@ -1,6 +1,6 @@
 use Rattle.world_commit.specs.attempts.EventLaws.{attempts-kept, none-is-both}
 use Rattle.world_contents.specs.reads.EventLaws.{clients-keep, hearing-keeps, idling-keeps, others-keep}
-use Rattle.world_contents.proofs.reads.reads.laws_of_turns.Goals as goal
+use Rattle.world_contents.proofs.reads.laws_of_turns.Goals as goal
 
 pub returns : goal.returns
 returns c = record {
