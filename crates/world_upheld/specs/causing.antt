@@ -1,5 +1,6 @@
 -- That outcomes show their causes, also where snapshots are made and containers aggregated.
 pub mod Counting
+pub mod Dates
 pub mod Places
 pub mod PlaceLaws
 pub mod Following
@@ -20,7 +21,11 @@ pub mod Begin
 pub mod Doing
 pub mod Told
 pub mod SnapshotReads
-pub mod DatedClients
 pub mod DatedCuts
 pub mod DatedEvents
 pub mod DatedReads
+pub mod DatedVerdicts
+pub mod DatedTurns
+pub mod DateLaws
+pub mod Readers
+pub mod OverDates

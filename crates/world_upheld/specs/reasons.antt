@@ -5,6 +5,7 @@ pub mod Events
 pub mod Runs
 pub mod Hearing
 pub mod Leaders
+pub mod Counting
 pub mod Requests
 pub mod Doubting
 pub mod Reasons

@@ -2,13 +2,15 @@
 
 ghost use Rattle.world_upheld.specs.causing.Begin.{AllCausesBegin, RefusalsAndPlacesBegin};
 ghost use Rattle.world_upheld.specs.causing.Clients.{GoingKeepsCauses, HearsKeepsCauses};
-ghost use Rattle.world_upheld.specs.causing.DatedClients.{DatedLettersKeepCauses, DatedMovesKeepCauses};
-ghost use Rattle.world_upheld.specs.causing.DatedCuts.{SnapshotReadCutsKeepCauses};
-ghost use Rattle.world_upheld.specs.causing.DatedEvents.{DatedHappeningsKeepCauses};
+ghost use Rattle.world_upheld.specs.causing.DatedCuts.{SnapshotReadCutsKeepCauses, VerdictCutsKeepCauses};
 ghost use Rattle.world_upheld.specs.causing.DatedReads.{CountingKeepsCauses, SnapshotReadsKeepCauses};
+ghost use Rattle.world_upheld.specs.causing.DateLaws.{EventsKeepDates, ReadsComeToCount};
+ghost use Rattle.world_upheld.specs.causing.DatedTurns.{LostQueriesKeepCauses, VerdictsKeepCauses};
 ghost use Rattle.world_upheld.specs.causing.Events.{MakingCutsKeepCauses, MakingKeepsCauses};
 ghost use Rattle.world_upheld.specs.causing.Happening.{AllEventsKeepCauses, AllHappeningsKeepCauses};
 ghost use Rattle.world_upheld.specs.causing.PlaceLaws.{AllEventsKeepPlaces};
+ghost use Rattle.world_upheld.specs.causing.OverDates.{CausesOverDatesBegin, EventsKeepCausesOverDates, LaterReadsWereIssued, PlainCausesFollow, ReadsCount};
+ghost use Rattle.world_upheld.specs.causing.Readers.{AllEventsKeepReaders};
 ghost use Rattle.world_upheld.specs.causing.RefusalLaws.{AllEventsKeepFreezeRefusals};
 ghost use Rattle.world_upheld.specs.causing.SnapshotReads.{SnapshotReadsMeetNone, SnapshotReadsShow};
 
@@ -23,10 +25,11 @@ ghost use Rattle.world_upheld.specs.causing.SnapshotReads.{SnapshotReadsMeetNone
 /// refusal of a Freeze that goes about shows its cause.
 ///
 /// Clients keep it too, whatever their commands are: whether they read at snapshots, make them, or aggregate.
-/// And so everything that happens keeps it, and every event of a run: of what is heard that isn't of snapshots
-/// and aggregation, where it is known what that rests on, by which no read that a target hears is at a
-/// snapshot. At the beginning it is so in any script, where
-/// nothing is in flight, issued, parked or told.
+/// And so everything that happens keeps it, and every event of a run, where it is known what each thing that is
+/// heard rests on: by the epochs that count as those of attempts, which are those that were issued, and for an
+/// attempt that reads at a snapshot that of the snapshot. What is issued in an event counts after it; and an
+/// attempt that was begun stays so. At the beginning it is so in any script, where nothing is in flight, issued,
+/// parked or told.
 pub fn laws_of_causing()
     ensures making { MakingKeepsCauses }
     ensures cut { MakingCutsKeepCauses }
@@ -47,19 +50,36 @@ pub fn laws_of_causing()
 /// waits. Where the epochs that were issued alone count, as for other attempts, no outcome shows that: so then
 /// no read at a snapshot was told of an unresolved attempt, and no leader is asked for one.
 ///
-/// One epoch more may count as an attempt's: outcomes show their causes as before. And where a target hears
-/// such a read whose snapshot's epoch counts as its attempt's, it keeps that outcomes show their causes, also
-/// where it stops as it hears it. Beside that read, all that targets do keeps it that isn't of snapshots and
-/// aggregation, where it is known what it rests on: so no read at a snapshot goes on as it is heard.
-/// And so does each move of a client, and what a client hears, while each attempt with an epoch is present or
-/// has its line.
+/// One epoch more may count as an attempt's: outcomes show their causes as before. Where the snapshot's epoch counts
+/// as that of an attempt that reads there, a target keeps that outcomes show their causes as it hears such a read; as
+/// it hears a Verdict, which may free such reads; as it hears that its question for one got no answer; and where it
+/// stops as it hears a read or a Verdict. Which epochs count stays in order over every event; that of a read comes to
+/// count; and reads at snapshots that wait at a target meet what they wait for.
 pub fn laws_of_reads_at_snapshots()
     ensures shown { SnapshotReadsShow }
     ensures alone { SnapshotReadsMeetNone }
     ensures counting { CountingKeepsCauses }
     ensures kept { SnapshotReadsKeepCauses }
     ensures cut { SnapshotReadCutsKeepCauses }
-    ensures beside { DatedHappeningsKeepCauses }
-    ensures moves { DatedMovesKeepCauses }
-    ensures letters { DatedLettersKeepCauses }
+    ensures verdict { VerdictsKeepCauses }
+    ensures verdict_cut { VerdictCutsKeepCauses }
+    ensures lost { LostQueriesKeepCauses }
+    ensures dates { EventsKeepDates }
+    ensures counted { ReadsComeToCount }
+    ensures readers { AllEventsKeepReaders }
+{}
+
+/// Says that outcomes show their causes over dates, whatever happens in any script, where reads at snapshots are
+/// among what is asked: what counts as epochs of attempts are those that were issued, and for an attempt that
+/// reads at a snapshot that of the snapshot. Each event of a run keeps it, with what is stored in it, where it is
+/// known what the event rests on; a read at a snapshot comes to count as it is heard; and it is so where nothing
+/// is in flight, issued, parked or told. Where no attempt reads at a snapshot, outcomes show their causes by the
+/// epochs that were issued. All this holds, too, where each read at a snapshot counts as so much later than it. Where
+/// it holds both ways, each later read that a line's cause names was issued its epoch: it is none at a snapshot.
+pub fn laws_of_causes_over_dates()
+    ensures events { EventsKeepCausesOverDates }
+    ensures begin { CausesOverDatesBegin }
+    ensures counts { ReadsCount }
+    ensures plain { PlainCausesFollow }
+    ensures later_reads { LaterReadsWereIssued }
 {}

@@ -1,26 +1,40 @@
--- Clients keep that outcomes show their causes, whatever their commands are.
-use Rattle.std.specs.Prelude.{◌<◌, refl}
-use Rattle.std.proofs.Common.{append-nil, sym, subst, arith}
+-- Clients keep that outcomes show their causes, whatever their commands are, where epochs of snapshots count as those of the attempts that read
+-- there.
+use Rattle.std.specs.Prelude.{ℕ, ◌≡◌, ◌<◌, ◌⊎◌, Contains, slice_get, Some, refl}
+use Rattle.std.proofs.Common.{append-nil, inl, inr, sym, ◌∙◌, ap, subst, arith}
+use Rattle.std.proofs.Math.ListN.{set}
+use Rattle.base_types.specs.declared.epoch.Epoch.{Epoch}
+use Rattle.base_types.specs.declared.id.AttemptId.{AttemptId}
+use Rattle.base_messages.specs.declared.message.Message.{Message}
 use Rattle.daos_model.specs.Opening.{Opening, top}
+use Rattle.model_laws.specs.Members.{Has}
+use Rattle.world_commit.specs.attempts.Counting.{has-left_over, has-taken}
+use Rattle.world_commit.specs.attempts.Turning.{one-or_another}
+use Rattle.world_base.specs.declared.client.ClientState.{ClientState}
 use Rattle.world_base.specs.declared.world.World.{World}
-use Rattle.world_base.specs.ClientTurns.{Ended_by, HearTurn, Heard_on, Move, heard, listed, moved}
+use Rattle.world_base.specs.ClientTurns.{Ended_by, attempt_id, HearTurn, Heard_on, Move, heard, listed, moved}
 use Rattle.world_base.specs.Events.{ClientGoes, ClientHears, Rules, after_turn, client_plan, with_client}
 use Rattle.world_base.specs.Letters.{client}
-use Rattle.world_base.specs.StepLaws.{after-both, by-going, by-next, set-here}
+use Rattle.world_base.specs.StepLaws.{after-both, by-going, by-next, set-here, set-there}
 use Rattle.world_base.specs.Steps.{KeptByCounting, KeptByMoves, after_move, without}
-use Rattle.world_causes.specs.causes.Causes.{Stored}
+use Rattle.world_causes.specs.causes.Causes.{Dated, Stored}
 use Rattle.world_causes.specs.causes.HearingLaws.{LossesStand}
 use Rattle.world_causes.specs.causes.Shown.{Causes}
-use Rattle.world_upheld.specs.causing.Doing.{counting-causes, goes-causes}
-use Rattle.world_upheld.specs.causing.Told.{hears-causes}
+use Rattle.world_upheld.specs.causing.Dates.{line-on, with_dates}
+use Rattle.world_upheld.specs.causing.Doing.{AreBegun, counting-causes, dated-goes_causes, over-after}
+use Rattle.world_upheld.specs.causing.Told.{dated-hears_causes}
 use Rattle.world_making.specs.dates.Answering.{quiet-client}
 use Rattle.world_making.specs.dates.Going.{moved-dates}
 use Rattle.world_making.specs.dates.Heard.{heard-dates}
 use Rattle.world_making.specs.dates.Moves.{quiet-same}
-use Rattle.world_letters.specs.epochs.Epochs.{ClientsStand, Epochs}
+use Rattle.world_letters.specs.epochs.Epochs.{ClientsStand, Epochs, IsPresent}
 use Rattle.world_letters.specs.epochs.EventLaws.{stands-by-counting, stands-by-hearing, stands-by-moves}
 use Rattle.world_letters.specs.epochs.Talking.{silent-unless}
 use Rattle.world_causes.specs.hearing.HappeningEpochs.{talks-once}
+use Rattle.world_causes.specs.losses.ClientHears.{LossesAreAsked, heard-steps}
+use Rattle.world_causes.specs.losses.Clients.{After, IsOver, Stepped, after-none, moves-step, stepped}
+use Rattle.world_causes.specs.losses.Losses.{Losses}
+use Rattle.world_causes.specs.outcomes.Moving.{same-past}
 use Rattle.world_letters.specs.waits.ClientLaws.{counting-keeps, hearing-keeps, moves-keep}
 use Rattle.world_letters.specs.waits.Waits.{Conversation}
 
@@ -28,64 +42,121 @@ use Rattle.world_letters.specs.waits.Waits.{Conversation}
 abbrev pub ClientsKnown : Rules → Opening → World → Type 0
 ClientsKnown r o w = Conversation r w × ClientsStand r w × Epochs r (top o) w
 
--- a client goes on without a message
+-- and what tells of losses, of questions of clients about their attempts
+abbrev pub LossesKnown : Rules → World → Type 0
+LossesKnown r w = Losses r w × LossesAreAsked w
+
+-- a client goes on without a message; what was begun stays so
 abbrev pub GoingKeepsCauses : Type 0
-GoingKeepsCauses = (r : Rules) (o : Opening) (stored : Stored) (w v : World) → 0 < r.attempts → ClientsKnown r o w → ClientGoes r w v → Causes r o stored w → Causes r o stored v
+GoingKeepsCauses =
+    (r : Rules) (o : Opening) (stored : Stored) (dated : Dated) (w v : World) → 0 < r.attempts → ClientsKnown r o w → LossesKnown r w → AreBegun r dated w → ClientGoes r w v → Causes r o stored (with_dates dated w)
+    → AreBegun r dated v × Causes r o stored (with_dates dated v)
 
 -- or hears one, also that a request of its is lost
 abbrev pub HearsKeepsCauses : Type 0
 HearsKeepsCauses =
-    (r : Rules) (o : Opening) (stored : Stored) (w v : World) → 0 < r.attempts → ClientsKnown r o w → (g : ClientHears r w v) → LossesStand r w.lines g.n g.c g.l.message → Causes r o stored w → Causes r o stored v
+    (r : Rules) (o : Opening) (stored : Stored) (dated : Dated) (w v : World) → 0 < r.attempts → ClientsKnown r o w → LossesKnown r w → AreBegun r dated w → (g : ClientHears r w v) → LossesStand r w.lines g.n g.c g.l.message → Causes r o stored (with_dates dated w)
+    → AreBegun r dated v × Causes r o stored (with_dates dated v)
 
-module _ (r : Rules) (o : Opening) (stored : Stored) (some : 0 < r.attempts) where
+-- what was begun was so, after steps of a client's turn
+pub begun-after : (r : Rules) (dated : Dated) (w u : World) → AreBegun r dated w → After r w u → AreBegun r dated u
+begun-after r dated w u begun k x e i = elim (begun x e i) [
+  | inl at ↦ elim (k.stays x at) [ inl z ↦ inl z.0 | inr over ↦ inr (inl over) ]
+  | inr (inl over) ↦ inr (inl (k.over x over))
+  | inr (inr told) ↦ inr (inr (line-on w u x k.more k.told told))
+]
+
+-- a turn that is skipped leaves clients where they are
+counts-step : (r : Rules) (w : World) → KeptByCounting (After r w)
+counts-step r w u n j c here k = record {
+  over = λ x over. over-then x (k.over x over);
+  more = k.more;
+  told = k.told;
+  stays = λ x at. elim (k.stays x at) [ inl z ↦ inl (present-then x z.0, z.1) | inr over ↦ inr (over-then x over) ];
+  lines = k.lines;
+  letters = k.letters;
+  asked = k.asked;
+  targets = k.targets;
+}
+  where
+    d : ClientState
+    d = record c { skip = j }
+
+    over-then : (x : AttemptId) → IsOver u.clients x → IsOver (set u.clients n d) x
+    over-then = over-after u.clients n c d here (λ x past. same-past c d x refl (λ a at. (a, at, refl)) past)
+
+    present-then : (x : AttemptId) → IsPresent r u x → IsPresent r (with_client n d u) x
+    present-then x at = elim (one-or_another x.client n) [
+      | inl is ↦
+          let one : at.c ≡ c = let e : Some at.c ≡ Some c = sym at.here ∙ subst (λ m. slice_get u.clients m ≡ Some c) (sym is) here in cc in
+          record {
+            c = d;
+            a = at.a;
+            here = subst (λ m. slice_get (set u.clients n d) m ≡ Some d) (sym is) (set-here u.clients n c d here);
+            at = ap (λ z. z.present) (sym one) ∙ at.at;
+            own = ap (λ z. attempt_id (client_plan r x.client) z at.a) (sym one) ∙ at.own;
+          }
+      | inr off ↦ record { c = at.c; a = at.a; here = set-there u.clients n x.client d off ∙ at.here; at = at.at; own = at.own }
+    ]
+
+module _ (r : Rules) (o : Opening) (stored : Stored) (dated : Dated) (some : 0 < r.attempts) (w : World) (lost : LossesKnown r w) (begun : AreBegun r dated w) where
   abbrev All : World → Type 0
-  All w = ClientsKnown r o w × Causes r o stored w
+  All u = ClientsKnown r o u × After r w u × Causes r o stored (with_dates dated u)
 
   all-moves : KeptByMoves r All
-  all-moves w n c here p = (
-    (moves-keep r w n c here p.0.0, stands-by-moves r some w n c here p.0.1, dates),
-    goes-causes r o stored w n c (talks-once r w p.0.0) p.0.1 p.0.2 dates here p.1,
+  all-moves u n c here p = (
+    (moves-keep r u n c here p.0.0, stands-by-moves r some u n c here p.0.1, dates),
+    moves-step r w u n c here p.1,
+    dated-goes_causes r o stored dated u n c (talks-once r u p.0.0) p.0.1 dates (begun-after r dated w u begun p.1) here p.2,
   )
     where
-      dates : Epochs r (top o) (after_move w n (moved (client_plan r n) c))
-      dates = moved-dates r (top o) w n c p.0.1 p.0.2 here (λ idle. silent-unless w n c (talks-once r w p.0.0) here idle)
+      dates : Epochs r (top o) (after_move u n (moved (client_plan r n) c))
+      dates = moved-dates r (top o) u n c p.0.1 p.0.2 here (λ idle. silent-unless u n c (talks-once r u p.0.0) here idle)
 
   all-counting : KeptByCounting All
-  all-counting w n k c here p = (
-    (counting-keeps r w n k c here p.0.0, stands-by-counting r some w n k c here p.0.1, dates),
-    counting-causes r o stored w n k c p.0.2 dates here p.1,
+  all-counting u n k c here p = (
+    (counting-keeps r u n k c here p.0.0, stands-by-counting r some u n k c here p.0.1, dates),
+    counts-step r w u n k c here p.1,
+    counting-causes r o stored dated u n k c (begun-after r dated w u begun p.1) dates here p.2,
   )
     where
-      dates : Epochs r (top o) (with_client n (record c { skip = k }) w)
-      dates = quiet-client r (top o) w n c (record c { skip = k }) p.0.2 (quiet-same r (top o) w n c (record c { skip = k }) p.0.2 here (omega arith) refl refl (λ name e i. i))
+      dates : Epochs r (top o) (with_client n (record c { skip = k }) u)
+      dates = quiet-client r (top o) u n c (record c { skip = k }) p.0.2 (quiet-same r (top o) u n c (record c { skip = k }) p.0.2 here (omega arith) refl refl (λ name e i. i))
 
-  pub going : (w v : World) → All w → ClientGoes r w v → Causes r o stored v
-  going w v p g = (by-next r All all-moves all-counting w v p g).1
+  pub going : (v : World) → ClientsKnown r o w → ClientGoes r w v → Causes r o stored (with_dates dated w) → All v
+  going v known g C = by-next r All all-moves all-counting w v (known, after-none r w w.messages lost.0 (λ l i. i), C) g
 
-  pub hears : (w v : World) → All w → (g : ClientHears r w v) → LossesStand r w.lines g.n g.c g.l.message → Causes r o stored v
-  hears w v p g losses = (subst All (sym g.after) (by g.turn)).1
+  pub hears : (v : World) → ClientsKnown r o w → (g : ClientHears r w v) → LossesStand r w.lines g.n g.c g.l.message → Causes r o stored (with_dates dated w) → All v
+  hears v known g losses C = subst All (sym g.after) (by g.turn)
     where
       first : Move
       first = heard (client_plan r g.n) g.c g.l.message
 
-      dates : Epochs r (top o) (after_move (without w g.rest) g.n first)
-      dates = heard-dates r (top o) w g.n g.c g.l g.rest (talks-once r w p.0.0) p.0.1 p.0.2 g.here g.takes g.to_it
+      flies : Has g.l w.messages
+      flies = has-taken w.messages g.l g.rest g.takes
 
-      begun : All (after_move (without w g.rest) g.n first)
-      begun = (
-        (hearing-keeps r w g.n g.c g.l g.rest g.here g.awake g.takes g.to_it p.0.0, stands-by-hearing r some w g.n g.c g.l g.rest g.here g.awake g.takes g.to_it p.0.1, dates),
-        hears-causes r o stored w g.n g.c g.l g.rest (talks-once r w p.0.0) p.0.2 dates g.here g.takes g.to_it losses p.1,
+      steps : Stepped r w (without w g.rest) g.n g.c first
+      steps = heard-steps r w lost.0 g.n g.c g.l g.rest g.here flies (λ q x. lost.1 g.l q x flies (ap (λ a. a.client) g.to_it))
+
+      dates : Epochs r (top o) (after_move (without w g.rest) g.n first)
+      dates = heard-dates r (top o) w g.n g.c g.l g.rest (talks-once r w known.0) known.1 known.2 g.here g.takes g.to_it
+
+      all-heard : All (after_move (without w g.rest) g.n first)
+      all-heard = (
+        (hearing-keeps r w g.n g.c g.l g.rest g.here g.awake g.takes g.to_it known.0, stands-by-hearing r some w g.n g.c g.l g.rest g.here g.awake g.takes g.to_it known.1, dates),
+        stepped r w (without w g.rest) (after-none r w g.rest lost.0 (λ l i. has-left_over w.messages g.l g.rest l g.takes i)) g.n g.c first g.here steps,
+        dated-hears_causes r o stored dated w g.n g.c g.l g.rest (talks-once r w known.0) dates begun steps.past g.here g.takes g.to_it losses C,
       )
 
       by : HearTurn (client_plan r g.n) g.c g.l.message g.did g.d → All (with_client g.n g.d (after_turn w (client g.n) g.did g.rest))
-      by (Ended_by over says after) = rw (after, says, append-nil w.issued) begun
+      by (Ended_by over says after) = rw (after, says, append-nil w.issued) all-heard
       by (Heard_on rest over did says) =
           rw (says, did.issued, append-nil w.issued)
           (subst All (after-both (without w g.rest) g.n (listed first.post) rest.posts (listed first.line) rest.lines first.state g.d)
-          (by-going r All all-moves (after_move (without w g.rest) g.n first) g.n first.state g.d rest.posts rest.lines (set-here w.clients g.n g.c first.state g.here) begun did.goes_on))
+          (by-going r All all-moves (after_move (without w g.rest) g.n first) g.n first.state g.d rest.posts rest.lines (set-here w.clients g.n g.c first.state g.here) all-heard did.goes_on))
 
 pub going-keeps : GoingKeepsCauses
-going-keeps r o stored w v some known g C = going r o stored some w v (known, C) g
+going-keeps r o stored dated w v some known lost begun g C = let k = going r o stored dated some w lost begun v known g C in (begun-after r dated w v begun k.1, k.2)
 
 pub hears-keeps : HearsKeepsCauses
-hears-keeps r o stored w v some known g losses C = hears r o stored some w v (known, C) g losses
+hears-keeps r o stored dated w v some known lost begun g losses C = let k = hears r o stored dated some w lost begun v known g losses C in (begun-after r dated w v begun k.1, k.2)

@@ -1,5 +1,4 @@
--- Where epochs of snapshots count as those of the attempts that read there, all that targets do keeps that outcomes show their causes, but
--- what they hear of snapshots and aggregation.
+-- What targets do is done alike where epochs of snapshots count as those of the attempts that read there.
 use Rattle.std.specs.Prelude.{ℕ, ◌≡◌, ◌++◌, true, List, [], map}
 use Rattle.std.proofs.Common.{append-nil, sym, ◌∙◌, ap, subst}
 use Rattle.base_types.specs.declared.report.Line.{Line}
@@ -19,7 +18,7 @@ use Rattle.world_causes.specs.causes.Causes.{Dated, Stored}
 use Rattle.world_causes.specs.causes.Heard.{IsHeardAs}
 use Rattle.world_causes.specs.causes.Shown.{Causes}
 use Rattle.world_causes.specs.causes.TargetLaws.{target-hears-keeps, target-idles-keeps}
-use Rattle.world_upheld.specs.causing.Doing.{with_dates}
+use Rattle.world_upheld.specs.causing.Dates.{with_dates}
 use Rattle.world_commit.specs.fates.Facts.{Attempts}
 use Rattle.world_commit.specs.fates.Rightly.{letters-tell}
 use Rattle.world_letters.specs.lives.Events.{as-added}
@@ -33,45 +32,13 @@ use Rattle.world_commit.specs.statuses.Heard.{is_of_attempts}
 use Rattle.world_commit.specs.stops.CutEvents.{IsWithoutSnapshots}
 use Rattle.world_commit.specs.stops.Happenings.{rightly}
 
--- what was issued by an event of a target
-abbrev pub newly_dated : (r : Rules) {w v : World} → Happening r w v → Dated
-newly_dated r (Plainly (ByClient g) up) = []
-newly_dated r (Plainly (ToClient g) up) = []
-newly_dated r (Plainly (ToTarget g) up) = events.listed g.did.issued
-newly_dated r (Plainly (ByTarget g) up) = events.listed g.did.issued
-newly_dated r (Further g) = events.listed g.hears.did.issued
-newly_dated r (IsCut g) = g.cut.issued
-newly_dated r (Opens g) = []
-newly_dated r (Fails g) = []
-newly_dated r (GivenUp g) = []
-newly_dated r (Draws g) = []
-
--- No client acts; and of what a target hears that is known that it rests on, where these count as the epochs of attempts: it isn't of snapshots
--- and aggregation, it is no read at a snapshot, and goes on with none.
-abbrev pub IsDatedKnown : (r : Rules) (o : Opening) (stored : Stored) (dated : Dated) {w v : World} → Happening r w v → Type 0
-IsDatedKnown r o stored dated {w = w} (Plainly (ByClient g) up) = ⊥
-IsDatedKnown r o stored dated {w = w} (Plainly (ToClient g) up) = ⊥
-IsDatedKnown r o stored dated {w = w} (Plainly (ToTarget g) up) = IsHeardAs r o stored (with_dates dated w) g.t g.s g.l
-IsDatedKnown r o stored dated {w = w} (Plainly (ByTarget g) up) = Unit {0}
-IsDatedKnown r o stored dated {w = w} (Further g) = (is_of_attempts g.hears.l.message ≡ true) × IsHeardFurther r o stored (with_dates dated w) g.hears.t g.hears.s g.hears.l
-IsDatedKnown r o stored dated {w = w} (IsCut g) = IsWithoutSnapshots g.work × ((l : Letter) (rest : List Letter) → Takes w.messages l rest → l.to ≡ target g.t → IsHeardAs r o stored (with_dates dated w) g.t g.s l)
-IsDatedKnown r o stored dated (Opens g) = Unit {0}
-IsDatedKnown r o stored dated (Fails g) = Unit {0}
-IsDatedKnown r o stored dated (GivenUp g) = Unit {0}
-IsDatedKnown r o stored dated (Draws g) = Unit {0}
-
-abbrev pub DatedHappeningsKeepCauses : Type 0
-DatedHappeningsKeepCauses =
-    (r : Rules) (o : Opening) (h : History) (stored : Stored) (dated : Dated) (w v : World) → Attempts r h w → (e : Happening r w v) → IsDatedKnown r o stored dated e → Causes r o stored (with_dates dated w)
-    → Causes r o (stored_in r e ++ stored) (with_dates (dated ++ newly_dated r e) v)
-
 -- ---- an event where these count as the epochs of attempts
 
-silent-same : (is js : Dated) (ls : List Line) → ls ≡ [] → map (with_epoch is) ls ≡ map (with_epoch js) ls
+pub silent-same : (is js : Dated) (ls : List Line) → ls ≡ [] → map (with_epoch is) ls ≡ map (with_epoch js) ls
 silent-same is js ls none = ap (map (with_epoch is)) none ∙ sym (ap (map (with_epoch js)) none)
 
 module _ (r : Rules) (dated : Dated) (w v : World) where
-  hears-dated : (g : TargetHearsRightly r w v) → TargetHearsRightly r (with_dates dated w) (with_dates (dated ++ events.listed g.did.issued) v)
+  unfoldable pub hears-dated : (g : TargetHearsRightly r w v) → TargetHearsRightly r (with_dates dated w) (with_dates (dated ++ events.listed g.did.issued) v)
   hears-dated g = record {
     t = g.t;
     s = g.s;
@@ -91,7 +58,7 @@ module _ (r : Rules) (dated : Dated) (w v : World) where
         (silent-same w.issued dated g.did.lines (hears-follows (target_plan r g.t) g.s.opening g.s.memory g.reading g.l.from g.l.message (kept g.s) g.new (g.memory, g.did) g.turn).lines);
   }
 
-  idles-dated : (g : TargetIdles r w v) → TargetIdles r (with_dates dated w) (with_dates (dated ++ events.listed g.did.issued) v)
+  unfoldable pub idles-dated : (g : TargetIdles r w v) → TargetIdles r (with_dates dated w) (with_dates (dated ++ events.listed g.did.issued) v)
   idles-dated g = record {
     settling = g.settling;
     t = g.t;
@@ -107,10 +74,10 @@ module _ (r : Rules) (dated : Dated) (w v : World) where
         (silent-same w.issued dated g.did.lines (idles-follows g.settling (target_plan r g.t) g.s.memory (kept g.s) g.new (g.memory, g.did) g.turn).lines);
   }
 
-  fresh-dated : (m : Message) (n : ℕ) → IsNumberFresh w m n → IsNumberFresh (with_dates dated w) m n
+  pub fresh-dated : (m : Message) (n : ℕ) → IsNumberFresh w m n → IsNumberFresh (with_dates dated w) m n
   fresh-dated m n fresh is = let f = fresh is in record { drawn = f.drawn; unused = f.unused }
 
-  further-dated : (g : HearsMore r w v) → HearsMore r (with_dates dated w) (with_dates (dated ++ events.listed g.hears.did.issued) v)
+  unfoldable pub further-dated : (g : HearsMore r w v) → HearsMore r (with_dates dated w) (with_dates (dated ++ events.listed g.hears.did.issued) v)
   further-dated g = record { number = g.number; hears = hears; fresh = fresh-dated g.hears.l.message g.number g.fresh }
     where
       k : TargetHearsBy (HearsFurther g.number) r w v
@@ -138,44 +105,21 @@ module _ (r : Rules) (dated : Dated) (w v : World) where
             ∙ ap (λ ls. record (with_dates (dated ++ events.listed k.did.issued) (with_target k.t (target_after k.s k.new k.memory) (after_turn w (target k.t) k.did k.rest))) { lines = w.lines ++ ls }) same;
       }
 
-  in_hand-dated : (t : ℕ) (work : AtWork) → IsInHand w t work → IsInHand (with_dates dated w) t work
+  pub in_hand-dated : (t : ℕ) (work : AtWork) → IsInHand w t work → IsInHand (with_dates dated w) t work
   in_hand-dated t (Hearing l reading number) h = (h.0, h.1, fresh-dated l.message number h.2)
   in_hand-dated t IdleWork h = tt
 
-  cut-dated : (g : TargetCut r w v) → TargetCut r (with_dates dated w) (with_dates (dated ++ g.cut.issued) v)
+  unfoldable pub cut-dated : (g : TargetCut r w v) → TargetCut r (with_dates dated w) (with_dates (dated ++ g.cut.issued) v)
   cut-dated g = record { t = g.t; s = g.s; work = g.work; cut = g.cut; here = g.here; runs = g.runs; in_hand = in_hand-dated g.t g.work g.in_hand; turn = g.turn; after = ap (with_dates (dated ++ g.cut.issued)) g.after }
 
-  opens-dated : TargetOpens r w v → TargetOpens r (with_dates dated w) (with_dates dated v)
+  pub opens-dated : TargetOpens r w v → TargetOpens r (with_dates dated w) (with_dates dated v)
   opens-dated g = record { t = g.t; s = g.s; number = g.number; free = g.free; here = g.here; stopped = g.stopped; is_free = record { drawn = g.is_free.drawn; unused = g.is_free.unused }; no_less = g.no_less; after = ap (with_dates dated) g.after }
 
-  fails-dated : OpeningFails r w v → OpeningFails r (with_dates dated w) (with_dates dated v)
+  pub fails-dated : OpeningFails r w v → OpeningFails r (with_dates dated w) (with_dates dated v)
   fails-dated g = record { t = g.t; s = g.s; k = g.k; here = g.here; stopped = g.stopped; left = g.left; no_less = g.no_less; after = ap (with_dates dated) g.after }
 
-  given_up-dated : TargetGivenUp r w v → TargetGivenUp r (with_dates dated w) (with_dates dated v)
+  pub given_up-dated : TargetGivenUp r w v → TargetGivenUp r (with_dates dated w) (with_dates dated v)
   given_up-dated g = record { t = g.t; s = g.s; here = g.here; stopped = g.stopped; after = ap (with_dates dated) g.after }
 
-  drawn-dated : NumbersDrawn w v → NumbersDrawn (with_dates dated w) (with_dates dated v)
+  pub drawn-dated : NumbersDrawn w v → NumbersDrawn (with_dates dated w) (with_dates dated v)
   drawn-dated g = record { numbers = g.numbers; above = g.above; after = ap (with_dates dated) g.after }
-
--- ---- all that targets do
-
-module _ (r : Rules) (o : Opening) (h : History) (stored : Stored) (dated : Dated) (w v : World) (attempts : Attempts r h w) (C : Causes r o stored (with_dates dated w)) where
-  none-more : Causes r o stored (with_dates dated v) → Causes r o stored (with_dates (dated ++ []) v)
-  none-more = subst (λ is. Causes r o stored (with_dates is v)) (sym (append-nil dated))
-
-  dated-keeps : (e : Happening r w v) → IsDatedKnown r o stored dated e → Causes r o (stored_in r e ++ stored) (with_dates (dated ++ newly_dated r e) v)
-  unfolding hears-dated idles-dated further-dated cut-dated
-  dated-keeps (Plainly (ByClient g) up) so = absurd so
-  dated-keeps (Plainly (ToClient g) up) so = absurd so
-  dated-keeps (Plainly (ToTarget g) up) so =
-      target-hears-keeps r o stored (with_dates dated w) (with_dates (dated ++ events.listed g.did.issued) v) C (hears-dated r dated w v (rightly r w v g (letters-tell r h w attempts g.l g.t g.s (has-taken w.messages g.l g.rest g.takes) g.to_it g.here))) so
-  dated-keeps (Plainly (ByTarget g) up) so = target-idles-keeps r o stored (with_dates dated w) (with_dates (dated ++ events.listed g.did.issued) v) C (idles-dated r dated w v g)
-  dated-keeps (Further g) so = further-keeps r o stored (with_dates dated w) (with_dates (dated ++ events.listed g.hears.did.issued) v) C (further-dated r dated w v g) so.1 so.0
-  dated-keeps (IsCut g) so = cuts-keep r o stored (with_dates dated w) (with_dates (dated ++ g.cut.issued) v) C (cut-dated r dated w v g) so.0 so.1
-  dated-keeps (Opens g) so = none-more (opening-keeps r o stored (with_dates dated w) (with_dates dated v) C (opens-dated r dated w v g))
-  dated-keeps (Fails g) so = none-more (failure-keeps r o stored (with_dates dated w) (with_dates dated v) C (fails-dated r dated w v g))
-  dated-keeps (GivenUp g) so = none-more (given_up-keeps r o stored (with_dates dated w) (with_dates dated v) C (given_up-dated r dated w v g))
-  dated-keeps (Draws g) so = none-more (numbers-keep r o stored (with_dates dated w) (with_dates dated v) C (drawn-dated r dated w v g))
-
-pub dated-happenings_keep : DatedHappeningsKeepCauses
-dated-happenings_keep r o h stored dated w v attempts e so C = dated-keeps r o h stored dated w v attempts C e so

@@ -13,6 +13,7 @@ use Rattle.world_base.specs.declared.letter.Letter.{Letter}
 use Rattle.world_base.specs.declared.request.FetchRequest.{FetchRequest}
 use Rattle.world_base.specs.declared.target.TargetState.{TargetState}
 use Rattle.world_base.specs.declared.world.World.{World}
+use Rattle.world_base.specs.Events as events
 use Rattle.world_base.specs.Events.{Rules, TargetHears, kept, target_after, target_plan, with_epoch}
 use Rattle.world_base.specs.Letters.{letter_of, letters_of, target}
 use Rattle.world_base.specs.Reads as read
@@ -26,10 +27,11 @@ use Rattle.world_causes.specs.causes.FloorLaws.{turns-keep-floors}
 use Rattle.world_causes.specs.causes.Paths.{AreOpen}
 use Rattle.world_causes.specs.causes.Shown.{Causes, FloorsShown, limit_over}
 use Rattle.world_causes.specs.causes.Turns.{PostShows}
-use Rattle.world_upheld.specs.causing.Doing.{with_dates}
+use Rattle.world_causes.specs.causes.Leases.{whole-to}
+use Rattle.world_upheld.specs.causing.Dates.{with_dates}
 use Rattle.world_upheld.specs.causing.Following.{FollowsOn, continues-keep, posted}
 use Rattle.world_upheld.specs.causing.OneTurn.{post-on, turn-keeps}
-use Rattle.world_upheld.specs.causing.SnapshotReads.{IsDatedRead, SnapshotReadLeaves, WaitsThen, snapshot-reads_show}
+use Rattle.world_upheld.specs.causing.SnapshotReads.{IsAtSnapshot, extends-none, IsDatedRead, SnapshotReadLeaves, WaitsThen, snapshot-reads_show}
 use Rattle.world_letters.specs.epochs.Epochs.{reads_snapshot}
 use Rattle.world_letters.specs.talks.TalkLaws.{left-is-among}
 
@@ -45,7 +47,7 @@ abbrev pub SnapshotReadsKeepCauses : Type 0
 SnapshotReadsKeepCauses =
     (r : Rules) (o : Opening) (stored : Stored) (dated : Dated) (w v : World) (g : TargetHears r w v) (q : FetchRequest) (e : Epoch) → g.l.message ≡ fetch_message q → IsDatedRead r o dated w.lines q g.l.from e (kept g.s)
     → IsTarget r o dated w.lines g.t g.s.opening (kept g.s) → AreOpen r.script (target_plan r g.t) w.lines (top o) g.s.durable g.s.memory.leader.decided → Causes r o stored (with_dates dated w)
-    → Causes r o (stored_by g.t g.s.durable g.new.durable ++ stored) (with_dates dated v)
+    → Causes r o (stored_by g.t g.s.durable g.new.durable ++ stored) (with_dates (dated ++ events.listed g.did.issued) v)
 
 -- ---- an epoch counts
 
@@ -128,15 +130,23 @@ module _ (r : Rules) (o : Opening) (stored : Stored) (dated : Dated) (w v : Worl
     messages = messages;
     dates = λ x f i. absurd (has-from_contains [] (x, f) i);
     ticks = λ runs. subst (λ js. g.memory.ticks ≤ limit_over o w.lines js) (sym (append-nil dated)) (subst (λ n. n ≤ limit_over o w.lines dated) (sym left.ticks) (C.bounded.ticks g.t g.s g.here g.runs));
-    lease = lease g.s.durable.lease g.new.durable.lease (limit_over o w.lines dated) left.lease (C.bounded.leases g.t g.s g.here);
+    lease = whole-to (read.FetchNext (target_plan r g.t) g.s.memory g.reading q) (read.FetchEnds (target_plan r g.t) g.s.memory g.reading q g.l.from) read.Asked (kept g.s) g.new (g.memory, g.did) edge IsAtSnapshot tt
+        (extends-none edge (target_plan r g.t) g.s.memory g.reading q K.snapshot) (near g.s.durable.lease (limit_over o w.lines dated) (C.bounded.leases g.t g.s g.here)) turn;
     free = left.free;
     parked = λ p i. parked-then p (left.parked p (has-from_contains g.memory.member.parked p i));
     floors = record { opening = floors.opening; leased = floors.leased; stored = floors.stored; aggregated = floors.aggregated };
   })
     where
-      lease : (a b c : ℕ) → b ≡ a → a ≤ c + 65536 → b ≤ c + 1 + 65535
-      lease a b c same low = omega (arith, same, low)
+      edge : ℕ
+      edge = limit_over o w.lines dated + 1 + 65535
+
+      near : (a b : ℕ) → a ≤ b + 65536 → a ≤ b + 1 + 65535
+      near a b low = omega (arith, low)
+
+  -- nothing is issued
+  read-keeps_then : Causes r o (new ++ stored) (with_dates (dated ++ events.listed g.did.issued) v)
+  read-keeps_then = subst (λ i. Causes r o (new ++ stored) (with_dates (dated ++ events.listed i) v)) (sym left.issued) (subst (λ is. Causes r o (new ++ stored) (with_dates is v)) (sym (append-nil dated)) read-keeps)
 
 pub snapshot-reads_keep : SnapshotReadsKeepCauses
 unfolding new
-snapshot-reads_keep r o stored dated w v g q e is K T opens C = read-keeps r o stored dated w v g q e is K T opens C
+snapshot-reads_keep r o stored dated w v g q e is K T opens C = read-keeps_then r o stored dated w v g q e is K T opens C

@@ -2,6 +2,7 @@
 use Rattle.std.specs.Prelude.{ℕ, ◌≡◌, ◌≤◌, ◌<◌, ◌+◌, ◌++◌, ◌/◌, ◌⊎◌, ◌==◌, ◌||◌, Any, Bool, true, false, List, [], ◌∷◌, map, Contains, slice_get, is_some, Option, Some, None, refl, if◌then◌else◌}
 use Rattle.std.proofs.Common.{append-nil, sym, ◌∙◌, ap, subst, inl, inr, arith}
 use Rattle.std.proofs.lemmas.Bool.{eqb-true}
+use Rattle.std.proofs.Math.ListN.{set}
 use Rattle.base_types.specs.declared.entry.Verdict.TheVariants as verdict
 use Rattle.base_types.specs.declared.epoch.Epoch.{Epoch}
 use Rattle.base_types.specs.declared.id.AttemptId.{AttemptId}
@@ -36,6 +37,7 @@ use Rattle.world_letters.specs.epochs.Lists.{each-push, tries-push}
 use Rattle.world_letters.specs.epochs.Talking.{TalksOnce, silent-unless}
 use Rattle.world_base.specs.Events.{Rules, client_plan, with_client, with_epoch}
 use Rattle.world_base.specs.Letters.{client, letter_of, letters_of}
+use Rattle.world_base.specs.StepLaws.{set-here, set-there}
 use Rattle.world_base.specs.Steps.{after_client, after_move, without}
 use Rattle.world_letters.specs.lines.Lines.{filled}
 use Rattle.world_letters.specs.talks.AskLaws.{move-is, waiting-rests}
@@ -52,13 +54,13 @@ use Rattle.world_causes.specs.causes.FloorLaws.{lines-keep-floors}
 use Rattle.world_causes.specs.causes.Lasting.{AreOfOthers, limit-told, message-more, open-more}
 use Rattle.world_causes.specs.causes.Shown.{Causes, FloorsShown, IsOpenTo, MessageStands, OutcomeStands, limit_over}
 use Rattle.world_causes.specs.causes.ShownLaws.{AreTries, none-floors}
+use Rattle.world_upheld.specs.causing.Dates.{IsBegunBy, with_dates}
 use Rattle.world_causes.specs.causes.ClientLaws.{ArePlain, IsLineOf, IsMild, IsPlain, IsQuiet, LineShows, attempt_here, ends-no_tell, ends-tracker, quiet-line}
+use Rattle.world_commit.specs.attempts.Turning.{one-or_another}
 use Rattle.world_letters.specs.clients.Standing.{HasTold}
+use Rattle.world_causes.specs.losses.Clients.{IsOver, present-not-over}
+use Rattle.world_causes.specs.outcomes.Moving.{moved-past, same-past}
 use Rattle.world_letters.specs.snapshots.Events.{command-is}
-
--- a world in which these count as the epochs of attempts
-abbrev pub with_dates : Dated → World → World
-with_dates dated w = record w { issued = dated }
 
 -- what is known of a client that does something: which attempts are present was so before, and none that is present has a line; and where
 -- there is a line, it is of its own attempt, and no answer to the client is left
@@ -89,19 +91,26 @@ none-ended r top w E x p b i same = by (E.past b p.c (contains-from_has (tries w
         some : {y z : Present} → Some y ≡ Some z → y ≡ z
         some s = cc
 
--- each attempt with an epoch is present, or has its line
+-- each attempt with an epoch was begun
 abbrev pub AreBegun : Rules → Dated → World → Type 0
-AreBegun r dated w = (x : AttemptId) (e : Epoch) → Contains dated (x, e) → IsPresent r w x ⊎ ((b : Attempt) × Contains (tries w.lines) b × (b.id ≡ x))
+AreBegun r dated w = (x : AttemptId) (e : Epoch) → Contains dated (x, e) → IsBegunBy r w x
 
--- so it is of those that were issued
-pub issued-begun : (r : Rules) (top : ℕ) (w : World) → Epochs r top w → AreBegun r w.issued w
-issued-begun r top w E x e i = elim (E.line x e i) [ inl q ↦ inl q | inr q ↦ inr (q.0, q.1, q.2) ]
+-- what a client is past it goes on to be past
+pub over-after : (clients : List ClientState) (n : ℕ) (c d : ClientState) → slice_get clients n ≡ Some c → ((x : AttemptId) → IsPast c x → IsPast d x) → (x : AttemptId) → IsOver clients x → IsOver (set clients n d) x
+over-after clients n c d here past x over = elim (one-or_another x.client n) [
+  | inl same ↦
+      let one : over.c ≡ c = let e : Some over.c ≡ Some c = sym over.here ∙ subst (λ m. slice_get clients m ≡ Some c) (sym same) here in cc in
+      record { c = d; here = subst (λ m. slice_get (set clients n d) m ≡ Some d) (sym same) (set-here clients n c d here); past = past x (subst (λ y. IsPast y x) one over.past) }
+  | inr off ↦ record { c = over.c; here = set-there clients n x.client d off ∙ over.here; past = over.past }
+]
 
 -- one with an epoch that is present then was present before
-pub was-present : (r : Rules) (dated : Dated) (w v : World) (more : List Line) → AreBegun r dated w → v.lines ≡ w.lines ++ more → ((x : AttemptId) → IsPresent r v x → HasNoLine v.lines x) → (x : AttemptId) (e : Epoch) → Contains dated (x, e) → IsPresent r v x → IsPresent r w x
-was-present r dated w v more begun lines unended x e i p = elim (begun x e i) [
+pub was-present : (r : Rules) (dated : Dated) (w v : World) (more : List Line) → AreBegun r dated w → ((x : AttemptId) → IsOver w.clients x → IsOver v.clients x) → v.lines ≡ w.lines ++ more → ((x : AttemptId) → IsPresent r v x → HasNoLine v.lines x)
+    → (x : AttemptId) (e : Epoch) → Contains dated (x, e) → IsPresent r v x → IsPresent r w x
+was-present r dated w v more begun over lines unended x e i p = elim (begun x e i) [
   | inl q ↦ q
-  | inr q ↦ absurd (unended x p q.0 (subst (λ ls. Has q.0 (tries ls)) (sym lines) (subst (Has q.0) (sym (tries-append w.lines more)) (has-left (tries w.lines) (tries more) q.0 (has-from_contains (tries w.lines) q.0 q.1)))) q.2)
+  | inr (inl past) ↦ absurd (present-not-over r v x p (over x past))
+  | inr (inr q) ↦ absurd (unended x p q.0 (subst (λ ls. Has q.0 (tries ls)) (sym lines) (subst (Has q.0) (sym (tries-append w.lines more)) (has-left (tries w.lines) (tries more) q.0 (has-from_contains (tries w.lines) q.0 q.1)))) q.2)
 ]
 
 -- a line that tells of an attempt tells of no floor
@@ -373,7 +382,7 @@ dated-goes_causes r o stored dated w n c talk S F begun here C =
     (record {
       here = here;
       among = λ l i. i;
-      before = was-present r dated w (after_move w n (moved p c)) (map (with_epoch w.issued) (listed (moved p c).line)) begun refl (none-ended r (top o) (after_move w n (moved p c)) F);
+      before = was-present r dated w (after_move w n (moved p c)) (map (with_epoch w.issued) (listed (moved p c).line)) begun (over-after w.clients n c (moved p c).state here (λ x past. moved-past p c x past)) refl (none-ended r (top o) (after_move w n (moved p c)) F);
       unended = none-ended r (top o) (after_move w n (moved p c)) F;
       own = k.own;
       silent = λ a is z x i ends same. none-among n w.messages z (silent-unless w n c talk here (idle a is)) i (got-is-talk n z (ends-no_tell z.message x ends) (C.waiting.own z x i ends ∙ ap client same));
@@ -395,18 +404,14 @@ dated-goes_causes r o stored dated w n c talk S F begun here C =
         by true h = let none : (moved p c).line ≡ None = ap (λ m. m.line) (waiting-rests p c h) in let no : ⊥ = cc in absurd no
         by false h = h
 
-pub goes-causes : (r : Rules) (o : Opening) (stored : Stored) (w : World) (n : ℕ) (c : ClientState) → TalksOnce w → ClientsStand r w → Epochs r (top o) w → Epochs r (top o) (after_move w n (moved (client_plan r n) c)) → slice_get w.clients n ≡ Some c
-    → Causes r o stored w → Causes r o stored (after_move w n (moved (client_plan r n) c))
-goes-causes r o stored w n c talk S E F here C = dated-goes_causes r o stored w.issued w n c talk S F (issued-begun r (top o) w E) here C
-
 -- a turn that is skipped is counted
-pub counting-causes : (r : Rules) (o : Opening) (stored : Stored) (w : World) (n k : ℕ) (c : ClientState) → Epochs r (top o) w → Epochs r (top o) (with_client n (record c { skip = k }) w) → slice_get w.clients n ≡ Some c → Causes r o stored w
-    → Causes r o stored (with_client n (record c { skip = k }) w)
-counting-causes r o stored w n k c E F here C = subst (Causes r o stored) same (did-causes r o stored w.issued w n c (record c { skip = k }) w.messages [] None C
+pub counting-causes : (r : Rules) (o : Opening) (stored : Stored) (dated : Dated) (w : World) (n k : ℕ) (c : ClientState) → AreBegun r dated w → Epochs r (top o) (with_client n (record c { skip = k }) w) → slice_get w.clients n ≡ Some c
+    → Causes r o stored (with_dates dated w) → Causes r o stored (with_dates dated (with_client n (record c { skip = k }) w))
+counting-causes r o stored dated w n k c begun F here C = subst (λ u. Causes r o stored (with_dates dated u)) same (did-causes r o stored dated w n c (record c { skip = k }) w.messages [] None C
     (record {
       here = here;
       among = λ l i. i;
-      before = was-present r w.issued w (after_client (without w w.messages) n [] (listed None) (record c { skip = k })) [] (issued-begun r (top o) w E) refl then-unended;
+      before = was-present r dated w (after_client (without w w.messages) n [] (listed None) (record c { skip = k })) [] begun (over-after w.clients n c (record c { skip = k }) here (λ x past. same-past c (record c { skip = k }) x refl (λ a at. (a, at, refl)) past)) refl then-unended;
       unended = then-unended;
       own = tt;
       silent = λ a is. let no : ⊥ = cc in absurd no;

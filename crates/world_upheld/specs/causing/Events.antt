@@ -61,7 +61,7 @@ MakingCutsKeepCauses =
 
 -- ---- what isn't of attempts is of makings
 
-of-making : (m : Message) → is_of_attempts m ≡ false → IsOfMaking m
+pub of-making : (m : Message) → is_of_attempts m ≡ false → IsOfMaking m
 of-making (message.Snap x c name tracker) ours = refl
 of-making (message.Freeze x c e) ours = refl
 of-making (message.Held x refusal) ours = refl

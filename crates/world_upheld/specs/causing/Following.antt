@@ -43,7 +43,7 @@ pub record FollowsOn (r : Rules) (stored new : Stored) (limit t : ℕ) (s z : Ta
   pub parked : (p : Parked) → Contains z.memory.member.parked p → Contains s.memory.member.parked p ⊎ (reads_snapshot p.ask ≡ true)
 
 -- a read at a snapshot bears no epoch of its own
-none-borne : (m : Message) (x : AttemptId) (e : Epoch) → reads_snapshot m ≡ true → BearsEpoch m x e → ⊥
+pub none-borne : (m : Message) (x : AttemptId) (e : Epoch) → reads_snapshot m ≡ true → BearsEpoch m x e → ⊥
 none-borne (message.Fetch y op group (Some own) first tracker q true) x e is h = h
 none-borne (message.Fetch y op group (Some own) first tracker q false) x e is h = let no : ⊥ = cc in no
 none-borne (message.Fetch y op group None first tracker q snapshot) x e is h = h

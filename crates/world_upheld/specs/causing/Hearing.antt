@@ -100,5 +100,5 @@ module _ (r : Rules) (o : Opening) (stored : Stored) (w : World) (K : IsMakingKn
         → (q : Post) (y : AttemptId) (how : Outcome) → Has q left.1.posts → q.message ≡ message.Held y (Some how) → RefusalShows r o [] w.issued w.lines y how
     answers-show x c asked is h =
         freeze-answers r o w.issued w.lines t s.memory reading x c l.from (kept s) (freezer r o stored w K C t s here) (so _ is).1 asked (contains-from_has w.issued (x, asked) (so _ is).0)
-        (λ e i. K.epochs.one x e asked (contains-from_has w.issued (x, e) i) (contains-from_has w.issued (x, asked) (so _ is).0)) (K.epochs.above x asked (contains-from_has w.issued (x, asked) (so _ is).0)) false h.last new left
+        (λ e i. K.dates.one x c e asked (so _ is).1 (contains-from_has w.issued (x, e) i) (contains-from_has w.issued (x, asked) (so _ is).0)) (K.dates.above x c asked (so _ is).1 (contains-from_has w.issued (x, asked) (so _ is).0)) false h.last new left
         (freeze-comes (target_plan r t) s.memory reading asked (Some asked) c false (kept s) h.reached.did h.last new h.reached.path) h.ends

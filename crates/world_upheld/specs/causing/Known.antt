@@ -35,12 +35,12 @@ use Rattle.world_upheld.specs.causing.Frames.{IsDatedWithin}
 use Rattle.world_upheld.specs.causing.Places.{Places}
 use Rattle.world_upheld.specs.causing.Posts.{IsAskedNow, IsFreezer}
 use Rattle.world_upheld.specs.causing.Refusing.{FreezeRefusalsShow, snap-at}
-use Rattle.world_letters.specs.epochs.Epochs.{AsksEpoch, ClientsStand, Epochs}
+use Rattle.world_letters.specs.epochs.Epochs.{AsksEpoch, ClientsStand}
 use Rattle.world_letters.specs.lines.Lines.{Endings}
 use Rattle.world_letters.specs.lives.Lives.{Lives}
 use Rattle.world_making.specs.making.Making.{MakingRequest}
 use Rattle.world_causes.specs.showing.Further.{IsGone, TellsReset}
-use Rattle.world_letters.specs.snapshots.Makings.{IsMadeBy, IsSo, Makings}
+use Rattle.world_letters.specs.snapshots.Makings.{IsMadeBy, IsSnapIn, IsSo, Makings}
 use Rattle.world_letters.specs.talks.Asked.{ARead, ASnapshot, AnAggregation, Asked, ItsWrites}
 use Rattle.world_letters.specs.talks.AskLaws.{sent-is-asked}
 use Rattle.world_letters.specs.talks.TalkLaws.{sent-is-talk, taken-is-among}
@@ -55,6 +55,16 @@ use Rattle.world_letters.specs.waits.Waits.{CollectedAt, Conversation, HoldsIt, 
 abbrev pub DownsHaveLines : World → Type 0
 DownsHaveLines w = (l : Letter) (t : ℕ) (q : Message) → Has l w.messages → TellsReset t true q l.message → Has (line.Down t) w.lines
 
+-- What is known of epochs where snapshots are made and containers aggregated: the number of a target fits into one; who asks for an epoch is the
+-- attempt's client, and that has none; and an attempt that makes a snapshot has at most one, above the opening's.
+pub record MakersAreDated (r : Rules) (o : Opening) (w : World) : Type 0 where
+  pub few : length w.targets ≤ 256
+  pub asker : (l : Letter) (x : AttemptId) (k : Epoch) → Contains w.messages l → AsksEpoch l.message x k → l.from ≡ client x.client
+  pub low : (l : Letter) (x : AttemptId) (k : Epoch) → Contains w.messages l → AsksEpoch l.message x k → top o ≤ k.0
+  pub fresh : (l : Letter) (x : AttemptId) (k : Epoch) → Contains w.messages l → AsksEpoch l.message x k → (e : Epoch) → Contains w.issued (x, e) → ⊥
+  pub one : (x : AttemptId) (c : ContId) (e f : Epoch) → IsSnapIn r x c → Contains w.issued (x, e) → Contains w.issued (x, f) → e ≡ f
+  pub above : (x : AttemptId) (c : ContId) (e : Epoch) → IsSnapIn r x c → Contains w.issued (x, e) → top o < e.0
+
 -- of a run, beside causes, each by the crate whose word it is
 pub record IsMakingKnown (r : Rules) (o : Opening) (w : World) : Type 0 where
   pub some : 0 < r.attempts
@@ -63,7 +73,7 @@ pub record IsMakingKnown (r : Rules) (o : Opening) (w : World) : Type 0 where
   pub requests : RequestsAreOfClients w
   pub stand : ClientsStand r w
   pub ends : Endings w
-  pub epochs : Epochs r (top o) w
+  pub dates : MakersAreDated r o w
   pub makings : Makings r w
   pub lives : Lives w
   pub downs : DownsHaveLines w
@@ -100,7 +110,7 @@ question-tracker p c a q at (ItsAsk k s f low sent commit says) x t new is = let
 
 module _ (r : Rules) (o : Opening) (stored : Stored) (w : World) (K : IsMakingKnown r o w) (C : Causes r o stored w) (t : ℕ) (s : TargetState) (here : slice_get w.targets t ≡ Some s) where
   pub few : t < 256
-  few = let p : t < length w.targets = slice_get_within w.targets t s here in let q : length w.targets ≤ 256 = K.epochs.few in omega (arith, p, q)
+  few = let p : t < length w.targets = slice_get_within w.targets t s here in let q : length w.targets ≤ 256 = K.dates.few in omega (arith, p, q)
 
   pub there : t < r.script.targets
   there = let p : t < length w.targets = slice_get_within w.targets t s here in let q : length w.targets ≡ r.script.targets = K.many in omega (arith, p, q)
@@ -173,13 +183,13 @@ module _ (r : Rules) (o : Opening) (stored : Stored) (w : World) (K : IsMakingKn
     asked-now x tracker new asks = record {
       tracked = tracker-within tracker.0 a.c.tracker.0 (limit_over o w.lines w.issued)
           (question-tracker (client_plan r x.client) a.c p.a a.q p.at a.question x tracker (ap (λ y. asks_new y.message) (sym a.is) ∙ new) (subst (λ y. AsksEpoch y.message x tracker) a.is asks)) (C.bounded.trackers x.client a.c a.here);
-      low = (K.epochs.fresh l x tracker among asks).2;
-      fresh = (K.epochs.fresh l x tracker among asks).1;
+      low = K.dates.low l x tracker among asks;
+      fresh = K.dates.fresh l x tracker among asks;
       own = from;
     }
       where
         from : l.from ≡ client x.client
-        from = K.epochs.asker l x tracker among asks
+        from = K.dates.asker l x tracker among asks
 
         a : IsWhatIsAsked r w x.client l
         a = talk-is_asked r w K.talk l rest takes t to x.client (sent-is-talk x.client l (asks-no_tell l.message new) from)

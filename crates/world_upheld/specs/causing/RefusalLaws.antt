@@ -35,6 +35,7 @@ use Rattle.world_causes.specs.causes.CommitTurns.{RefusalShows}
 use Rattle.world_causes.specs.causes.Shown.{Causes}
 use Rattle.world_upheld.specs.causing.Answers.{NoneRefuses, further-not, one-not, plainly-not, says_refused}
 use Rattle.world_upheld.specs.causing.Hearing.{answers-show}
+use Rattle.world_upheld.specs.causing.Dates.{newly_dated, with_dates}
 use Rattle.world_upheld.specs.causing.Known.{IsMakingKnown}
 use Rattle.world_upheld.specs.causing.Refusing.{FreezeRefusalsShow, refusal-on}
 use Rattle.world_letters.specs.endings.Clients.{IsQuestion, heard-asks}
@@ -44,7 +45,8 @@ use Rattle.world_letters.specs.talks.Asked.{ARead, ASnapshot, AnAggregation, Ask
 use Rattle.world_letters.specs.talks.TalkLaws.{left-is-among, taken-is-among}
 
 abbrev pub AllEventsKeepFreezeRefusals : Type 0
-AllEventsKeepFreezeRefusals = (r : Rules) (o : Opening) (stored : Stored) (w v : World) → IsMakingKnown r o w → Causes r o stored w → WorldEvent r w v → FreezeRefusalsShow r o v
+AllEventsKeepFreezeRefusals =
+    (r : Rules) (o : Opening) (stored : Stored) (dated : Dated) (w v : World) → IsMakingKnown r o (with_dates dated w) → Causes r o stored (with_dates dated w) → (e : WorldEvent r w v) → FreezeRefusalsShow r o (with_dates (dated ++ newly_dated r e.happens) v)
 
 -- ---- clients
 
@@ -127,63 +129,51 @@ lost-among t down letters asked l i is = elim (has-cases (filter (is_not_to t) l
 -- ---- what goes on
 
 -- epochs were issued and lines added; a letter that refuses a Freeze was in flight, or shows its cause
-record GoesOn (r : Rules) (o : Opening) (w u : World) : Type 0 where
-  added : Dated
-  issued : u.issued ≡ w.issued ++ added
+record GoesOn (r : Rules) (o : Opening) (dated : Dated) (w u : World) : Type 0 where
   more : List Line
   lines : u.lines ≡ w.lines ++ more
-  letters : (l : Letter) (x : AttemptId) (how : Outcome) → Has l u.messages → l.message ≡ message.Held x (Some how) → Has l w.messages ⊎ RefusalShows r o [] w.issued w.lines x how
+  letters : (l : Letter) (x : AttemptId) (how : Outcome) → Has l u.messages → l.message ≡ message.Held x (Some how) → Has l w.messages ⊎ RefusalShows r o [] dated w.lines x how
 
-goes-shows : (r : Rules) (o : Opening) (w u : World) → FreezeRefusalsShow r o w → GoesOn r o w u → FreezeRefusalsShow r o u
-goes-shows r o w u before k l x how i says = subst (λ is. RefusalShows r o [] is u.lines x how) (sym k.issued) (subst (λ ls. RefusalShows r o [] (w.issued ++ k.added) ls x how) (sym k.lines) (refusal-on r o [] [] w.issued k.added w.lines k.more x how (was (k.letters l x how (has-from_contains u.messages l i) says))))
+goes-shows : (r : Rules) (o : Opening) (dated added : Dated) (w u : World) → FreezeRefusalsShow r o (with_dates dated w) → GoesOn r o dated w u → FreezeRefusalsShow r o (with_dates (dated ++ added) u)
+goes-shows r o dated added w u before k l x how i says = subst (λ ls. RefusalShows r o [] (dated ++ added) ls x how) (sym k.lines) (refusal-on r o [] [] dated added w.lines k.more x how (was (k.letters l x how (has-from_contains u.messages l i) says)))
   where
-    was : Has l w.messages ⊎ RefusalShows r o [] w.issued w.lines x how → RefusalShows r o [] w.issued w.lines x how
+    was : Has l w.messages ⊎ RefusalShows r o [] dated w.lines x how → RefusalShows r o [] dated w.lines x how
     was (inl j) = before l x how (contains-from_has w.messages l j) says
     was (inr shows) = shows
 
-old-letters : (r : Rules) (o : Opening) (w u : World) → RefusalsAreAmong w.messages u.messages → (l : Letter) (x : AttemptId) (how : Outcome) → Has l u.messages → l.message ≡ message.Held x (Some how) → Has l w.messages ⊎ RefusalShows r o [] w.issued w.lines x how
-old-letters r o w u among l x how i says = inl (among l i (ap says_refused says))
+old-letters : (r : Rules) (o : Opening) (dated : Dated) (w u : World) → RefusalsAreAmong w.messages u.messages → (l : Letter) (x : AttemptId) (how : Outcome) → Has l u.messages → l.message ≡ message.Held x (Some how) → Has l w.messages ⊎ RefusalShows r o [] dated w.lines x how
+old-letters r o dated w u among l x how i says = inl (among l i (ap says_refused says))
 
-module _ (r : Rules) (o : Opening) (stored : Stored) (w u : World) (K : IsMakingKnown r o w) (C : Causes r o stored w) where
+module _ (r : Rules) (o : Opening) (stored : Stored) (dated : Dated) (w u : World) (K : IsMakingKnown r o (with_dates dated w)) (C : Causes r o stored (with_dates dated w)) where
   all-among : RefusalsAreAmong w.messages w.messages
   all-among l i is = i
 
-  plain-goes : Event r w u → GoesOn r o w u
+  plain-goes : Event r w u → GoesOn r o dated w u
   plain-goes (ByClient g) = record {
-    added = events.listed g.did.issued;
-    issued = ap (λ x. x.issued) g.after;
     more = map (with_epoch w.issued) g.did.lines;
     lines = ap (λ x. x.lines) g.after;
-    letters = old-letters r o w u (by-next r (Among r w.messages) (among-moves r w.messages) (among-counting r w.messages) w u all-among g);
+    letters = old-letters r o dated w u (by-next r (Among r w.messages) (among-moves r w.messages) (among-counting r w.messages) w u all-among g);
   }
   plain-goes (ToClient g) = record {
-    added = events.listed g.did.issued;
-    issued = ap (λ x. x.issued) g.after;
     more = map (with_epoch w.issued) g.did.lines;
     lines = ap (λ x. x.lines) g.after;
-    letters = old-letters r o w u (by-hearing r (Among r w.messages) (among-moves r w.messages) (among-hearing r w.messages) w u all-among g);
+    letters = old-letters r o dated w u (by-hearing r (Among r w.messages) (among-moves r w.messages) (among-hearing r w.messages) w u all-among g);
   }
   plain-goes (ToTarget g) = record {
-    added = events.listed g.did.issued;
-    issued = ap (λ x. x.issued) g.after;
     more = map (with_epoch w.issued) g.did.lines;
     lines = ap (λ x. x.lines) g.after;
-    letters = old-letters r o w u (subst (λ x. RefusalsAreAmong w.messages x.messages) (sym g.after) (posts-among w.messages g.rest (target g.t) g.did.posts (λ m i is. has-from_contains w.messages m (left-is-among w.messages g.l g.rest m g.takes (contains-from_has g.rest m i)))
+    letters = old-letters r o dated w u (subst (λ x. RefusalsAreAmong w.messages x.messages) (sym g.after) (posts-among w.messages g.rest (target g.t) g.did.posts (λ m i is. has-from_contains w.messages m (left-is-among w.messages g.l g.rest m g.takes (contains-from_has g.rest m i)))
         (λ q i. plainly-not q.message ((all-hear-tell (target_plan r g.t) g.s.opening g.s.memory g.reading g.l.from g.l.message (kept g.s) g.new (g.memory, g.did) (K.ends g.l (taken-is-among w.messages g.l g.rest g.takes)) g.turn).0 q i))));
   }
   plain-goes (ByTarget g) = record {
-    added = events.listed g.did.issued;
-    issued = ap (λ x. x.issued) g.after;
     more = map (with_epoch w.issued) g.did.lines;
     lines = ap (λ x. x.lines) g.after;
-    letters = old-letters r o w u (subst (λ x. RefusalsAreAmong w.messages x.messages) (sym g.after) (posts-among w.messages w.messages (target g.t) g.did.posts all-among
+    letters = old-letters r o dated w u (subst (λ x. RefusalsAreAmong w.messages x.messages) (sym g.after) (posts-among w.messages w.messages (target g.t) g.did.posts all-among
         (λ q i. plainly-not q.message ((idle-tells g.settling (target_plan r g.t) g.s.memory g.turn.last g.new (g.memory, g.did) g.turn.ends).0 q i))));
   }
 
-  further-goes : HearsMore r w u → GoesOn r o w u
+  further-goes : HearsMore r w u → GoesOn r o dated w u
   further-goes f = record {
-    added = events.listed g.did.issued;
-    issued = ap (λ x. x.issued) g.after;
     more = map (with_epoch w.issued) g.did.lines;
     lines = ap (λ x. x.lines) g.after;
     letters = λ l x how i says. by l x how says (has-cases g.rest (letters_of (target g.t) g.did.posts) l (subst (λ z. Has l z.messages) g.after i));
@@ -193,67 +183,56 @@ module _ (r : Rules) (o : Opening) (stored : Stored) (w u : World) (K : IsMaking
       g = f.hears
 
       sent : (m : Message) → g.l.message ≡ m → HearsFurther f.number (target_plan r g.t) g.s.opening g.s.memory g.reading g.l.from m (kept g.s) g.new (g.memory, g.did)
-          → (q : Post) (x : AttemptId) (how : Outcome) → Has q g.did.posts → q.message ≡ message.Held x (Some how) → RefusalShows r o [] w.issued w.lines x how
+          → (q : Post) (x : AttemptId) (how : Outcome) → Has q g.did.posts → q.message ≡ message.Held x (Some how) → RefusalShows r o [] dated w.lines x how
       sent (message.Freeze y c asked) is h q x how i says =
-          answers-show r o stored w K C g.t g.s g.here (C.bounded.ticks g.t g.s g.here g.runs) g.reading g.l g.rest g.takes g.to_it f.number g.new (g.memory, g.did) y c asked is h q x how i says
+          answers-show r o stored (with_dates dated w) K C g.t g.s g.here (C.bounded.ticks g.t g.s g.here g.runs) g.reading g.l g.rest g.takes g.to_it f.number g.new (g.memory, g.did) y c asked is h q x how i says
       sent m is h q x how i says = let off = further-not f.number (target_plan r g.t) g.s.opening g.s.memory g.reading g.l.from m (kept g.s) g.new (g.memory, g.did) refl h q i in let no : ⊥ = cc (off, ap says_refused says) in absurd no
 
-      by : (l : Letter) (x : AttemptId) (how : Outcome) → l.message ≡ message.Held x (Some how) → Has l g.rest ⊎ Has l (letters_of (target g.t) g.did.posts) → Has l w.messages ⊎ RefusalShows r o [] w.issued w.lines x how
+      by : (l : Letter) (x : AttemptId) (how : Outcome) → l.message ≡ message.Held x (Some how) → Has l g.rest ⊎ Has l (letters_of (target g.t) g.did.posts) → Has l w.messages ⊎ RefusalShows r o [] dated w.lines x how
       by l x how says (inl j) = inl (has-from_contains w.messages l (left-is-among w.messages g.l g.rest l g.takes (contains-from_has g.rest l j)))
       by l x how says (inr j) = let p = has-from_map (letter_of (target g.t)) g.did.posts l j in inr (sent g.l.message refl g.turn p.0 x how p.1 (ap (λ y. y.message) p.2 ∙ says))
 
-  same-issued : u.issued ≡ w.issued → u.issued ≡ w.issued ++ []
-  same-issued is = is ∙ sym (append-nil w.issued)
-
-  happening-goes : Happening r w u → GoesOn r o w u
+  happening-goes : Happening r w u → GoesOn r o dated w u
   happening-goes (Plainly e up) = plain-goes e
   happening-goes (Further f) = further-goes f
   happening-goes (IsCut g) = record {
-    added = g.cut.issued;
-    issued = ap (λ x. x.issued) g.after;
     more = g.cut.lines ++ line.Stop (stops_so_far w.lines) g.t ∷ [];
     lines = ap (λ x. x.lines) g.after ∙ append_assoc w.lines g.cut.lines (line.Stop (stops_so_far w.lines) g.t ∷ []);
-    letters = old-letters r o w u (subst (λ x. RefusalsAreAmong w.messages x.messages) (sym g.after) (lost-among g.t false w.messages w.asked));
+    letters = old-letters r o dated w u (subst (λ x. RefusalsAreAmong w.messages x.messages) (sym g.after) (lost-among g.t false w.messages w.asked));
   }
   happening-goes (Opens g) = record {
-    added = [];
-    issued = same-issued (ap (λ x. x.issued) g.after);
     more = restart_line g.number g.t g.s.durable ∷ [];
     lines = ap (λ x. x.lines) g.after;
-    letters = old-letters r o w u (subst (λ x. RefusalsAreAmong w.messages x.messages) (sym g.after) (posts-among w.messages w.messages (target g.t) (opening_posts (target_plan r g.t) (reopened g.s.durable)) all-among (opening-not r g.t (reopened g.s.durable))));
+    letters = old-letters r o dated w u (subst (λ x. RefusalsAreAmong w.messages x.messages) (sym g.after) (posts-among w.messages w.messages (target g.t) (opening_posts (target_plan r g.t) (reopened g.s.durable)) all-among (opening-not r g.t (reopened g.s.durable))));
   }
   happening-goes (Fails g) = record {
-    added = [];
-    issued = same-issued (ap (λ x. x.issued) g.after);
     more = [];
     lines = ap (λ x. x.lines) g.after ∙ sym (append-nil w.lines);
-    letters = old-letters r o w u (subst (λ x. RefusalsAreAmong w.messages x.messages) (sym g.after) all-among);
+    letters = old-letters r o dated w u (subst (λ x. RefusalsAreAmong w.messages x.messages) (sym g.after) all-among);
   }
   happening-goes (GivenUp g) = record {
-    added = [];
-    issued = same-issued (ap (λ x. x.issued) g.after);
     more = line.Down g.t ∷ [];
     lines = ap (λ x. x.lines) g.after;
-    letters = old-letters r o w u (subst (λ x. RefusalsAreAmong w.messages x.messages) (sym g.after) (lost-among g.t true w.messages w.asked));
+    letters = old-letters r o dated w u (subst (λ x. RefusalsAreAmong w.messages x.messages) (sym g.after) (lost-among g.t true w.messages w.asked));
   }
   happening-goes (Draws g) = record {
-    added = [];
-    issued = same-issued (ap (λ x. x.issued) g.after);
     more = [];
     lines = ap (λ x. x.lines) g.after ∙ sym (append-nil w.lines);
-    letters = old-letters r o w u (subst (λ x. RefusalsAreAmong w.messages x.messages) (sym g.after) all-among);
+    letters = old-letters r o dated w u (subst (λ x. RefusalsAreAmong w.messages x.messages) (sym g.after) all-among);
   }
 
 -- what goes to targets that are given up is lost
-swept-shows : (r : Rules) (o : Opening) (u : World) → FreezeRefusalsShow r o u → FreezeRefusalsShow r o (swept u)
-swept-shows r o u k l x how i says = by (has-cases u.messages told l (has-from_filter (is_not_to_down u.targets) (u.messages ++ told) l (has-from_contains (swept u).messages l i)).0)
+swept-shows : (r : Rules) (o : Opening) (dated : Dated) (u : World) → FreezeRefusalsShow r o (with_dates dated u) → FreezeRefusalsShow r o (with_dates dated (swept u))
+swept-shows r o dated u k l x how i says = by (has-cases u.messages told l (has-from_filter (is_not_to_down u.targets) (u.messages ++ told) l (has-from_contains (swept u).messages l i)).0)
   where
     told : List Letter
     told = map (reset_letter true) (filter (is_to_down u.targets) u.asked)
 
-    by : Has l u.messages ⊎ Has l told → RefusalShows r o [] u.issued u.lines x how
+    by : Has l u.messages ⊎ Has l told → RefusalShows r o [] dated u.lines x how
     by (inl j) = k l x how (contains-from_has u.messages l j) says
     by (inr j) = let off = resets-not true (filter (is_to_down u.targets) u.asked) l j in let no : ⊥ = cc (off, ap says_refused says) in absurd no
 
 pub all-events-keep_refusals : AllEventsKeepFreezeRefusals
-all-events-keep_refusals r o stored w v K C e = subst (FreezeRefusalsShow r o) (sym e.after) (swept-shows r o e.u (goes-shows r o w e.u K.refusals (happening-goes r o stored w e.u K C e.happens)))
+all-events-keep_refusals r o stored dated w v K C e =
+    subst (λ z. FreezeRefusalsShow r o (with_dates (dated ++ newly_dated r e.happens) z)) (sym e.after)
+    (swept-shows r o (dated ++ newly_dated r e.happens) e.u (goes-shows r o dated (newly_dated r e.happens) w e.u K.refusals (happening-goes r o stored dated w e.u K C e.happens)))

@@ -1,6 +1,6 @@
 -- A read at a snapshot bears the epoch of the snapshot, which was issued to another attempt: counted as dated so, it shows its cause.
-use Rattle.std.specs.Prelude.{ℕ, ◌≡◌, ◌≤◌, ◌/◌, ◌&&◌, ◌⊎◌, Any, Bool, true, false, not, nat_le, List, [], ◌∷◌, Contains, Option, Some, None, Err, refl, if◌then◌else◌}
-use Rattle.std.proofs.Common.{inl, inr, sym, ◌∙◌, ap, subst}
+use Rattle.std.specs.Prelude.{ℕ, ◌≡◌, ◌≤◌, ◌<◌, ◌/◌, ◌&&◌, ◌⊎◌, Any, Bool, true, false, not, nat_le, List, [], ◌∷◌, Contains, Option, Some, None, Err, refl, if◌then◌else◌}
+use Rattle.std.proofs.Common.{inl, inr, sym, ◌∙◌, ap, subst, arith}
 use Rattle.base_types.specs.declared.entry.Settle.TheVariants.{Commit}
 use Rattle.base_types.specs.declared.epoch.Epoch.{Epoch}
 use Rattle.base_types.specs.declared.id.AttemptId.{AttemptId}
@@ -33,7 +33,7 @@ use Rattle.world_base.specs.declared.request.FetchRequest.{FetchRequest}
 use Rattle.world_base.specs.declared.target.TargetMemory.{TargetMemory}
 use Rattle.world_base.specs.declared.target.TargetPlan.{TargetPlan}
 use Rattle.world_base.specs.declared.world.World.{World}
-use Rattle.world_base.specs.ChangeLaws.{lease-settled, snaps-made}
+use Rattle.world_base.specs.ChangeLaws.{snaps-made}
 use Rattle.world_base.specs.Changes.{Change, Kept, Settles, Steps}
 use Rattle.world_base.specs.ClientTurns.{told_by_reply}
 use Rattle.world_base.specs.Events.{Rules}
@@ -46,6 +46,7 @@ use Rattle.world_base.specs.Turns.{Path, Whole}
 use Rattle.world_causes.specs.causes.AtFloors.{IsTarget}
 use Rattle.world_causes.specs.causes.Causes.{Dated, IsAskedFor, MeetsOther, Stored}
 use Rattle.world_causes.specs.causes.Floors.{IsInTheWay, meets-open}
+use Rattle.world_causes.specs.causes.Leases.{ExtendsTo}
 use Rattle.world_causes.specs.causes.Writes.{written-stays}
 use Rattle.world_causes.specs.causes.Paths.{AreOpen, IsKnown, IsMet, IsOpenStill, IsOthers, Lasts, lasts-committed, lasts-here, lasts-rests}
 use Rattle.world_causes.specs.causes.ReadTurns.{none-told, told-one, unresolved-stands}
@@ -58,12 +59,14 @@ use Rattle.daos_model.specs.BoolLaws.{clash}
 
 -- ---- what is known of such a read
 
--- It is at a snapshot, whose epoch counts as its attempt's, and as no other; that is within the limit; its attempt accesses what it reads; it
--- comes of the attempt's client; and the snapshot is frozen here.
+-- It is at a snapshot; what counts as its attempt's epoch is that of the snapshot, or later; the snapshot's is within the limit; its attempt accesses
+-- what it reads; it comes of the attempt's client; and the snapshot is frozen here.
 pub record IsDatedRead (r : Rules) (o : Opening) (dated : Dated) (lines : List Line) (q : FetchRequest) (from : ActorId) (e : Epoch) (old : Kept) : Type 0 where
   pub snapshot : q.snapshot ≡ true
   pub own : q.ep ≡ Some e
-  pub its : Contains dated (q.attempt, e)
+  pub date : Epoch
+  pub its : Contains dated (q.attempt, date)
+  pub up : e.0 ≤ date.0
   pub within : e.0 / 256 ≤ limit_over o lines dated
   pub access : Contains (access_paths (attempt_ops r.script q.attempt)) (read_path q.read)
   pub from_client : from ≡ client q.attempt.client
@@ -73,13 +76,12 @@ pub record IsDatedRead (r : Rules) (o : Opening) (dated : Dated) (lines : List L
 abbrev pub WaitsThen : Rules → Dated → FetchRequest → Epoch → List Parked → Parked → Type 0
 WaitsThen r dated q e parked p = Has p parked ⊎ ((p.ask ≡ read.fetch_at q e) × MeetsOther r dated q.attempt p.on)
 
--- what such a turn leaves: each message that it sends shows its cause; nothing is issued or told; ticks stay
+-- what such a read leaves: each message that it sends shows its cause; nothing is issued or told; ticks stay
 pub record SnapshotReadLeaves (r : Rules) (o : Opening) (stored : Stored) (dated : Dated) (lines : List Line) (m : TargetMemory) (q : FetchRequest) (e : Epoch) (old new : Kept) (left : TargetMemory × Did) : Type 0 where
   pub posts : EachShows r o stored dated lines left.1.posts
   pub issued : left.1.issued ≡ None
   pub silent : left.1.lines ≡ []
   pub ticks : left.0.ticks ≡ m.ticks
-  pub lease : new.durable.lease ≡ old.durable.lease
   pub free : old.free ≤ new.free
   pub parked : (p : Parked) → Has p left.0.member.parked → WaitsThen r dated q e m.member.parked p
 
@@ -92,25 +94,26 @@ SnapshotReadsShow =
 -- ---- the path
 
 module _ (r : Rules) (o : Opening) (lines : List Line) (t : TargetPlan) (m : TargetMemory) (reading : ℕ) (q : FetchRequest) (e : Epoch) (old : Kept) (snap : q.snapshot ≡ true) (own : q.ep ≡ Some e) where
-  ReadsSo : read.FetchStage → Kept → Type 0
-  ReadsSo read.Asked k = k ≡ old
+  -- it begins where a turn came to by then
+  unfoldable pub ReadsSo : read.FetchStage → Kept → Type 0
+  ReadsSo read.Asked k = Lasts r.script t lines (top o) old m.leader.decided k × (k.durable.snaps ≡ old.durable.snaps)
   ReadsSo (read.Known f) k = ⊥
-  ReadsSo (read.Reading f decided) k = (f ≡ e) × Lasts r.script t lines (top o) old decided k × (k.durable.snaps ≡ old.durable.snaps) × (k.durable.lease ≡ old.durable.lease)
+  ReadsSo (read.Reading f decided) k = (f ≡ e) × Lasts r.script t lines (top o) old decided k × (k.durable.snaps ≡ old.durable.snaps)
 
-  reads-step : AreOpen r.script t lines (top o) old.durable m.leader.decided → (s : read.FetchStage) (k : Kept) (y : Option Change) (u : read.FetchStage) (l : Kept) → read.FetchNext t m reading q s k y u → Steps y k l → ReadsSo s k → ReadsSo u l
+  pub reads-step : (s : read.FetchStage) (k : Kept) (y : Option Change) (u : read.FetchStage) (l : Kept) → read.FetchNext t m reading q s k y u → Steps y k l → ReadsSo s k → ReadsSo u l
   unfolding ReadsSo
-  reads-step opens s k y u l (read.AtSnapshot j f is ep) st h =
+  reads-step s k y u l (read.AtSnapshot j f is ep) st h =
       let same : f ≡ e = cc in
-      (same, lasts-rests r.script t lines (top o) old m.leader.decided old l (st ∙ h) (lasts-here r.script t lines (top o) old m.leader.decided opens), ap (λ z. z.durable.snaps) (st ∙ h), ap (λ z. z.durable.lease) (st ∙ h))
-  reads-step opens s k y u l (read.HasEpoch j f plain is) st h = let no : ⊥ = cc in absurd no
-  reads-step opens s k y u l (read.ExtendsLease j f lease low is) st h = absurd h
-  reads-step opens s k y u l (read.IsCovered j f low) st h = absurd h
-  reads-step opens s k y u l (read.SettlesOwn j f decided a none unsettled among) st h =
-      (h.0, lasts-committed r.script t lines (top o) old decided a k l st h.1, ap (λ d. d.snaps) st.0 ∙ snaps-made (Settles a Commit) k.durable refl ∙ h.2, ap (λ d. d.lease) st.0 ∙ lease-settled a Commit k.durable ∙ h.3)
+      (same, lasts-rests r.script t lines (top o) old m.leader.decided k l st h.0, ap (λ z. z.durable.snaps) st ∙ h.1)
+  reads-step s k y u l (read.HasEpoch j f plain is) st h = let no : ⊥ = cc in absurd no
+  reads-step s k y u l (read.ExtendsLease j f lease low is) st h = absurd h
+  reads-step s k y u l (read.IsCovered j f low) st h = absurd h
+  reads-step s k y u l (read.SettlesOwn j f decided a none unsettled among) st h =
+      (h.0, lasts-committed r.script t lines (top o) old decided a k l st h.1, ap (λ d. d.snaps) st.0 ∙ snaps-made (Settles a Commit) k.durable refl ∙ h.2)
 
   reads-path : AreOpen r.script t lines (top o) old.durable m.leader.decided → (did : List Change) (s : read.FetchStage) (k : Kept) → Path (read.FetchNext t m reading q) read.Asked old did s k → ReadsSo s k
   unfolding ReadsSo
-  reads-path opens did s k path = path-keeps (read.FetchNext t m reading q) ReadsSo (reads-step opens) read.Asked old did s k path refl
+  reads-path opens did s k path = path-keeps (read.FetchNext t m reading q) ReadsSo reads-step read.Asked old did s k path (lasts-here r.script t lines (top o) old m.leader.decided opens, refl)
 
 -- what is frozen isn't past
 frozen-there : (d x : Durable) (q : FetchRequest) (e : Epoch) → x.snaps ≡ d.snaps → is_frozen d (read_path q.read).cont e ≡ true → is_frozen x (read_path q.read).cont e ≡ true
@@ -128,6 +131,19 @@ none-refuses t q e d snap frozen = by q.snapshot snap (nat_le e.0 (row_of d (rea
     by true on false true is = refl
     by true on a false is = let no : ⊥ = cc in absurd no
     by false on a b is = let no : ⊥ = cc in absurd no
+
+-- it extends no lease
+abbrev pub IsAtSnapshot : read.FetchStage → Type 0
+IsAtSnapshot read.Asked = Unit {0}
+IsAtSnapshot (read.Known e) = ⊥
+IsAtSnapshot (read.Reading e decided) = Unit {0}
+
+pub extends-none : (b : ℕ) (t : TargetPlan) (m : TargetMemory) (reading : ℕ) (q : FetchRequest) → q.snapshot ≡ true → (s : read.FetchStage) (k : Kept) (c : Option Change) (u : read.FetchStage) → read.FetchNext t m reading q s k c u → IsAtSnapshot s → IsAtSnapshot u × ExtendsTo b c
+extends-none b t m reading q at s k c u (read.AtSnapshot j e snap is) p = (tt, tt)
+extends-none b t m reading q at s k c u (read.HasEpoch j e plain is) p = let no : ⊥ = cc in absurd no
+extends-none b t m reading q at s k c u (read.ExtendsLease j e lease less is) p = absurd p
+extends-none b t m reading q at s k c u (read.IsCovered j e less) p = absurd p
+extends-none b t m reading q at s k c u (read.SettlesOwn j e decided a none unsettled among) p = (tt, tt)
 
 -- ---- its end
 
@@ -153,14 +169,13 @@ module _ (r : Rules) (o : Opening) (stored : Stored) (dated : Dated) (lines : Li
   }
 
   -- the client is told how its read went
-  tells-left : (k : Kept) (decided : List AttemptId) → Lasts r.script t lines (top o) old decided k → k.durable.lease ≡ old.durable.lease → (b : Reply) (memory : TargetMemory) (left : TargetMemory × Did) → memory.ticks ≡ (read.memory_then q e decided m).ticks → memory.member ≡ (read.memory_then q e decided m).member → left ≡ (memory, read.tells q from e b)
+  tells-left : (k : Kept) (decided : List AttemptId) → Lasts r.script t lines (top o) old decided k → (b : Reply) (memory : TargetMemory) (left : TargetMemory × Did) → memory.ticks ≡ (read.memory_then q e decided m).ticks → memory.member ≡ (read.memory_then q e decided m).member → left ≡ (memory, read.tells q from e b)
       → ReplyStands r o stored dated lines q.attempt b → told_by_reply b ≡ [] → SnapshotReadLeaves r o stored dated lines m q e old k left
-  tells-left k decided w lease b memory left ticks member is shows none = subst (SnapshotReadLeaves r o stored dated lines m q e old k) (sym is) (record {
+  tells-left k decided w b memory left ticks member is shows none = subst (SnapshotReadLeaves r o stored dated lines m q e old k) (sym is) (record {
     posts = one-shows r o stored dated lines _ (told-shows b shows none);
     issued = none-issued;
     silent = refl;
     ticks = ticks ∙ same-ticks decided;
-    lease = lease;
     free = w.free;
     parked = λ p i. inl (subst (λ z. Has p z.parked) (member ∙ same-member decided) i);
   })
@@ -168,11 +183,11 @@ module _ (r : Rules) (o : Opening) (stored : Stored) (dated : Dated) (lines : Li
   -- an attempt is in its way
   meets : (k : Kept) (decided : List AttemptId) (a : AttemptId) → Lasts r.script t lines (top o) old decided k → IsInTheWay q.read e k.durable a → MeetsOther r dated q.attempt a
   meets k decided a w v = record {
-    own = e;
+    own = K.date;
     its = K.its;
     other = v.v.epoch;
     others = subst (λ x. Contains dated (x, v.v.epoch)) v.its wrote.0;
-    below = v.below;
+    below = (let low : v.v.epoch.0 < e.0 = v.below in let up : e.0 ≤ K.date.0 = K.up in omega (arith, low, up));
     overlap = subst (λ x. Any (λ w. Any (λ p. overlaps p (write_path w.write) ≡ true) (access_paths (attempt_ops r.script q.attempt))) (minor_writes 0 (attempt_ops r.script x))) v.its (
       wrote.1.0,
       wrote.1.1,
@@ -195,7 +210,7 @@ module _ (r : Rules) (o : Opening) (stored : Stored) (dated : Dated) (lines : Li
       by (IsOthers leader is) = let no : ⊥ = cc in absurd no
       by (IsOpenStill open') = open'
 
-  ends-show : (s : read.FetchStage) (k : Kept) (left : TargetMemory × Did) → ReadsSo r o lines t m reading q e old K.snapshot K.own s k → read.FetchEnds t m reading q from s k left → SnapshotReadLeaves r o stored dated lines m q e old k left
+  pub ends-show : (s : read.FetchStage) (k : Kept) (left : TargetMemory × Did) → ReadsSo r o lines t m reading q e old K.snapshot K.own s k → read.FetchEnds t m reading q from s k left → SnapshotReadLeaves r o stored dated lines m q e old k left
   unfolding ReadsSo
   ends-show s k left h (read.IsSpent j z plain none is) = let on = K.snapshot in let no : ⊥ = cc in absurd no
   ends-show s k left h (read.IsRefused j f decided c z because is) =
@@ -204,16 +219,15 @@ module _ (r : Rules) (o : Opening) (stored : Stored) (dated : Dated) (lines : Li
       let no : ⊥ = cc (none, why) in absurd no
   ends-show s k left h (read.MeetsUnresolved j f decided a z free unsettled unknown alone is) =
       let v = meets-open q.read e k.durable a (subst (λ g. fetched q.read g k.durable ≡ Err (Unsettled a)) h.0 unsettled) in
-      tells-left k decided h.1 h.3 (reply.Outcome (outcome.Restart (cause.Unresolved a))) (read.memory_then q e decided m) left refl refl (is ∙ ap (λ g. (read.memory_then q g decided m, read.tells q from g (reply.Outcome (outcome.Restart (cause.Unresolved a))))) h.0)
+      tells-left k decided h.1 (reply.Outcome (outcome.Restart (cause.Unresolved a))) (read.memory_then q e decided m) left refl refl (is ∙ ap (λ g. (read.memory_then q g decided m, read.tells q from g (reply.Outcome (outcome.Restart (cause.Unresolved a))))) h.0)
       (unresolved-stands r lines dated q.attempt a (meets k decided a h.1 v) (still-open k decided a h.1 v unknown alone q.attempt) (T.once q.attempt)) refl
   ends-show s k left h (read.IsParked j f decided a leader z free unsettled other is) =
       let v = meets-open q.read e k.durable a (subst (λ g. fetched q.read g k.durable ≡ Err (Unsettled a)) h.0 unsettled) in
       subst (SnapshotReadLeaves r o stored dated lines m q e old k) (sym (is ∙ ap (λ g. (read.memory_parked t q g decided a leader m, read.asks_leader q g a leader)) h.0)) (record {
-        posts = one-shows r o stored dated lines _ (record { shows = tt; told = λ n i. absurd (none-told n i); undecided = λ x y u. absurd u; asked = λ x same. (e, subst (λ y. Contains dated (y, e)) same K.its); own = λ x u. absurd u });
+        posts = one-shows r o stored dated lines _ (record { shows = tt; told = λ n i. absurd (none-told n i); undecided = λ x y u. absurd u; asked = λ x same. (K.date, subst (λ y. Contains dated (y, K.date)) same K.its); own = λ x u. absurd u });
         issued = none-issued;
         silent = refl;
         ticks = same-ticks decided;
-        lease = h.3;
         free = h.1.free;
         parked = λ p i. placed p a leader (meets k decided a h.1 v) (has-cases m.member.parked (record { on = a; leader = leader; ask = read.fetch_at q e } ∷ []) p i);
       })
@@ -223,7 +237,7 @@ module _ (r : Rules) (o : Opening) (stored : Stored) (dated : Dated) (lines : Li
       placed p a leader met (inr (inl same)) = inr (ap (λ z. z.ask) same, subst (λ z. MeetsOther r dated q.attempt z) (sym (ap (λ z. z.on) same)) met)
       placed p a leader met (inr (inr bad)) = absurd bad
   ends-show s k left h (read.IsServed j f decided b z free served is) =
-      tells-left k decided h.1 h.3 (reply.Answer b) (record (read.memory_then q e decided m) { stamps = read.stamps_with q e m.stamps }) left refl refl
+      tells-left k decided h.1 (reply.Answer b) (record (read.memory_then q e decided m) { stamps = read.stamps_with q e m.stamps }) left refl refl
       (is ∙ ap (λ g. (record (read.memory_then q g decided m) { stamps = read.stamps_with q g m.stamps }, read.tells q from g (reply.Answer b))) h.0) tt refl
 
 pub snapshot-reads_show : SnapshotReadsShow

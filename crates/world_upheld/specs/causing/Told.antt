@@ -20,7 +20,7 @@ use Rattle.world_base.specs.declared.client.Present.{Present}
 use Rattle.world_base.specs.declared.letter.Letter.{Letter}
 use Rattle.world_base.specs.declared.world.World.{World}
 use Rattle.world_base.specs.ClientTurns.{Move, about, answered, asks_again, heard_at, is_about, lost, reset, attempt_id, begun, command_at, ends, goes, greatest, heard, hears_epochs, knows, listed, op_of, replied, snaps_known, told_by_message}
-use Rattle.world_letters.specs.epochs.Epochs.{Epochs}
+use Rattle.world_letters.specs.epochs.Epochs.{Epochs, IsPast}
 use Rattle.world_letters.specs.epochs.Talking.{TalksOnce, taken-silent}
 use Rattle.world_base.specs.Events.{Rules, client_plan, with_epoch}
 use Rattle.world_base.specs.Letters.{Takes, client, is_tell}
@@ -38,7 +38,8 @@ use Rattle.daos_model.specs.EntryLaws.{same_attempt-itself}
 use Rattle.world_causes.specs.causes.Shown.{Causes, MeetsUnresolved, MessageStands, OutcomeStands, ReplyStands, limit_over}
 use Rattle.world_causes.specs.causes.ClientLaws.{ArePlain, IsMild, IsPlain, answer-mild, attempt_here, ends-no_tell, ends-tracker, quiet-line}
 use Rattle.world_causes.specs.causes.HearingLaws.{IsHeard, LossStands, LossesStand}
-use Rattle.world_upheld.specs.causing.Doing.{AreBegun, did-causes, issued-begun, none-ended, was-present, with_dates}
+use Rattle.world_upheld.specs.causing.Dates.{with_dates}
+use Rattle.world_upheld.specs.causing.Doing.{AreBegun, did-causes, none-ended, over-after, was-present}
 
 greatest-within : (t : ℕ) (es : List ℕ) (b : ℕ) → t / 256 ≤ b → ((e : ℕ) → Has e es → e / 256 ≤ b) → greatest t es / 256 ≤ b
 unfolding greatest
@@ -144,14 +145,14 @@ told-is (message.Ack x inc refusal) e i = absurd (none-told e i)
 told-is m e i = i
 
 pub dated-hears_causes : (r : Rules) (o : Opening) (stored : Stored) (dated : Dated) (w : World) (n : ℕ) (c : ClientState) (l : Letter) (rest : List Letter) → TalksOnce w
-    → Epochs r (top o) (after_move (without w rest) n (heard (client_plan r n) c l.message)) → AreBegun r dated w → slice_get w.clients n ≡ Some c → Takes w.messages l rest → l.to ≡ client n → LossesStand r w.lines n c l.message → Causes r o stored (with_dates dated w)
+    → Epochs r (top o) (after_move (without w rest) n (heard (client_plan r n) c l.message)) → AreBegun r dated w → ((x : AttemptId) → IsPast c x → IsPast (heard (client_plan r n) c l.message).state x) → slice_get w.clients n ≡ Some c → Takes w.messages l rest → l.to ≡ client n → LossesStand r w.lines n c l.message → Causes r o stored (with_dates dated w)
     → Causes r o stored (with_dates dated (after_move (without w rest) n (heard (client_plan r n) c l.message)))
-dated-hears_causes r o stored dated w n c l rest once F begun here takes to losses C =
+dated-hears_causes r o stored dated w n c l rest once F begun past here takes to losses C =
     did-causes r o stored dated w n c m.state rest (listed m.post) m.line C
     (record {
       here = here;
       among = λ z i. left-is-among w.messages l rest z takes i;
-      before = was-present r dated w (after_move (without w rest) n m) (map (with_epoch w.issued) (listed m.line)) begun refl (none-ended r (top o) (after_move (without w rest) n m) F);
+      before = was-present r dated w (after_move (without w rest) n m) (map (with_epoch w.issued) (listed m.line)) begun (over-after w.clients n c m.state here past) refl (none-ended r (top o) (after_move (without w rest) n m) F);
       unended = none-ended r (top o) (after_move (without w rest) n m) F;
       own = k.own;
       silent = λ a is z x i ends same. answered-once a is z x i ends same;
@@ -178,8 +179,3 @@ dated-hears_causes r o stored dated w n c l rest once F begun here takes to loss
         by false talks =
             none-among n rest z (taken-silent w n c l rest once here takes (got-is-talk n l talks to)) i
             (got-is-talk n z (ends-no_tell z.message x ends) (C.waiting.own z x (left-is-among w.messages l rest z takes i) ends ∙ ap client same))
-
-pub hears-causes : (r : Rules) (o : Opening) (stored : Stored) (w : World) (n : ℕ) (c : ClientState) (l : Letter) (rest : List Letter) → TalksOnce w → Epochs r (top o) w
-    → Epochs r (top o) (after_move (without w rest) n (heard (client_plan r n) c l.message)) → slice_get w.clients n ≡ Some c → Takes w.messages l rest → l.to ≡ client n → LossesStand r w.lines n c l.message → Causes r o stored w
-    → Causes r o stored (after_move (without w rest) n (heard (client_plan r n) c l.message))
-hears-causes r o stored w n c l rest once E F here takes to losses C = dated-hears_causes r o stored w.issued w n c l rest once F (issued-begun r (top o) w E) here takes to losses C

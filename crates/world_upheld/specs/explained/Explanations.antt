@@ -1,23 +1,27 @@
 -- All that is accounted for in any run, where leaders' stops show, and beside it the causes that outcomes show.
-use Rattle.std.specs.Prelude.{ℕ, ◌≡◌, ◌≤◌, ◌++◌, true, false, is_some, List, [], length, slice_get, Contains, Some}
+use Rattle.std.specs.Prelude.{ℕ, ◌≡◌, ◌≤◌, ◌++◌, true, is_some, List, [], ◌∷◌, length, slice_get, Contains, Some}
+use Rattle.base_types.specs.declared.epoch.Epoch.{Epoch}
+use Rattle.base_types.specs.declared.id.AttemptId.{AttemptId}
+use Rattle.base_types.specs.declared.outcome.Cause.TheVariants as cause
+use Rattle.base_types.specs.declared.outcome.Outcome.TheVariants as outcome
+use Rattle.base_types.specs.declared.path.Path.{Path}
+use Rattle.base_types.specs.declared.report.Attempt.{Attempt}
+use Rattle.base_types.specs.declared.report.Line.{Line}
+use Rattle.base_types.specs.declared.report.Line.TheVariants as line
 use Rattle.base_types.specs.declared.snapshot.Snap.{Snap}
 use Rattle.daos_model.specs.declared.durable.Version.{Version}
 use Rattle.daos_model.specs.Opening.{Opening, kept_map}
-use Rattle.dtx_base.specs.declared.member.Parked.{Parked}
 use Rattle.world_commit.specs.attempts.History.{Grew, History}
-use Rattle.world_base.specs.declared.letter.Letter.{Letter}
 use Rattle.world_base.specs.declared.target.TargetState.{TargetState}
 use Rattle.world_base.specs.declared.world.World.{World}
 use Rattle.world_base.specs.Events.{Rules}
 use Rattle.world_base.specs.Stops.{WorldEvent, WorldRun}
 use Rattle.world_causes.specs.causes.Causes.{Stored}
-use Rattle.world_causes.specs.causes.Shown.{Causes}
+use Rattle.world_upheld.specs.causing.Dates.{with_dates}
+use Rattle.world_upheld.specs.causing.OverDates.{CausesOverDates}
 use Rattle.world_upheld.specs.causing.Happening.{IsOtherwiseKnown}
 use Rattle.world_upheld.specs.causing.Known.{IsMakingKnown}
 use Rattle.world_upheld.specs.causing.Places.{Places}
-use Rattle.world_upheld.specs.causing.Refusing.{FreezeRefusalsShow}
-use Rattle.world_letters.specs.epochs.Epochs.{reads_snapshot}
-use Rattle.world_letters.specs.epochs.PlainScripts.{NoSnapshots}
 use Rattle.world_legal.specs.reasons.Accounted.{stored_over}
 use Rattle.world_causes.specs.showing.Happening.{stored_in}
 use Rattle.world_upheld.specs.upheld.Begins.{AreRulesInForm, RunBeginsWith}
@@ -27,24 +31,18 @@ use Rattle.world_plain.specs.whole.Everything.{AreBefore}
 
 -- ---- the facts
 
--- All that is accounted for, and where leaders' stops show; that each outcome that goes about, or that a line tells of, shows its cause; how
--- many places of snapshots are taken; and that refusals of Freezes show why.
+-- All that is accounted for, and where leaders' stops show; that each outcome that goes about, or that a line tells of, shows its cause over dates, where
+-- epochs of snapshots count as they are for who reads there, or one later; and how many places of snapshots are taken.
 pub record Explanations (r : Rules) (o : Opening) (held : ℕ → List Version) (h : History) (stored : Stored) (w : World) : Type 0 where
   pub reasons : Reasons r o held h stored w
-  pub causes : Causes r o stored w
+  pub causes : (late : ℕ) → late ≤ 1 → CausesOverDates r o late stored w
   pub places : Places r o w
-  pub refusals : FreezeRefusalsShow r o w
 
 -- it holds of what was decided, aborted and served by now, which is all that was before, and perhaps more
 pub record HasExplanationsStill (r : Rules) (o : Opening) (held : ℕ → List Version) (h : History) (stored : Stored) (v : World) : Type 0 where
   pub later : History
   pub grew : Grew h later
   pub explanations : Explanations r o held later stored v
-
--- no read at a snapshot goes about, and none waits at a target
-pub record NoSnapshotIsRead (w : World) : Type 0 where
-  pub flight : (l : Letter) → Contains w.messages l → reads_snapshot l.message ≡ false
-  pub parked : (t : ℕ) (s : TargetState) (p : Parked) → slice_get w.targets t ≡ Some s → Contains s.memory.member.parked p → reads_snapshot p.ask ≡ false
 
 -- no target holds more snapshots than the opening keeps maps of
 abbrev pub HoldNoMoreSnapshots : Opening → World → Type 0
@@ -60,24 +58,24 @@ HoldKeptSnapshots o w =
 -- what causes stand on is known where snapshots are made and containers aggregated
 abbrev pub MakingIsKnown : Type 0
 MakingIsKnown =
-    (r : Rules) (o : Opening) (held : ℕ → List Version) (h : History) (stored : Stored) (w : World) → AreRulesInForm r → Explanations r o held h stored w → IsMakingKnown r o w
+    (r : Rules) (o : Opening) (held : ℕ → List Version) (h : History) (stored : Stored) (w : World) → AreRulesInForm r → (k : Explanations r o held h stored w) → (late : ℕ) (low : late ≤ 1)
+    → IsMakingKnown r o (with_dates (k.causes late low).dated w)
 
--- and so is what is heard in an event, where no read is at a snapshot
+-- and so is what is heard in an event, once the epoch of its snapshot counts for a read that is heard
+pub record IsHeardKnown (r : Rules) (o : Opening) (held : ℕ → List Version) (h : History) (stored : Stored) (w v : World) (e : WorldEvent r w v) : Type 0 where
+  pub explanations : Explanations r o held h stored w
+  pub known : (late : ℕ) (low : late ≤ 1) → IsOtherwiseKnown r o stored (explanations.causes late low).dated e.happens
+
 abbrev pub AllHeardIsKnown : Type 0
 AllHeardIsKnown =
     (r : Rules) (o : Opening) (held : ℕ → List Version) (h : History) (stored : Stored) (w v : World) → AreRulesInForm r → AreBefore o held
-    → Explanations r o held h stored w → NoSnapshotIsRead w → (e : WorldEvent r w v) → IsOtherwiseKnown r o stored e.happens
+    → Explanations r o held h stored w → (e : WorldEvent r w v) → IsHeardKnown r o held h stored w v e
 
--- So each event of a run of a script in form keeps it, where no read is at a snapshot then, with what is stored in it.
+-- So each event of a run of a script in form keeps it, with what is stored in it.
 abbrev pub AllEventsKeepExplanations : Type 0
 AllEventsKeepExplanations =
     (r : Rules) (o : Opening) (held : ℕ → List Version) (h : History) (stored : Stored) (w v : World) → AreRulesInForm r → AreBefore o held
-    → Explanations r o held h stored w → NoSnapshotIsRead w → (e : WorldEvent r w v) → HasExplanationsStill r o held h (stored_in r e.happens ++ stored) v
-
--- where no attempt of a script reads at a snapshot, none of its reads is at one
-abbrev pub ScriptsReadNone : Type 0
-ScriptsReadNone =
-    (r : Rules) (o : Opening) (held : ℕ → List Version) (h : History) (stored : Stored) (w : World) → NoSnapshots r.script → Reasons r o held h stored w → NoSnapshotIsRead w
+    → Explanations r o held h stored w → (e : WorldEvent r w v) → HasExplanationsStill r o held h (stored_in r e.happens ++ stored) v
 
 -- where targets hold only snapshots of which the opening keeps maps, they hold no more than those
 abbrev pub KeptAreNoMore : Type 0
@@ -88,15 +86,20 @@ abbrev pub RunsBeginWithExplanations : Type 0
 RunsBeginWithExplanations =
     (r : Rules) (o : Opening) (w : World) → AreRulesInForm r → RunBeginsWith r o w → HoldNoMoreSnapshots o w → Explanations r o (held_at w) no_history [] w
 
--- So it holds at each moment of a run that makes snapshots and aggregates, but reads at none, of what was decided, aborted, served and stored
--- by then.
+-- So it holds at each moment of a run, of what was decided, aborted, served and stored by then.
 abbrev pub RunsHaveExplanations : Type 0
 RunsHaveExplanations =
-    (r : Rules) (o : Opening) (w v : World) → AreRulesInForm r → RunBeginsWith r o w → HoldNoMoreSnapshots o w → NoSnapshots r.script → (run : WorldRun r w v)
+    (r : Rules) (o : Opening) (w v : World) → AreRulesInForm r → RunBeginsWith r o w → HoldNoMoreSnapshots o w → (run : WorldRun r w v)
     → (h : History) × Explanations r o (held_at w) h (stored_over r run) v
 
--- and each outcome shows its cause
+-- and each outcome shows its cause over dates
 abbrev pub AllRunsShowCauses : Type 0
 AllRunsShowCauses =
-    (r : Rules) (o : Opening) (w v : World) → AreRulesInForm r → RunBeginsWith r o w → HoldNoMoreSnapshots o w → NoSnapshots r.script → (run : WorldRun r w v)
-    → Causes r o (stored_over r run) v
+    (r : Rules) (o : Opening) (w v : World) → AreRulesInForm r → RunBeginsWith r o w → HoldNoMoreSnapshots o w → (run : WorldRun r w v)
+    → (late : ℕ) → late ≤ 1 → CausesOverDates r o late (stored_over r run) v
+
+-- and each later read that a line's cause names was issued its epoch
+abbrev pub AllRunsNameIssuedReads : Type 0
+AllRunsNameIssuedReads =
+    (r : Rules) (o : Opening) (w v : World) → AreRulesInForm r → RunBeginsWith r o w → HoldNoMoreSnapshots o w → WorldRun r w v
+    → (before : List Line) (a : Attempt) (after : List Line) (by : AttemptId) (epoch : Epoch) (path : Path) → v.lines ≡ before ++ line.Try a ∷ after → a.outcome ≡ outcome.Restart (cause.ReadLater by epoch path) → Contains v.issued (by, epoch)

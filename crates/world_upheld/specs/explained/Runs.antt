@@ -1,4 +1,4 @@
--- A run begins so that outcomes show their causes; and in one that reads at no snapshot it is so at each moment.
+-- A run begins so that outcomes show their causes, and it is so at each moment.
 use Rattle.std.specs.Prelude.{ℕ, ◌≡◌, ◌≤◌, ◌+◌, ◌*◌, ◌/◌, Bool, true, false, nat_lt, slice_get, Some, if◌then◌else◌}
 use Rattle.std.proofs.Common.{sym, ◌∙◌, ap, subst, arith}
 use Rattle.base_types.specs.declared.id.ContId.{ContId}
@@ -12,7 +12,8 @@ use Rattle.world_base.specs.declared.world.World.{World}
 use Rattle.world_base.specs.Events.{Rules}
 use Rattle.world_base.specs.Stops.{Begins, Goes}
 use Rattle.world_causes.specs.causes.CauseLaws.{IsBegun}
-use Rattle.world_upheld.specs.causing.Begin.{causes-begin, refusals-and_places_begin}
+use Rattle.world_upheld.specs.causing.Begin.{refusals-and_places_begin}
+use Rattle.world_upheld.specs.causing.OverDates.{causes-over_dates_begin, later-reads_issued}
 use Rattle.world_legal.specs.reasons.Accounted.{stored_over}
 use Rattle.world_upheld.specs.upheld.Begins.{RunBeginsWith, client_begins}
 use Rattle.world_upheld.specs.upheld.BeginVersions.{same-row}
@@ -20,8 +21,8 @@ use Rattle.world_upheld.specs.upheld.Runs.{held-first}
 use Rattle.world_upheld.specs.reasons.Reasons.{reasons-begin}
 use Rattle.world_plain.specs.whole.BeginLaws.{get-map}
 use Rattle.world_plain.specs.whole.Begins.{held_at, no_history}
-use Rattle.world_upheld.specs.explained.Explanations.{AllRunsShowCauses, RunsBeginWithExplanations, RunsHaveExplanations}
-use Rattle.world_upheld.specs.explained.Events.{all-events-keep_explanations, scripts-read_none}
+use Rattle.world_upheld.specs.explained.Explanations.{AllRunsNameIssuedReads, AllRunsShowCauses, RunsBeginWithExplanations, RunsHaveExplanations}
+use Rattle.world_upheld.specs.explained.Events.{all-events-keep_explanations}
 
 -- ---- the beginning
 
@@ -59,18 +60,21 @@ module _ (r : Rules) (o : Opening) (w : World) (B : RunBeginsWith r o w) where
 
 pub explanations-begin : RunsBeginWithExplanations
 explanations-begin r o w A B few =
-    let z = refusals-and_places_begin r o w B.messages few in
-    record { reasons = reasons-begin r o w A B; causes = causes-begin r o w (begun r o w B); places = z.1; refusals = z.0 }
+    record { reasons = reasons-begin r o w A B; causes = λ late low. causes-over_dates_begin r o late w (begun r o w B); places = (refusals-and_places_begin r o w B.messages few).1 }
 
 -- ---- runs
 
 pub runs-have_explanations : RunsHaveExplanations
-runs-have_explanations r o w v A B few none Begins = (no_history, explanations-begin r o w A B few)
-runs-have_explanations r o w v A B few none (Goes u x run e) =
-    let k = runs-have_explanations r o w u A B few none run in
-    let s = all-events-keep_explanations r o (held_at w) k.0 (stored_over r run) u v A (held-first r o w A B) k.1
-    (scripts-read_none r o (held_at w) k.0 (stored_over r run) u none k.1.reasons) e in
+runs-have_explanations r o w v A B few Begins = (no_history, explanations-begin r o w A B few)
+runs-have_explanations r o w v A B few (Goes u x run e) =
+    let k = runs-have_explanations r o w u A B few run in
+    let s = all-events-keep_explanations r o (held_at w) k.0 (stored_over r run) u v A (held-first r o w A B) k.1 e in
     (s.later, s.explanations)
 
 pub all-runs-show : AllRunsShowCauses
-all-runs-show r o w v A B few none run = (runs-have_explanations r o w v A B few none run).1.causes
+all-runs-show r o w v A B few run = (runs-have_explanations r o w v A B few run).1.causes
+
+pub all-runs-name_issued : AllRunsNameIssuedReads
+all-runs-name_issued r o w v A B few run before a after by epoch path among is =
+    let k = (runs-have_explanations r o w v A B few run).1 in
+    later-reads_issued r o (stored_over r run) v k.reasons.accounted.upheld.heard.epochs (k.causes 0 (omega arith)) (k.causes 1 (omega arith)) before a after by epoch path among is

@@ -38,7 +38,8 @@ use Rattle.world_base.specs.Events.{Rules, target_plan}
 use Rattle.world_base.specs.Letters.{client, target}
 use Rattle.world_base.specs.Roles.{leader_at}
 use Rattle.world_base.specs.Statuses.{down_of, status_refusal}
-use Rattle.world_causes.specs.causes.Causes.{Stored, epochs_told}
+use Rattle.world_upheld.specs.reasons.Counting.{CountAsDates}
+use Rattle.world_causes.specs.causes.Causes.{Dated, Stored, epochs_told}
 use Rattle.world_causes.specs.causes.Lasting.{refusal-shows}
 use Rattle.world_causes.specs.causes.MemberTurns.{IsAck}
 use Rattle.world_causes.specs.causes.ReadTurns.{none-told}
@@ -67,25 +68,25 @@ use Rattle.world_legal.specs.reasons.Waiting.{waiter-present}
 -- a leader that is asked what became of an attempt
 abbrev pub AllAsksAreKnown : Type 0
 AllAsksAreKnown =
-    (r : Rules) (o : Opening) (held : ℕ → List Version) (h : History) (stored : Stored) (w : World) → AccountedFor r o held h stored w → Causes r o stored w
+    (r : Rules) (o : Opening) (held : ℕ → List Version) (h : History) (stored : Stored) (w : World) → AccountedFor r o held h stored w → (dated : Dated) → CountAsDates r w dated → Causes r o stored (record w { issued = dated })
     → (t : ℕ) (s : TargetState) → slice_get w.targets t ≡ Some s → (l : Letter) (x : AttemptId) → Has l w.messages → l.message ≡ message.Ask x
-    → IsAskKnown r o w l.from x (leader_at (target_plan r t) s.memory s.durable)
+    → IsAskKnown r o (record w { issued = dated }) l.from x (leader_at (target_plan r t) s.memory s.durable)
 
 -- one that is answered by a member
 abbrev pub AllAcksAreKnown : Type 0
 AllAcksAreKnown =
-    (r : Rules) (o : Opening) (held : ℕ → List Version) (h : History) (stored : Stored) (w : World) → AccountedFor r o held h stored w → Causes r o stored w
+    (r : Rules) (o : Opening) (held : ℕ → List Version) (h : History) (stored : Stored) (w : World) → AccountedFor r o held h stored w → (dated : Dated) → CountAsDates r w dated → Causes r o stored (record w { issued = dated })
     → (t : ℕ) (s : TargetState) → slice_get w.targets t ≡ Some s → (l : Letter) (x : AttemptId) (inc : ℕ) (refusal : Option Outcome) → Has l w.messages
     → l.message ≡ message.Ack x inc refusal
-    → IsAck r o stored w.issued w.lines x refusal (leader_at (target_plan r t) s.memory s.durable)
+    → IsAck r o stored dated w.lines x refusal (leader_at (target_plan r t) s.memory s.durable)
 
 -- or is told what a member holds
 abbrev pub AllStatesAreKnown : Type 0
 AllStatesAreKnown =
-    (r : Rules) (o : Opening) (held : ℕ → List Version) (h : History) (stored : Stored) (w : World) → AccountedFor r o held h stored w → Causes r o stored w
+    (r : Rules) (o : Opening) (held : ℕ → List Version) (h : History) (stored : Stored) (w : World) → AccountedFor r o held h stored w → (dated : Dated) → CountAsDates r w dated → Causes r o stored (record w { issued = dated })
     → (t : ℕ) (s : TargetState) → slice_get w.targets t ≡ Some s → (l : Letter) (x : AttemptId) (inc : ℕ) (how : EntryState) → Has l w.messages
     → l.message ≡ message.StatusIs x inc how
-    → IsAck r o stored w.issued w.lines x (status_refusal x how) (leader_at (target_plan r t) s.memory s.durable)
+    → IsAck r o stored dated w.lines x (status_refusal x how) (leader_at (target_plan r t) s.memory s.durable)
 
 -- A leader to which a client hands an attempt over, of which it knows a member to be down: that is a target of the attempt, and was given up.
 abbrev pub AllCommitsMeetGivenUp : Type 0
@@ -98,26 +99,26 @@ AllCommitsMeetGivenUp =
 -- and that target is one of the attempt's, and was given up.
 abbrev pub AllLostQuestionsAreKnown : Type 0
 AllLostQuestionsAreKnown =
-    (r : Rules) (o : Opening) (held : ℕ → List Version) (h : History) (stored : Stored) (w : World) → AccountedFor r o held h stored w → Causes r o stored w
+    (r : Rules) (o : Opening) (held : ℕ → List Version) (h : History) (stored : Stored) (w : World) → AccountedFor r o held h stored w → (dated : Dated) → CountAsDates r w dated → Causes r o stored (record w { issued = dated })
     → (t : ℕ) (s : TargetState) → slice_get w.targets t ≡ Some s → (l : Letter) (by : ℕ) (q : Message) → Has l w.messages → TellsReset by true q l.message
     → (x : AttemptId) (e : Entry) (u : Undecided) (c : ActorId) → AsksAfter q x → entry_led x (leader_at (target_plan r t) s.memory s.durable) ≡ Some e
     → undecided_of x (leader_at (target_plan r t) s.memory s.durable) ≡ Some u → u.client ≡ Some c
-    → (c ≡ client x.client) × IsGone r w.lines x by × (e.epoch.0 / 256 ≤ limit_over o w.lines w.issued)
+    → (c ≡ client x.client) × IsGone r w.lines x by × (e.epoch.0 / 256 ≤ limit_over o w.lines dated)
 
 -- ---- what is found
 
-module _ (r : Rules) (o : Opening) (held : ℕ → List Version) (h : History) (stored : Stored) (w : World) (k : AccountedFor r o held h stored w) (C : Causes r o stored w) (t : ℕ)
+module _ (r : Rules) (o : Opening) (held : ℕ → List Version) (h : History) (stored : Stored) (w : World) (k : AccountedFor r o held h stored w) (dated : Dated) (D : CountAsDates r w dated) (C : Causes r o stored (record w { issued = dated })) (t : ℕ)
     (s : TargetState) (here : slice_get w.targets t ≡ Some s) where
   abbrev leader : LeaderOf
   leader = leader_at (target_plan r t) s.memory s.durable
 
   module _ (x : AttemptId) where
     -- an entry that is led here has its epoch, and the attempt's members
-    within : (e : Entry) → entry_led x leader ≡ Some e → e.epoch.0 / 256 ≤ limit_over o w.lines w.issued
+    within : (e : Entry) → entry_led x leader ≡ Some e → e.epoch.0 / 256 ≤ limit_over o w.lines dated
     within e f =
         let found = (led-found (target_plan r t) s.memory s.durable x e (k.upheld.heard.attempts.on.ordered t s here).entries f).0 in
         let its = (k.upheld.heard.attempts.on.each x).entries.one t e (ap (λ y. entry_in y x) here ∙ found) in
-        C.bounded.issued x e.epoch (contains-from_has w.issued (x, e.epoch) its.issued)
+        C.bounded.issued x e.epoch (D.issued x e.epoch (contains-from_has w.issued (x, e.epoch) its.issued))
 
     gone : (e : Entry) (down : ℕ) → entry_led x leader ≡ Some e → first_down e.members s.memory.leader.down ≡ Some down → IsGone r w.lines x down
     gone e down f first =
@@ -137,7 +138,7 @@ module _ (r : Rules) (o : Opening) (held : ℕ → List Version) (h : History) (
         let f = found-row x s.memory.leader.undecided u row in
         subst (IsPresent r w) f.1 (waiter-present r w k.upheld.heard.talk t s here u f.0 x.client (told ∙ ap (λ y. Some y) (waits u c row told)))
 
-  ask-known : (l : Letter) (x : AttemptId) → Has l w.messages → l.message ≡ message.Ask x → IsAskKnown r o w l.from x leader
+  ask-known : (l : Letter) (x : AttemptId) → Has l w.messages → l.message ≡ message.Ask x → IsAskKnown r o (record w { issued = dated }) l.from x leader
   ask-known l x i is = record {
     own = subst (IsSentRightly l.from) is (k.upheld.senders l i);
     within = λ e f. within x e f;
@@ -151,18 +152,18 @@ module _ (r : Rules) (o : Opening) (held : ℕ → List Version) (h : History) (
           record { c = z.c; a = z.waits.a; here = z.here; at = z.waits.present; own = z.waits.own }
 
   ack-known : (l : Letter) (x : AttemptId) (inc : ℕ) (refusal : Option Outcome) → Has l w.messages → l.message ≡ message.Ack x inc refusal
-      → IsAck r o stored w.issued w.lines x refusal leader
+      → IsAck r o stored dated w.lines x refusal leader
   ack-known l x inc refusal i is = record {
     waiting = λ u c row told. waits x u c row told;
     within = λ e f. within x e f;
     shows =
-        λ how u c so row told. refusal-shows r o stored w.issued w.lines x how
-        (subst (MessageStands r o stored w.issued w.lines) (is ∙ ap (message.Ack x inc) so) (C.flight l (contains-from_has w.messages l i)));
+        λ how u c so row told. refusal-shows r o stored dated w.lines x how
+        (subst (MessageStands r o stored dated w.lines) (is ∙ ap (message.Ack x inc) so) (C.flight l (contains-from_has w.messages l i)));
     told = λ how n so j. C.bounded.told l n (contains-from_has w.messages l i) (subst (λ m. Contains (epochs_told m) n) (sym (is ∙ ap (message.Ack x inc) so)) j);
   }
 
   state-known : (l : Letter) (x : AttemptId) (inc : ℕ) (how : EntryState) → Has l w.messages → l.message ≡ message.StatusIs x inc how
-      → IsAck r o stored w.issued w.lines x (status_refusal x how) leader
+      → IsAck r o stored dated w.lines x (status_refusal x how) leader
   state-known l x inc how i is = record {
     waiting = λ u c row told. waits x u c row told;
     within = λ e f. within x e f;
@@ -171,13 +172,13 @@ module _ (r : Rules) (o : Opening) (held : ℕ → List Version) (h : History) (
   }
     where
       shows : (how : EntryState) (end : Outcome) (u : Undecided) (c : ActorId) → status_refusal x how ≡ Some end → undecided_of x leader ≡ Some u → u.client ≡ Some c
-          → OutcomeStands r o stored w.issued w.lines x end
+          → OutcomeStands r o stored dated w.lines x end
       shows state.Prepared end u c so row told = let no : ⊥ = cc (so) in absurd no
       shows state.Committed end u c so row told = let no : ⊥ = cc (so) in absurd no
       shows state.Absent end u c so row told =
           let same : outcome.Restart (cause.Unresolved x) ≡ end = cc in
-          subst (OutcomeStands r o stored w.issued w.lines x) same
-          (subst (λ b. MeetsUnresolved b r w.issued w.lines x x) (sym (same_attempt-itself x))
+          subst (OutcomeStands r o stored dated w.lines x) same
+          (subst (λ b. MeetsUnresolved b r dated w.lines x x) (sym (same_attempt-itself x))
           (k.losses.letters l x i (ap (tells_stop x) is ∙ same_attempt-itself x) (waiter x u c row told)))
 
       telling : (how : EntryState) (end : Outcome) (n : ℕ) → status_refusal x how ≡ Some end → Contains (told_by end) n → ⊥
@@ -203,7 +204,7 @@ module _ (r : Rules) (o : Opening) (held : ℕ → List Version) (h : History) (
 
   lost-known : (l : Letter) (by : ℕ) (q : Message) → Has l w.messages → TellsReset by true q l.message → (x : AttemptId) (e : Entry) (u : Undecided) (c : ActorId) → AsksAfter q x
       → entry_led x leader ≡ Some e → undecided_of x leader ≡ Some u → u.client ≡ Some c
-      → (c ≡ client x.client) × IsGone r w.lines x by × (e.epoch.0 / 256 ≤ limit_over o w.lines w.issued)
+      → (c ≡ client x.client) × IsGone r w.lines x by × (e.epoch.0 / 256 ≤ limit_over o w.lines dated)
   lost-known l by q i tells x e u c asks found row told =
       (waits x u c row told, (asked-member l by x q i tells asks, contains-from_has w.lines (line.Down by) (k.downs l by i (downs l.message tells))), within x e found)
     where
@@ -231,14 +232,14 @@ all-commits_meet r o held h stored w A k t s here l q e down i says first = (
     is = down-so (led_entry (target_plan r t) q e).members s.memory.leader.down down first
 
 pub all-lost-questions_known : AllLostQuestionsAreKnown
-all-lost-questions_known r o held h stored w k C t s here l by q i tells x e u c asks found row told =
-    lost-known r o held h stored w k C t s here l by q i tells x e u c asks found row told
+all-lost-questions_known r o held h stored w k dated D C t s here l by q i tells x e u c asks found row told =
+    lost-known r o held h stored w k dated D C t s here l by q i tells x e u c asks found row told
 
 pub all-asks_known : AllAsksAreKnown
-all-asks_known r o held h stored w k C t s here l x i is = ask-known r o held h stored w k C t s here l x i is
+all-asks_known r o held h stored w k dated D C t s here l x i is = ask-known r o held h stored w k dated D C t s here l x i is
 
 pub all-acks_known : AllAcksAreKnown
-all-acks_known r o held h stored w k C t s here l x inc refusal i is = ack-known r o held h stored w k C t s here l x inc refusal i is
+all-acks_known r o held h stored w k dated D C t s here l x inc refusal i is = ack-known r o held h stored w k dated D C t s here l x inc refusal i is
 
 pub all-states_known : AllStatesAreKnown
-all-states_known r o held h stored w k C t s here l x inc how i is = state-known r o held h stored w k C t s here l x inc how i is
+all-states_known r o held h stored w k dated D C t s here l x inc how i is = state-known r o held h stored w k dated D C t s here l x inc how i is

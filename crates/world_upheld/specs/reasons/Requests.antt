@@ -33,7 +33,7 @@ use Rattle.world_base.specs.Events.{Rules, client_plan, kept, target_plan}
 use Rattle.world_base.specs.Letters.{Takes, client, target}
 use Rattle.world_base.specs.Requests.{fetch_message}
 use Rattle.world_causes.specs.causes.AtFloors.{HasTarget}
-use Rattle.world_causes.specs.causes.Causes.{Stored}
+use Rattle.world_causes.specs.causes.Causes.{Dated, Stored}
 use Rattle.world_causes.specs.causes.CommitTurns.{IsCommit}
 use Rattle.world_causes.specs.causes.Growth.{question-asks}
 use Rattle.world_causes.specs.causes.Premises.{IsRequest}
@@ -43,15 +43,17 @@ use Rattle.world_causes.specs.causes.Requests.{leader-holds, prepare-to, prepare
 use Rattle.world_causes.specs.causes.Shown.{Causes, IsFirstOf, limit_over}
 use Rattle.world_letters.specs.clients.Snapshots.{is_at_snapshot}
 use Rattle.world_letters.specs.epochs.Asking.{ops-at}
-use Rattle.world_letters.specs.epochs.Epochs.{AsksEpoch, Epochs, GoesWith, IsEpochOf, IsIssued, IsOwn, IsReadOf, IsSeen}
+use Rattle.world_letters.specs.epochs.Epochs.{AsksEpoch, Epochs, GoesWith, IsEpochOf, IsIssued, IsOwn, IsReadOf, IsSeen, IsPresent}
 use Rattle.world_commit.specs.fates.Facts.{IsPrepareRight, IsSaidSo}
 use Rattle.world_causes.specs.firsts.Firsts.{MessageTells}
+use Rattle.world_making.specs.freezings.Fetching.{AsksOp}
 use Rattle.world_making.specs.freezings.Seeing.{SeesFrozen, fetches-ask}
 use Rattle.world_causes.specs.handing.Dates.{epochs-of_commits}
 use Rattle.world_causes.specs.handing.Handing as handing
 use Rattle.world_causes.specs.handing.Handing.{EpochsOfCommits, IsAskedBy, IsCommitAsked, asked-right}
 use Rattle.world_causes.specs.handing.Places.{snapshots-read}
 use Rattle.world_causes.specs.handing.Targets.{other-is_target, question-target}
+use Rattle.world_upheld.specs.reasons.Counting.{CountAsDates, first-counts}
 use Rattle.world_legal.specs.reasons.Requests.{request-asked}
 use Rattle.world_letters.specs.talks.AskLaws.{asked-commit, asked-read}
 use Rattle.world_letters.specs.talks.Asked.{AsksCommit, AsksRead, commit_of}
@@ -64,17 +66,17 @@ use Rattle.world_letters.specs.waits.Requests.{is_request}
 use Rattle.world_upheld.specs.reasons.Accounted.{AccountedFor}
 use Rattle.world_upheld.specs.reasons.Events.{places-of_rules}
 
--- ---- the statements
+-- ---- the statements, where these count as the epochs of attempts
 
 -- A Fetch in flight to a target that is asked at no snapshot reads what its attempt accesses, with the attempt's epoch, where it has one, and its
 -- command's first; its client sends it. A target of whose floor a line tells is one of the attempt's.
 abbrev pub AllFetchesAreKnown : Type 0
 AllFetchesAreKnown =
-    (r : Rules) (o : Opening) (held : ℕ → List Version) (h : History) (stored : Stored) (w : World) → AreRulesInForm r → AccountedFor r o held h stored w → Causes r o stored w
+    (r : Rules) (o : Opening) (held : ℕ → List Version) (h : History) (stored : Stored) (w : World) → AreRulesInForm r → AccountedFor r o held h stored w → (dated : Dated) → CountAsDates r w dated → Causes r o stored (record w { issued = dated })
     → (t : ℕ) (s : TargetState) → slice_get w.targets t ≡ Some s → (l : Letter) (q : FetchRequest) → Has l w.messages → l.to ≡ target t → l.message ≡ fetch_message q
-    → q.snapshot ≡ false → IsFetch r o w.issued w.lines (target_plan r t) q × (l.from ≡ client q.attempt.client)
+    → q.snapshot ≡ false → IsFetch r o dated w.lines (target_plan r t) q × (l.from ≡ client q.attempt.client)
 
--- what is known of a Fetch at a snapshot: it bears the snapshot's epoch, which is frozen at every target
+-- what is known of a Fetch at a snapshot: it bears the snapshot's epoch, which is frozen at every target; its client is at its attempt
 pub record IsSnapshotFetch (r : Rules) (o : Opening) (w : World) (t : ℕ) (q : FetchRequest) : Type 0 where
   pub few : t < 256
   pub at : is_at_snapshot r q.attempt ≡ true
@@ -82,6 +84,8 @@ pub record IsSnapshotFetch (r : Rules) (o : Opening) (w : World) (t : ℕ) (q : 
   pub bears : q.ep ≡ Some epoch
   pub sees : SeesFrozen r o w q.attempt epoch
   pub access : Has (read_path q.read) (access_paths (attempt_ops r.script q.attempt))
+  pub asks : AsksOp r q.attempt q.op q.read
+  pub present : IsPresent r w q.attempt
   pub target : HasTarget r w.lines q.attempt t
 
 -- So it is of one that is in flight; it reads what its attempt accesses, and its client sends it.
@@ -95,17 +99,17 @@ SnapshotFetchesAreKnown =
 -- no entry of the attempt; its client sends it. A target of whose floor a line tells is one of the attempt's.
 abbrev pub AllCommitsAreKnown : Type 0
 AllCommitsAreKnown =
-    (r : Rules) (o : Opening) (held : ℕ → List Version) (h : History) (stored : Stored) (w : World) → AreRulesInForm r → AccountedFor r o held h stored w → Causes r o stored w
+    (r : Rules) (o : Opening) (held : ℕ → List Version) (h : History) (stored : Stored) (w : World) → AreRulesInForm r → AccountedFor r o held h stored w → (dated : Dated) → CountAsDates r w dated → Causes r o stored (record w { issued = dated })
     → (t : ℕ) (s : TargetState) → slice_get w.targets t ≡ Some s → (l : Letter) (q : CommitRequest) → Has l w.messages → l.to ≡ target t → l.message ≡ commit_of q
-    → IsCommit r o w.issued w.lines t (kept s) q × (l.from ≡ client q.attempt.client)
+    → IsCommit r o dated w.lines t (kept s) q × (l.from ≡ client q.attempt.client)
 
 -- A Prepare in flight to a target brings writes of its attempt, which take the blocks that this needs there, with the epoch that was issued
 -- to it and its command's first; the target has no entry of the attempt. A target of whose floor a line tells is one of the attempt's.
 abbrev pub AllPreparesAreKnown : Type 0
 AllPreparesAreKnown =
-    (r : Rules) (o : Opening) (held : ℕ → List Version) (h : History) (stored : Stored) (w : World) → AreRulesInForm r → AccountedFor r o held h stored w
+    (r : Rules) (o : Opening) (held : ℕ → List Version) (h : History) (stored : Stored) (w : World) → AreRulesInForm r → AccountedFor r o held h stored w → (dated : Dated) → CountAsDates r w dated
     → (t : ℕ) (s : TargetState) → slice_get w.targets t ≡ Some s → (l : Letter) (q : PrepareRequest) → Has l w.messages → l.to ≡ target t
-    → l.message ≡ message.Prepare q.entry q.first q.writes q.inc → IsPrepare r o w.issued w.lines t (kept s) q
+    → l.message ≡ message.Prepare q.entry q.first q.writes q.inc → IsPrepare r o dated w.lines t (kept s) q
 
 -- ---- what is found
 
@@ -162,22 +166,22 @@ module _ (r : Rules) (o : Opening) (held : ℕ → List Version) (h : History) (
       (subst (λ y. Contains (attempt_targets r.script y) z.q.to.number) own (question-target r w heard.stand (places-of_rules r A) k.within z.n z.c z.here z.a z.at z.q z.question))
 
   -- what is known of a request's epochs
-  request-known : Causes r o stored w → (x : AttemptId) (ep first : Option Epoch) (tracker : Epoch) → (ep ≡ None → AsksEpoch l.message x tracker)
+  request-known : (dated : Dated) → CountAsDates r w dated → Causes r o stored (record w { issued = dated }) → (x : AttemptId) (ep first : Option Epoch) (tracker : Epoch) → (ep ≡ None → AsksEpoch l.message x tracker)
       → ((e : Epoch) → ep ≡ Some e → IsIssued w x e)
-      → IsFirstOf w.issued w.lines x first → tracker.0 / 256 ≤ limit_over o w.lines w.issued
-      → IsRequest o w.issued w.lines x ep first tracker
-  request-known C x ep first tracker asks bears low tracked = record {
+      → IsFirstOf w.issued w.lines x first → tracker.0 / 256 ≤ limit_over o w.lines dated
+      → IsRequest o dated w.lines x ep first tracker
+  request-known dated D C x ep first tracker asks bears low tracked = record {
     tracked = tracked;
-    own = λ e is. (let issued = bears e is in (issued, epochs.above x e issued, C.bounded.issued x e issued));
-    fresh = λ none. (let f = epochs.fresh l x tracker among (asks none) in (f.1, f.2));
-    known = low;
+    own = λ e is. (let issued = bears e is in (D.issued x e issued, epochs.above x e issued, C.bounded.issued x e (D.issued x e issued)));
+    fresh = λ none. (let f = epochs.fresh l x tracker among (asks none) in (λ e i. f.1 e (D.own x e f.4 i), f.2));
+    known = first-counts w.issued dated w.lines x first D.issued low;
   }
 
   -- a client's tracker is within the limit
-  tracker-known : Causes r o stored w → (a : HearsRequest r w l left.0) (tracker : Epoch) → tracker ≡ a.k → tracker.0 / 256 ≤ limit_over o w.lines w.issued
-  tracker-known C a tracker same =
+  tracker-known : (dated : Dated) → Causes r o stored (record w { issued = dated }) → (a : HearsRequest r w l left.0) (tracker : Epoch) → tracker ≡ a.k → tracker.0 / 256 ≤ limit_over o w.lines dated
+  tracker-known dated C a tracker same =
       let low : tracker.0 ≤ a.c.tracker.0 = subst (λ e. e.0 ≤ a.c.tracker.0) (sym same) a.low in
-      let up : a.c.tracker.0 / 256 ≤ limit_over o w.lines w.issued = C.bounded.trackers a.n a.c a.here in
+      let up : a.c.tracker.0 / 256 ≤ limit_over o w.lines dated = C.bounded.trackers a.n a.c a.here in
       omega (arith, low, up)
 
   -- ---- a Fetch
@@ -206,20 +210,20 @@ module _ (r : Rules) (o : Opening) (held : ℕ → List Version) (h : History) (
     reads-from : l.from ≡ client q.attempt.client
     reads-from = ap (λ z. z.from) fetching.it ∙ ap (λ x. client x.client) (sym reads.attempt)
 
-    fetch-known : Causes r o stored w → q.snapshot ≡ false → IsFetch r o w.issued w.lines (target_plan r t) q × (l.from ≡ client q.attempt.client)
-    fetch-known C plain = (
+    fetch-known : (dated : Dated) → CountAsDates r w dated → Causes r o stored (record w { issued = dated }) → q.snapshot ≡ false → IsFetch r o dated w.lines (target_plan r t) q × (l.from ≡ client q.attempt.client)
+    fetch-known dated D C plain = (
       record {
         few = few;
         epsilon = refl;
         plain = plain;
-        request = request-known C q.attempt q.ep q.first q.tracker
+        request = request-known dated D C q.attempt q.ep q.first q.tracker
             (λ none. subst (λ m. AsksEpoch m q.attempt q.tracker) (sym (is ∙ ap (λ ep. message.Fetch q.attempt q.op q.group ep q.first q.tracker q.read q.snapshot) none))
             (refl, refl))
             (λ e some. own-epoch r w q.attempt e off
             (epochs.borne l q.attempt e among
             (subst (λ m. GoesWith m q.attempt e) (sym (is ∙ ap (λ ep. message.Fetch q.attempt q.op q.group ep q.first q.tracker q.read q.snapshot) some)) (refl, refl))))
             (subst (MessageTells r w.issued w.lines) is told off)
-            (tracker-known C fetching q.tracker reads.tracker);
+            (tracker-known dated C fetching q.tracker reads.tracker);
         access = accesses;
         target = λ floor cont reason shown. of-client (ap is_request is) q.attempt (ap request_of is);
       },
@@ -246,21 +250,23 @@ module _ (r : Rules) (o : Opening) (held : ℕ → List Version) (h : History) (
               (is ∙ ap (λ y. message.Fetch q.attempt q.op q.group y q.first q.tracker q.read q.snapshot) some
               ∙ ap (message.Fetch q.attempt q.op q.group (Some e) q.first q.tracker q.read) on);
           access = accesses;
+          asks = record { op = reads.o; at = subst (λ os. slice_get os q.op ≡ Some reads.o) (sym reads-ops) (subst (λ n. slice_get reads.ops n ≡ Some reads.o) (sym reads.op) reads.here); stage = fetching.a.stage; asks = reads.asked };
+          present = subst (IsPresent r w) (sym reads.attempt) (record { c = fetching.c; a = fetching.a; here = fetching.here; at = fetching.present; own = refl });
           target = λ floor cont reason shown. of-client (ap is_request is) q.attempt (ap request_of is);
         }
 
   -- ---- a Commit
 
-  commit-known : Causes r o stored w → (q : CommitRequest) → l.message ≡ commit_of q → IsCommit r o w.issued w.lines t (kept s) q × (l.from ≡ client q.attempt.client)
-  commit-known C q is = (
+  commit-known : (dated : Dated) → CountAsDates r w dated → Causes r o stored (record w { issued = dated }) → (q : CommitRequest) → l.message ≡ commit_of q → IsCommit r o dated w.lines t (kept s) q × (l.from ≡ client q.attempt.client)
+  commit-known dated D C q is = (
     record {
       few = few;
-      request = request-known C q.attempt q.ep q.first q.tracker
+      request = request-known dated D C q.attempt q.ep q.first q.tracker
           (λ none. subst (λ m. AsksEpoch m q.attempt q.tracker) (sym (is ∙ ap (λ ep. message.Commit q.attempt ep q.first q.tracker q.writes) none)) (refl, refl))
           (λ e some. contains-from_has w.issued (q.attempt, e)
           (dates.own l q.attempt e q.first q.tracker q.writes i (is ∙ ap (λ ep. message.Commit q.attempt ep q.first q.tracker q.writes) some)))
           (subst (MessageTells r w.issued w.lines) is told (writers-read_now r q.attempt A (subst (λ ws. ws ≢ []) new.writes brings.some)))
-          (tracker-known C handing-over q.tracker its.tracker);
+          (tracker-known dated C handing-over q.tracker its.tracker);
       its = new.writes;
       some = holds;
       unstored = ap (λ y. entry_in y q.attempt) (sym here) ∙ ap (λ u. entry_at w u q.attempt) leads ∙ new.unstored;
@@ -293,11 +299,11 @@ module _ (r : Rules) (o : Opening) (held : ℕ → List Version) (h : History) (
 
   -- ---- a Prepare
 
-  prepare-known : (q : PrepareRequest) → l.message ≡ message.Prepare q.entry q.first q.writes q.inc → IsPrepare r o w.issued w.lines t (kept s) q
-  prepare-known q is = record {
-    issued_to = issued;
+  prepare-known : (dated : Dated) → CountAsDates r w dated → (q : PrepareRequest) → l.message ≡ message.Prepare q.entry q.first q.writes q.inc → IsPrepare r o dated w.lines t (kept s) q
+  prepare-known dated D q is = record {
+    issued_to = D.issued q.entry.attempt q.entry.epoch issued;
     above = epochs.above q.entry.attempt q.entry.epoch issued;
-    first = subst (MessageTells r w.issued w.lines) is told (epochs.own q.entry.attempt q.entry.epoch issued);
+    first = first-counts w.issued dated w.lines q.entry.attempt q.first D.issued (subst (MessageTells r w.issued w.lines) is told (epochs.own q.entry.attempt q.entry.epoch issued));
     its = λ m j. (has-from_filter (members.is_written_at r.script.targets so.way.member) (writes_of r q.entry.attempt) m (subst (Has m) so.writes j)).0;
     need = ap blocks so.writes ∙ ap (λ u. blocks (members.writes_at r.script.targets u (writes_of r q.entry.attempt))) member-is ∙ prepared-blocks r q.entry.attempt t other;
     unstored =
@@ -320,13 +326,13 @@ module _ (r : Rules) (o : Opening) (held : ℕ → List Version) (h : History) (
 -- ---- the laws
 
 pub all-fetches_known : AllFetchesAreKnown
-all-fetches_known r o held h stored w A k C t s here l q i to is plain = fetch-known r o held h stored w A k t s here l i to q is C plain
+all-fetches_known r o held h stored w A k dated D C t s here l q i to is plain = fetch-known r o held h stored w A k t s here l i to q is dated D C plain
 
 pub snapshot-fetches_known : SnapshotFetchesAreKnown
 snapshot-fetches_known r o held h stored w A k t s here l q i to is on = snapshot-known r o held h stored w A k t s here l i to q is on
 
 pub all-commits_known : AllCommitsAreKnown
-all-commits_known r o held h stored w A k C t s here l q i to is = commit-known r o held h stored w A k t s here l i to C q is
+all-commits_known r o held h stored w A k dated D C t s here l q i to is = commit-known r o held h stored w A k t s here l i to dated D C q is
 
 pub all-prepares_known : AllPreparesAreKnown
-all-prepares_known r o held h stored w A k t s here l q i to is = prepare-known r o held h stored w A k t s here l i to q is
+all-prepares_known r o held h stored w A k dated D t s here l q i to is = prepare-known r o held h stored w A k t s here l i to dated D q is
