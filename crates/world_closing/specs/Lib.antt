@@ -1,0 +1,4 @@
+-- What a run comes to where it has ended, in any run.
+pub mod Causes
+pub mod Dates
+pub mod Issued
