@@ -23,7 +23,8 @@ use Rattle.daos_model.specs.Versions.{done_by, is_not_pending}
 use Rattle.daos_model.specs.BoolLaws.{and_left, and_right, both}
 use Rattle.vos_plain.specs.Costs.{taken_blocks, version_blocks, versions_blocks}
 use Rattle.vos_plain.specs.Steps.{with_entry}
-use Rattle.vos_plain.specs.Sweeps.{unmarked}
+use Rattle.dtx_entries.specs.Settling.{entries_settled}
+use Rattle.vos_rows.specs.Sweeps.{unmarked}
 use Rattle.base_types.specs.declared.operation.Write.{Write}
 use Rattle.base_types.specs.declared.operation.Write.TheVariants.{Single, Extent, PunchObject, PunchDkey, PunchAkey}
 use Rattle.daos_model.specs.Blocks.{write_blocks}
@@ -74,6 +75,23 @@ blocks-done a [] = refl
 blocks-done a (u ∷ us) = omega (arith, same_blocks a u, blocks-done a us)
 
 -- ---- changes
+
+-- what a step makes of the entries in a table
+pub entries-committed : (a : AttemptId) (es fs : List Entry) → fs ≡ entries_settled a Commit es → fs ≡ map (committed_at a) es
+unfolding entries_settled
+entries-committed a es fs e = e
+
+pub entries-aborted : (a : AttemptId) (es fs : List Entry) → fs ≡ entries_settled a Abort es → fs ≡ filter (is_other a) es
+unfolding entries_settled
+entries-aborted a es fs e = e
+
+pub entries-confirmed : (a : AttemptId) (t : ℕ) (es fs : List Entry) → fs ≡ entries_settled a (Confirm t) es → fs ≡ map (confirmed_at a t) es
+unfolding entries_settled
+entries-confirmed a t es fs e = e
+
+pub entries-forgotten : (a : AttemptId) (es fs : List Entry) → fs ≡ entries_settled a Forget es → fs ≡ filter (is_other a) es
+unfolding entries_settled
+entries-forgotten a es fs e = e
 
 pub committed_is : (a : AttemptId) (d : Durable) (vs : List Version) (es : List Entry) → vs ≡ map (done_by a) d.versions → es ≡ map (committed_at a) d.entries → (record d { versions = vs; entries = es }) ≡ settled a Commit d
 unfolding settled
@@ -170,6 +188,13 @@ all_left p t vs ws e h = ap (list_all p) e ∙ left vs h
           | true ↦ both (p u) (list_all p (filter t us)) (and_left (p u) (list_all p us) k) (left us (and_right (p u) (list_all p us) k))
           | false ↦ left us (and_right (p u) (list_all p us) k)
         ]
+
+pub length-puts : (vs us : List Version) → length (puts version_key vs us) ≡ length vs + length us
+length-puts [] us = omega arith
+length-puts (v ∷ vs) us = omega (arith, length-put version_key v (puts version_key vs us), length-puts vs us)
+
+pub fewer_versions : (vs ws : List Version) (t : Version → Bool) → ws ≡ filter t vs → length ws ≤ length vs
+fewer_versions vs ws t e = subst (λ x. length x ≤ length vs) (sym e) (length-filter t vs)
 
 pub fewer_entries : (es fs : List Entry) (t : Entry → Bool) → fs ≡ filter t es → length fs ≤ length es
 fewer_entries es fs t e = subst (λ x. length x ≤ length es) (sym e) (length-filter t es)

@@ -1,6 +1,4 @@
-pub mod Places
 pub mod Kept
-pub mod Sweeping
 pub mod Prepared
 pub mod Turning
 pub mod Newest

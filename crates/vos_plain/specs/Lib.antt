@@ -1,4 +1,3 @@
-pub mod Sweeps
 pub mod Costs
 pub mod Contents
 pub mod Steps

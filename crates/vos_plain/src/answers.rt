@@ -10,7 +10,7 @@ ghost use Rattle.vos_store.specs.Answers.{shown_or_none};
 use crate::contents::Contents;
 use crate::objects::objects_of;
 use crate::reads::answer_below;
-use crate::rows::{first_between, first_blocking, first_open_in};
+use crate::rows::first_open_in;
 use crate::tables::{conts_of, copied, has_snap, new_row, row_of};
 use base_types::answer::Answer;
 use base_types::entry::Entries;
@@ -117,7 +117,7 @@ impl Contents {
         ensures answer { result ≡ discards cont lo hi (contents_of self.now) }
         ensures runs { says discard_stop result ≡ false }
     {
-        match first_open_in(&self.rows, cont, lo, hi) {
+        match first_open_in(self.rows.rows(), cont, lo, hi) {
             Some(version) => Err(DiscardNo::Unsettled(version.by)),
             None => Ok(()),
         }
@@ -128,7 +128,7 @@ impl Contents {
     pub fn open_below(&self, cont: ContId, upto: Epoch) -> Option<Epoch>
         ensures { result ≡ open_below cont upto (contents_of self.now) }
     {
-        first_open_in(&self.rows, cont, Epoch(0), upto).map(|version| version.epoch)
+        first_open_in(self.rows.rows(), cont, Epoch(0), upto).map(|version| version.epoch)
     }
 
     /// The answer of a read below an epoch.
@@ -142,10 +142,10 @@ impl Contents {
             let row = self.row(path.cont);
             return Err(FetchNo::Aggregated(row.aggregated, row.number));
         }
-        if let Some(version) = first_blocking(&self.rows, path, below) {
+        if let Some(version) = self.rows.first_blocking(path, below) {
             return Err(FetchNo::Unsettled(version.by));
         }
-        answered(self.alloc, &self.rows, read, below)
+        answered(self.alloc, self.rows.rows(), read, below)
     }
 
     /// The write on a path, above one epoch and up to another, that is shown.
@@ -158,21 +158,21 @@ impl Contents {
     ) -> Result<Option<Shown>, Memory>
         ensures { IfOk result (λ shown. shown ≡ later_write path.now above upto (contents_of self.now)) }
     {
-        shown(first_between(&self.rows, path, above, upto))
+        shown(self.rows.first_between(path, above, upto))
     }
 
     /// The entries.
     pub fn entries(&self) -> Result<Entries, Memory>
         ensures { IfOk result (λ entries. entries ≡ (contents_of self.now).entries) }
     {
-        Ok(Items::from_vec(copied(self.alloc, &self.entries)?))
+        Ok(Items::from_vec(copied(self.alloc, self.entries.rows())?))
     }
 
     /// The objects of a container that have a version.
     pub fn objects(&self, cont: ContId) -> Result<ObjIds, Memory>
         ensures { IfOk result (λ objects. objects ≡ objects_in cont (contents_of self.now)) }
     {
-        Ok(Items::from_vec(objects_of(self.alloc, &self.rows, cont)?))
+        Ok(Items::from_vec(objects_of(self.alloc, self.rows.rows(), cont)?))
     }
 
     /// The containers that are enlisted.

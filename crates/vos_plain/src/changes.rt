@@ -1,9 +1,9 @@
 // The changes of what a store over lists keeps.
 use crate::contents::Contents;
-use crate::keyed::{put_in, put_late};
-use crate::rows::{blocks_more, blocks_taken, put_all, settle_all, versions_in_form};
-use crate::sweeps::{mark_going, remove_entry, remove_pending, remove_range, remove_snap, sweep};
-use crate::tables::{commit, confirm, create, has_snap, mark, raise, with_conts};
+use crate::keyed::put_in;
+use crate::rows::{blocks_more, blocks_taken, versions_in_form};
+use crate::sweeps::{mark_going, remove_snap};
+use crate::tables::{create, has_snap, mark, raise, with_conts};
 use base_types::entry::{Entry, Settle};
 use base_types::epoch::{Epoch, TargetId};
 use base_types::id::{AttemptId, ContId};
@@ -11,13 +11,14 @@ use base_types::items::Memory;
 use base_types::operation::MinorWrite;
 use base_types::outcome::FloorWhy;
 use base_types::snapshot::Snap;
-use daos_model::durable::Version;
 use daos_model::prunes::Plan;
+use dtx_entries::table::EntryTable;
 use std::alloc::Global;
+use vos_rows::table::VersionTable;
 use vos_store::refusal::EnlistNo;
 
 impl Contents {
-    ghost use Rattle.std.specs.Prelude.{◌≡◌, ◌+◌, ◌*◌, ◌^◌, ◌<◌, ◌≤◌, true, false, None, IfErr, IfOk, IsErr, OnOk, length, vec_len, vec_capacity};
+    ghost use Rattle.std.specs.Prelude.{◌≡◌, ◌+◌, ◌*◌, ◌^◌, ◌<◌, ◌≤◌, true, false, None, IfErr, IfOk, IsErr, OnOk, length, vec_capacity};
     ghost use Rattle.std.specs.List.{list_all};
     ghost use Rattle.base_types.specs.declared.entry.Settle.{Settle};
     ghost use Rattle.daos_model.specs.Changes.{created, discarded, enlisted, frozen, leased, pruned, reopened, settled, thawed};
@@ -40,9 +41,9 @@ impl Contents {
     {
         Ok(Contents {
             alloc,
-            rows: Vec::new(alloc),
+            rows: VersionTable::new(alloc),
             marks: Vec::new(alloc),
-            entries: Vec::new(alloc),
+            entries: EntryTable::new(alloc),
             conts: Vec::new(alloc),
             snaps: Vec::with_capacity(alloc, 256)?,
             lease: 0,
@@ -80,42 +81,40 @@ impl Contents {
         Ok(())
     }
 
-    /// Takes the memory for an entry and its writes, and gives what they are kept as.
-    pub fn ready(&mut self, entry: &Entry, writes: &[MinorWrite]) -> Result<Vec<Version>, Memory>
+    /// Takes the memory for an entry and its writes, which are to come.
+    pub fn ready(&mut self, entry: &Entry, writes: &[MinorWrite]) -> Result<(), Memory>
         requires { AreWritesInForm writes.now }
         ensures same { contents_of self.new ≡ contents_of self.old }
         ensures free { free_of self.new ≡ free_of self.old }
-        ensures versions { IfOk result (λ rows. rows.items ≡ versions_of entry.now writes.now) }
-        ensures form { IfOk result (λ rows. list_all is_version_in_form rows.items ≡ true) }
-        ensures blocks { IfOk result (λ rows. versions_blocks rows.items + 2 ≡ blocks writes.now) }
-        ensures rows { IfOk result (λ rows. vec_len self.new.rows + vec_len rows ≤ vec_capacity self.new.rows) }
-        ensures marks { IfOk result (λ rows. vec_len self.new.rows + vec_len rows ≤ vec_capacity self.new.marks) }
-        ensures entries { OnOk result (vec_len self.new.entries < vec_capacity self.new.entries) }
+        ensures versions { OnOk result (self.new.rows.coming ≡ versions_of entry.now writes.now) }
+        ensures form { OnOk result (list_all is_version_in_form self.new.rows.coming ≡ true) }
+        ensures blocks { OnOk result (versions_blocks self.new.rows.coming + 2 ≡ blocks writes.now) }
+        ensures marks { OnOk result (length self.new.rows.items + length self.new.rows.coming ≤ vec_capacity self.new.marks) }
+        ensures entries { OnOk result (self.new.entries.room ≡ true) }
         ensures lease { self.new.lease ≡ self.old.lease }
     {
         let rows = versions_in_form(self.alloc, entry, writes)?;
-        self.rows.reserve(rows.len())?;
         self.marks.clear();
-        self.marks.reserve(self.rows.len() + rows.len())?;
-        self.entries.reserve(1)?;
-        Ok(rows)
+        self.marks.reserve(self.rows.rows().len() + rows.len())?;
+        self.rows.expect(rows)?;
+        self.entries.reserve()?;
+        Ok(())
     }
 
-    /// Adds an entry and its versions.
-    pub fn prepare(&mut self, entry: Entry, rows: Vec<Version>)
+    /// Adds an entry and its versions, which are those to come.
+    pub fn prepare(&mut self, entry: Entry)
         requires absent { entry_of (contents_of self.old) entry.attempt ≡ None }
-        requires form { list_all is_version_in_form rows.items ≡ true }
-        requires rows { vec_len self.old.rows + vec_len rows ≤ vec_capacity self.old.rows }
-        requires marks { vec_len self.old.rows + vec_len rows ≤ vec_capacity self.old.marks }
-        requires entries { vec_len self.old.entries < vec_capacity self.old.entries }
-        requires free { versions_blocks rows.items + 2 ≤ free_of self.old }
-        ensures kept { contents_of self.new ≡ with_entry rows.items entry (contents_of self.old) }
-        ensures free { free_of self.new + versions_blocks rows.items + 2 ≡ free_of self.old }
+        requires form { list_all is_version_in_form self.old.rows.coming ≡ true }
+        requires marks { length self.old.rows.items + length self.old.rows.coming ≤ vec_capacity self.old.marks }
+        requires entries { self.old.entries.room ≡ true }
+        requires free { versions_blocks self.old.rows.coming + 2 ≤ free_of self.old }
+        ensures kept { contents_of self.new ≡ with_entry self.old.rows.coming entry (contents_of self.old) }
+        ensures free { free_of self.new + versions_blocks self.old.rows.coming + 2 ≡ free_of self.old }
         ensures lease { self.new.lease ≡ self.old.lease }
     {
-        self.taken += blocks_more(&rows, self.capacity);
-        put_all(&mut self.rows, rows);
-        put_late(&mut self.entries, entry);
+        self.taken += blocks_more(self.rows.coming(), self.capacity);
+        self.rows.put_coming();
+        self.entries.put(entry);
     }
 
     // Makes an attempt's versions done and its entry committed.
@@ -124,8 +123,8 @@ impl Contents {
         ensures free { free_of self.new ≡ free_of self.old }
         ensures lease { self.new.lease ≡ self.old.lease }
     {
-        settle_all(&mut self.rows, attempt);
-        commit(&mut self.entries, attempt);
+        self.rows.settle(attempt);
+        self.entries.settle(attempt, Settle::Commit);
     }
 
     // Removes an attempt's unsettled versions and its entry.
@@ -134,9 +133,9 @@ impl Contents {
         ensures free { free_of self.old ≤ free_of self.new }
         ensures lease { self.new.lease ≡ self.old.lease }
     {
-        remove_pending(&mut self.rows, attempt);
-        remove_entry(&mut self.entries, attempt);
-        self.taken = blocks_taken(&self.rows, &self.entries, self.capacity);
+        self.rows.remove_pending(attempt);
+        self.entries.settle(attempt, Settle::Abort);
+        self.taken = blocks_taken(self.rows.rows(), self.entries.rows(), self.capacity);
     }
 
     // Adds a confirmed member.
@@ -146,7 +145,7 @@ impl Contents {
         ensures free { free_of self.new ≡ free_of self.old }
         ensures lease { self.new.lease ≡ self.old.lease }
     {
-        confirm(&mut self.entries, attempt, member);
+        self.entries.settle(attempt, Settle::Confirm(member));
     }
 
     // Removes an attempt's entry.
@@ -155,8 +154,8 @@ impl Contents {
         ensures free { free_of self.old ≤ free_of self.new }
         ensures lease { self.new.lease ≡ self.old.lease }
     {
-        remove_entry(&mut self.entries, attempt);
-        self.taken = blocks_taken(&self.rows, &self.entries, self.capacity);
+        self.entries.settle(attempt, Settle::Forget);
+        self.taken = blocks_taken(self.rows.rows(), self.entries.rows(), self.capacity);
     }
 
     /// A step of an attempt.
@@ -231,14 +230,14 @@ impl Contents {
     {
         mark(&mut self.conts, cont, upto, number);
         let plan = Plan {
-            versions: &self.rows,
+            versions: self.rows.rows(),
             snaps: &self.snaps,
             cont,
             upto,
         };
         mark_going(&mut self.marks, &plan);
-        sweep(&mut self.rows, &self.marks);
-        self.taken = blocks_taken(&self.rows, &self.entries, self.capacity);
+        self.rows.sweep(&self.marks);
+        self.taken = blocks_taken(self.rows.rows(), self.entries.rows(), self.capacity);
     }
 
     /// Removes the versions of a container in a range.
@@ -247,8 +246,8 @@ impl Contents {
         ensures free { free_of self.old ≤ free_of self.new }
         ensures lease { self.new.lease ≡ self.old.lease }
     {
-        remove_range(&mut self.rows, cont, lo, hi);
-        self.taken = blocks_taken(&self.rows, &self.entries, self.capacity);
+        self.rows.remove_range(cont, lo, hi);
+        self.taken = blocks_taken(self.rows.rows(), self.entries.rows(), self.capacity);
     }
 
     /// Opens them again.

@@ -1,12 +1,13 @@
 // What a store over lists keeps, and each change of it, without stops.
-ghost use Rattle.std.specs.Prelude.{◌≡◌, ◌+◌, ◌<◌, ◌≤◌, vec_len, vec_capacity};
+ghost use Rattle.std.specs.Prelude.{◌≡◌, ◌+◌, ◌<◌, ◌≤◌, length, vec_capacity};
 ghost use Rattle.daos_model.specs.Durables.{IsInForm};
 ghost use Rattle.vos_plain.specs.Costs.{taken_blocks};
 
-use base_types::entry::Entry;
 use base_types::snapshot::Snap;
-use daos_model::durable::{ContRow, Version};
+use daos_model::durable::ContRow;
+use dtx_entries::table::EntryTable;
 use std::alloc::Global;
+use vos_rows::table::VersionTable;
 
 /// What a store over lists keeps: its parts in order, marks for the versions that a prune removes,
 /// with room for all of them, and places for 256 snapshots. Its capacity is in blocks, and the blocks
@@ -14,9 +15,9 @@ use std::alloc::Global;
 #[derive(Drop)]
 pub struct Contents {
     pub alloc: Global,
-    pub rows: Vec<Version>,
+    pub rows: VersionTable,
     pub marks: Vec<bool>,
-    pub entries: Vec<Entry>,
+    pub entries: EntryTable,
     pub conts: Vec<ContRow>,
     pub snaps: Vec<Snap>,
     pub lease: u64,
@@ -24,7 +25,7 @@ pub struct Contents {
     pub capacity: u32,
     pub taken: u32,
     ghost formed: { IsInForm (record { versions = rows.items; entries = entries.items; conts = conts.items; snaps = snaps.items; lease = lease; incarnation = incarnation }) },
-    ghost marked: { vec_len rows ≤ vec_capacity marks },
+    ghost marked: { length rows.items ≤ vec_capacity marks },
     ghost places: { 256 ≤ vec_capacity snaps },
     ghost counted: { taken ≡ taken_blocks rows.items entries.items },
     ghost room: { taken_blocks rows.items entries.items ≤ capacity },

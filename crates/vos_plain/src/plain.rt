@@ -63,17 +63,17 @@ impl Store for PlainStore {
         if free < need {
             return Err(PrepareNo::NoSpace { need, free });
         }
-        let Ok(rows) = self.contents.ready(entry, writes) else {
+        let Ok(()) = self.contents.ready(entry, writes) else {
             return Err(PrepareNo::Memory);
         };
         match self.stops.next_change() {
             Injected::Made => {
-                self.contents.prepare(*entry, rows);
+                self.contents.prepare(*entry);
                 Ok(())
             }
             Injected::StopBefore => Err(PrepareNo::Stopped),
             Injected::StopAfter => {
-                self.contents.prepare(*entry, rows);
+                self.contents.prepare(*entry);
                 Err(PrepareNo::Stopped)
             }
         }

@@ -1,17 +1,14 @@
 // Versions in a row: what they are kept as, found and read.
-ghost use Rattle.std.specs.Prelude.{◌≡◌, ◌+◌, ◌*◌, ◌≤◌, true, find, length, map, IfOk, vec_len, vec_capacity};
+ghost use Rattle.std.specs.Prelude.{◌≡◌, ◌+◌, ◌*◌, ◌≤◌, true, find, length, map, IfOk, vec_len};
 ghost use Rattle.std.specs.List.{list_all};
 ghost use Rattle.std.specs.Option.{option_copied};
 ghost use Rattle.daos_model.specs.Blocks.{blocks};
-ghost use Rattle.daos_model.specs.Changes.{is_in_range};
-ghost use Rattle.daos_model.specs.Durables.{is_version_in_form, version_key};
+ghost use Rattle.daos_model.specs.Durables.{is_version_in_form};
 ghost use Rattle.daos_model.specs.Forms.{AreWritesInForm};
-ghost use Rattle.daos_model.specs.Ordered.{is_in_order, puts};
-ghost use Rattle.daos_model.specs.Versions.{blocks_read, done_by, first_between, first_blocking, is_between, is_pending, version_of, versions_of};
+ghost use Rattle.daos_model.specs.Versions.{done_by, first_blocking, version_of, versions_of};
 ghost use Rattle.vos_store.specs.Answers.{is_open_in};
 ghost use Rattle.vos_plain.specs.Costs.{taken_blocks, version_blocks, versions_blocks};
 
-use crate::keyed::put_late;
 use base_types::entry::Entry;
 use base_types::epoch::Epoch;
 use base_types::id::{AttemptId, ContId};
@@ -21,6 +18,7 @@ use base_types::path::Path;
 use daos_model::accounts::write_blocks;
 use daos_model::durable::{Version, is_same_attempt};
 use std::alloc::Global;
+use vos_rows::rows::{blocks_read, is_in_range};
 
 // What a write of an entry is kept as.
 fn version_of(entry: &Entry, write: &MinorWrite) -> Result<Version, Memory>
@@ -60,48 +58,6 @@ pub fn versions_in_form(
     versions_of(alloc, entry, writes)
 }
 
-/// Puts versions among rows in order, for which there is room.
-pub fn put_all(rows: &mut Vec<Version>, mut new: Vec<Version>)
-    requires order { is_in_order version_key rows.old.items ≡ true }
-    requires room { vec_len rows.old + vec_len new ≤ vec_capacity rows.old }
-    ensures items { rows.new.items ≡ puts version_key new.items rows.old.items }
-    ensures len { vec_len rows.new ≡ vec_len rows.old + vec_len new }
-{
-    while let Some(row) = new.pop() {
-        put_late(rows, row);
-    }
-}
-
-/// Whether a version is of an attempt, and not settled.
-#[tactic(auto, unfolding(daos_model::specs::Versions::is_pending))]
-pub fn is_pending(row: &Version, attempt: AttemptId) -> bool
-    ensures { result ≡ is_pending attempt row.now }
-{
-    is_same_attempt(row.by, attempt) && !row.done
-}
-
-/// Whether a version is of a container, and its epoch is from `lo` to `hi`.
-#[tactic(auto, unfolding(daos_model::specs::Changes::is_in_range))]
-pub fn is_in_range(row: &Version, cont: ContId, lo: Epoch, hi: Epoch) -> bool
-    ensures { result ≡ is_in_range cont lo hi row.now }
-{
-    row.write.path().cont.0 == cont.0 && lo.0 <= row.epoch.0 && row.epoch.0 <= hi.0
-}
-
-#[tactic(auto, unfolding(daos_model::specs::Versions::blocks_read))]
-fn blocks_read(row: &Version, path: &Path, below: Epoch) -> bool
-    ensures { result ≡ blocks_read path.now below.0 row.now }
-{
-    !row.done && row.epoch.0 < below.0 && path.overlaps(row.write.path())
-}
-
-#[tactic(auto, unfolding(daos_model::specs::Versions::is_between))]
-fn is_between(row: &Version, path: &Path, above: Epoch, upto: Epoch) -> bool
-    ensures { result ≡ is_between path.now above.0 upto.0 row.now }
-{
-    above.0 < row.epoch.0 && row.epoch.0 <= upto.0 && path.overlaps(row.write.path())
-}
-
 #[tactic(auto, unfolding(vos_store::specs::Answers::is_open_in))]
 fn is_open_in(row: &Version, cont: ContId, lo: Epoch, hi: Epoch) -> bool
     ensures { result ≡ is_open_in cont lo hi row.now }
@@ -115,19 +71,6 @@ pub fn first_blocking<'a>(rows: &'a [Version], path: &Path, below: Epoch) -> Opt
     ensures { option_copied result ≡ first_blocking path.now below.0 rows.now }
 {
     rows.iter().find(|row| blocks_read(row, path, below))
-}
-
-/// The first version on a path, above one epoch and up to another.
-#[tactic(auto, unfolding(daos_model::specs::Versions::first_between))]
-pub fn first_between<'a>(
-    rows: &'a [Version],
-    path: &Path,
-    above: Epoch,
-    upto: Epoch,
-) -> Option<&'a Version>
-    ensures { option_copied result ≡ first_between path.now above.0 upto.0 rows.now }
-{
-    rows.iter().find(|row| is_between(row, path, above, upto))
 }
 
 /// The first version of a container in a range of epochs that isn't settled.

@@ -1,48 +1,15 @@
 // Rows that go, in place.
-ghost use Rattle.std.specs.Prelude.{◌≡◌, ◌+◌, ◌≤◌, ◌<◌, ◌∷◌, ◌++◌, Bool, List, drop, filter, length, map, take, vec_len, vec_capacity};
-ghost use Rattle.daos_model.specs.Changes.{is_other, is_other_snap, is_out_of_range};
+ghost use Rattle.std.specs.Prelude.{◌≡◌, ◌≤◌, filter, length, map, vec_capacity};
+ghost use Rattle.daos_model.specs.Changes.{is_other, is_other_snap};
 ghost use Rattle.daos_model.specs.Prunes.{is_going};
-ghost use Rattle.daos_model.specs.Versions.{is_not_pending};
-ghost use Rattle.vos_plain.specs.Sweeps.{unmarked};
 
-use crate::rows::{is_in_range, is_pending};
 use crate::tables::{is_entry_of, is_snap_at};
 use base_types::entry::Entry;
 use base_types::epoch::Epoch;
 use base_types::id::{AttemptId, ContId};
 use base_types::snapshot::Snap;
-use daos_model::durable::Version;
 use daos_model::prunes::Plan;
-
-/// Removes the versions of an attempt that aren't settled.
-pub fn remove_pending(rows: &mut Vec<Version>, attempt: AttemptId)
-    ensures items { rows.new.items ≡ filter (is_not_pending attempt) rows.old.items }
-    ensures len { vec_len rows.new ≤ vec_len rows.old }
-{
-    let mut kept = 0;
-    for i in 0..rows.len() {
-        if !is_pending(&rows[i], attempt) {
-            rows.swap(kept, i);
-            kept += 1;
-        }
-    }
-    rows.truncate(kept);
-}
-
-/// Removes the versions of a container in a range of epochs.
-pub fn remove_range(rows: &mut Vec<Version>, cont: ContId, lo: Epoch, hi: Epoch)
-    ensures items { rows.new.items ≡ filter (is_out_of_range cont lo hi) rows.old.items }
-    ensures len { vec_len rows.new ≤ vec_len rows.old }
-{
-    let mut kept = 0;
-    for i in 0..rows.len() {
-        if !is_in_range(&rows[i], cont, lo, hi) {
-            rows.swap(kept, i);
-            kept += 1;
-        }
-    }
-    rows.truncate(kept);
-}
+pub use vos_rows::sweeps::remove_pending;
 
 /// Removes the entry of an attempt.
 pub fn remove_entry(rows: &mut Vec<Entry>, attempt: AttemptId)
@@ -82,42 +49,5 @@ pub fn mark_going(marks: &mut Vec<bool>, plan: &Plan)
     marks.clear();
     for version in plan.versions {
         marks.push(plan.removes(version)).unwrap();
-    }
-}
-
-// Goes on to the next mark: the row at a place goes, or stays and the next place is due.
-fn sweep_one(rows: &mut Vec<Version>, kept: usize, mark: bool) -> usize
-    requires { kept < vec_len rows.old }
-    ensures items { (ms : List Bool) → take result rows.new.items ++ unmarked ms (drop result rows.new.items) ≡ take kept rows.old.items ++ unmarked (mark ∷ ms) (drop kept rows.old.items) }
-    ensures len { vec_len rows.new + kept + 1 ≡ vec_len rows.old + result }
-    ensures fewer { vec_len rows.new ≤ vec_len rows.old }
-{
-    if !mark {
-        return kept + 1;
-    }
-    let _gone = rows.remove(kept);
-    kept
-}
-
-// Goes on from one mark to the next.
-fn sweep_at(rows: &mut Vec<Version>, kept: usize, marks: &[bool], i: usize) -> usize
-    requires kept { kept < vec_len rows.old }
-    requires marks { i < length marks.now }
-    ensures items { take result rows.new.items ++ unmarked (drop (i + 1) marks.now) (drop result rows.new.items) ≡ take kept rows.old.items ++ unmarked (drop i marks.now) (drop kept rows.old.items) }
-    ensures len { vec_len rows.new + kept + 1 ≡ vec_len rows.old + result }
-    ensures fewer { vec_len rows.new ≤ vec_len rows.old }
-{
-    sweep_one(rows, kept, marks[i])
-}
-
-/// Removes the versions that are marked; each has a mark.
-pub fn sweep(rows: &mut Vec<Version>, marks: &[bool])
-    requires { length marks.now ≡ vec_len rows.old }
-    ensures items { rows.new.items ≡ unmarked marks.now rows.old.items }
-    ensures len { vec_len rows.new ≤ vec_len rows.old }
-{
-    let mut kept = 0;
-    for i in 0..marks.len() {
-        kept = sweep_at(rows, kept, marks, i);
     }
 }

@@ -1,31 +1,32 @@
-use Rattle.std.proofs.Common.{◌≡◌, ◌+◌, ap, sym, subst, arith}
-use Rattle.daos_model.specs.Durables.{IsInForm, entry_key}
+use Rattle.std.proofs.Common.{◌≡◌, ◌+◌, ◌∙◌, ap, length, sym, subst, arith}
+use Rattle.daos_model.specs.Durables.{IsInForm}
 use Rattle.vos_plain.specs.Contents.{contents_of}
 use Rattle.vos_plain.specs.Costs.{taken_blocks, versions_blocks}
-use Rattle.vos_plain.proofs.Kept.{entry_added, more_taken, with_entry-in_form}
-use Rattle.vos_plain.proofs.Places.{in_order-rising}
+use Rattle.vos_plain.proofs.Kept.{entry_added, length-puts, more_taken, with_entry-in_form}
 use Rattle.vos_plain.proofs.contents.Contents.prepare.Goals as goal
-
-pub put_late-requires-clause-order : goal.put_late-requires-clause-order
-put_late-requires-clause-order c = in_order-rising entry_key c.args.self.now.entries.items c.args.self.now.formed.entries
 
 pub invariant_of-self-clause-formed : goal.invariant_of-self-clause-formed
 invariant_of-self-clause-formed c =
-    subst IsInForm (sym (entry_added (contents_of c.args.self.now) c.args.rows.items c.args.entry c.put_all.new.rows.items c.put_late.new.rows.items c.put_all.ensures.items c.put_late.ensures.items))
-    (with_entry-in_form c.args.rows.items c.args.entry (contents_of c.args.self.now) c.requires.absent c.requires.form c.args.self.now.formed)
+    subst IsInForm (sym (entry_added (contents_of c.args.self.now) c.args.self.now.rows.coming c.args.entry c.put_coming.new.self.items c.put.new.self.items c.put_coming.ensures.items c.put.ensures))
+    (with_entry-in_form c.args.self.now.rows.coming c.args.entry (contents_of c.args.self.now) c.requires.absent c.requires.form c.args.self.now.formed)
 
 pub invariant_of-self-clause-room : goal.invariant_of-self-clause-room
 invariant_of-self-clause-room c =
-    let more : taken_blocks c.put_all.new.rows.items c.put_late.new.rows.items ≡ taken_blocks c.args.self.now.rows.items c.args.self.now.entries.items + versions_blocks c.args.rows.items + 2 = more_taken c.args.rows.items c.args.self.now.rows.items c.put_all.new.rows.items c.args.entry c.args.self.now.entries.items c.put_late.new.rows.items c.put_all.ensures.items c.put_late.ensures.items in
+    let more : taken_blocks c.put_coming.new.self.items c.put.new.self.items ≡ taken_blocks c.args.self.now.rows.items c.args.self.now.entries.items + versions_blocks c.args.self.now.rows.coming + 2 = more_taken c.args.self.now.rows.coming c.args.self.now.rows.items c.put_coming.new.self.items c.args.entry c.args.self.now.entries.items c.put.new.self.items c.put_coming.ensures.items c.put.ensures in
     omega (arith, c.args.self.now.room, c.requires.free, more)
 
 pub returns-clause-free : goal.returns-clause-free
 returns-clause-free c =
-    let more : taken_blocks c.put_all.new.rows.items c.put_late.new.rows.items ≡ taken_blocks c.args.self.now.rows.items c.args.self.now.entries.items + versions_blocks c.args.rows.items + 2 = more_taken c.args.rows.items c.args.self.now.rows.items c.put_all.new.rows.items c.args.entry c.args.self.now.entries.items c.put_late.new.rows.items c.put_all.ensures.items c.put_late.ensures.items in
+    let more : taken_blocks c.put_coming.new.self.items c.put.new.self.items ≡ taken_blocks c.args.self.now.rows.items c.args.self.now.entries.items + versions_blocks c.args.self.now.rows.coming + 2 = more_taken c.args.self.now.rows.coming c.args.self.now.rows.items c.put_coming.new.self.items c.args.entry c.args.self.now.entries.items c.put.new.self.items c.put_coming.ensures.items c.put.ensures in
     omega (arith, c.args.self.now.room, c.requires.free, more)
 
 pub invariant_of-self-clause-counted : goal.invariant_of-self-clause-counted
 invariant_of-self-clause-counted c =
-    let more : taken_blocks c.put_all.new.rows.items c.put_late.new.rows.items ≡ taken_blocks c.args.self.now.rows.items c.args.self.now.entries.items + versions_blocks c.args.rows.items + 2 = more_taken c.args.rows.items c.args.self.now.rows.items c.put_all.new.rows.items c.args.entry c.args.self.now.entries.items c.put_late.new.rows.items c.put_all.ensures.items c.put_late.ensures.items in
-    let read : versions_blocks c.deref.result.now ≡ versions_blocks c.args.rows.items = ap versions_blocks c.deref.ensures.value in
+    let more : taken_blocks c.put_coming.new.self.items c.put.new.self.items ≡ taken_blocks c.args.self.now.rows.items c.args.self.now.entries.items + versions_blocks c.args.self.now.rows.coming + 2 = more_taken c.args.self.now.rows.coming c.args.self.now.rows.items c.put_coming.new.self.items c.args.entry c.args.self.now.entries.items c.put.new.self.items c.put_coming.ensures.items c.put.ensures in
+    let read : versions_blocks c.coming.result.now ≡ versions_blocks c.args.self.now.rows.coming = ap versions_blocks c.coming.ensures in
     omega (arith, c.args.self.now.counted, c.blocks_more.ensures, more, read)
+
+pub invariant_of-self-clause-marked : goal.invariant_of-self-clause-marked
+invariant_of-self-clause-marked c =
+    let more : length c.put_coming.new.self.items ≡ length c.args.self.now.rows.coming + length c.args.self.now.rows.items = ap (λ z. length z) c.put_coming.ensures.items ∙ length-puts c.args.self.now.rows.coming c.args.self.now.rows.items in
+    omega (arith, c.requires.marks, more)

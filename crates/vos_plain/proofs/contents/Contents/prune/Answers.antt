@@ -1,4 +1,4 @@
-use Rattle.std.proofs.Common.{◌≡◌, ◌≤◌, ◌+◌, ap, sym, ◌∙◌, subst, filter, length, vec_len, arith, rules}
+use Rattle.std.proofs.Common.{◌≡◌, ◌≤◌, ◌+◌, ap, sym, ◌∙◌, subst, filter, length, arith}
 use Rattle.std.specs.List.{list_all}
 use Rattle.daos_model.specs.Durables.{IsInForm, is_version_in_form}
 use Rattle.daos_model.specs.FormLaws.{length-map, pruned-in_form}
@@ -6,53 +6,57 @@ use Rattle.daos_model.specs.Prunes.{is_going, is_staying}
 use Rattle.vos_store.specs.Calls.{going_count}
 use Rattle.vos_plain.specs.Contents.{contents_of}
 use Rattle.vos_plain.specs.Costs.{versions_blocks}
-use Rattle.vos_plain.proofs.Kept.{all_left, freed, pruned_is, swept_by}
+use Rattle.vos_plain.proofs.Kept.{all_left, fewer_versions, freed, pruned_is, swept_by}
 use Rattle.vos_plain.proofs.contents.Contents.prune.Goals as goal
 
 pub sweep-requires : goal.sweep-requires
-sweep-requires c =
-    let len : length c.args.self.now.rows.items ≡ vec_len c.args.self.now.rows = search rules in
-    ap (λ z. length z) (c.deref-3.ensures.value ∙ c.mark_going.ensures.items) ∙ length-map (is_going c.args.cont c.args.upto c.deref.result.now c.deref-2.result.now) c.deref.result.now ∙ ap (λ z. length z) c.deref.ensures.value ∙ len
+sweep-requires c = ap (λ z. length z) (c.deref-2.ensures.value ∙ c.mark_going.ensures.items) ∙ length-map (is_going c.args.cont c.args.upto c.rows.result.now c.deref.result.now) c.rows.result.now ∙ ap (λ z. length z) c.rows.ensures
 
 pub invariant_of-self-clause-formed : goal.invariant_of-self-clause-formed
 invariant_of-self-clause-formed c =
-    let rows : c.sweep.new.rows.items ≡ filter (is_staying c.args.cont c.args.upto (contents_of c.args.self.now)) c.args.self.now.rows.items = swept_by c.args.cont c.args.upto (contents_of c.args.self.now) c.deref.result.now c.deref-2.result.now c.mark_going.new.marks.items c.deref-3.result.now c.sweep.new.rows.items c.mark_going.ensures.items c.deref.ensures.value c.deref-2.ensures.value c.deref-3.ensures.value c.sweep.ensures.items in
-    subst IsInForm (sym (pruned_is c.args.cont c.args.upto c.args.number (contents_of c.args.self.now) c.mark.new.rows.items c.sweep.new.rows.items c.mark.ensures rows))
+    let rows : c.sweep.new.self.items ≡ filter (is_staying c.args.cont c.args.upto (contents_of c.args.self.now)) c.args.self.now.rows.items = swept_by c.args.cont c.args.upto (contents_of c.args.self.now) c.rows.result.now c.deref.result.now c.mark_going.new.marks.items c.deref-2.result.now c.sweep.new.self.items c.mark_going.ensures.items c.rows.ensures c.deref.ensures.value c.deref-2.ensures.value c.sweep.ensures in
+    subst IsInForm (sym (pruned_is c.args.cont c.args.upto c.args.number (contents_of c.args.self.now) c.mark.new.rows.items c.sweep.new.self.items c.mark.ensures rows))
     (pruned-in_form c.args.cont c.args.upto c.args.number (contents_of c.args.self.now) c.args.self.now.formed)
 
 pub invariant_of-self-clause-room : goal.invariant_of-self-clause-room
 invariant_of-self-clause-room c =
-    let rows : c.sweep.new.rows.items ≡ filter (is_staying c.args.cont c.args.upto (contents_of c.args.self.now)) c.args.self.now.rows.items = swept_by c.args.cont c.args.upto (contents_of c.args.self.now) c.deref.result.now c.deref-2.result.now c.mark_going.new.marks.items c.deref-3.result.now c.sweep.new.rows.items c.mark_going.ensures.items c.deref.ensures.value c.deref-2.ensures.value c.deref-3.ensures.value c.sweep.ensures.items in
-    let given : versions_blocks c.sweep.new.rows.items + going_count c.args.cont c.args.upto (contents_of c.args.self.now) ≤ versions_blocks c.args.self.now.rows.items = freed c.args.cont c.args.upto (contents_of c.args.self.now) c.sweep.new.rows.items rows in
+    let rows : c.sweep.new.self.items ≡ filter (is_staying c.args.cont c.args.upto (contents_of c.args.self.now)) c.args.self.now.rows.items = swept_by c.args.cont c.args.upto (contents_of c.args.self.now) c.rows.result.now c.deref.result.now c.mark_going.new.marks.items c.deref-2.result.now c.sweep.new.self.items c.mark_going.ensures.items c.rows.ensures c.deref.ensures.value c.deref-2.ensures.value c.sweep.ensures in
+    let given : versions_blocks c.sweep.new.self.items + going_count c.args.cont c.args.upto (contents_of c.args.self.now) ≤ versions_blocks c.args.self.now.rows.items = freed c.args.cont c.args.upto (contents_of c.args.self.now) c.sweep.new.self.items rows in
     omega (arith, c.args.self.now.room, given)
 
 pub returns-clause-kept : goal.returns-clause-kept
 returns-clause-kept c =
-    let rows : c.sweep.new.rows.items ≡ filter (is_staying c.args.cont c.args.upto (contents_of c.args.self.now)) c.args.self.now.rows.items = swept_by c.args.cont c.args.upto (contents_of c.args.self.now) c.deref.result.now c.deref-2.result.now c.mark_going.new.marks.items c.deref-3.result.now c.sweep.new.rows.items c.mark_going.ensures.items c.deref.ensures.value c.deref-2.ensures.value c.deref-3.ensures.value c.sweep.ensures.items in
-    pruned_is c.args.cont c.args.upto c.args.number (contents_of c.args.self.now) c.mark.new.rows.items c.sweep.new.rows.items c.mark.ensures rows
+    let rows : c.sweep.new.self.items ≡ filter (is_staying c.args.cont c.args.upto (contents_of c.args.self.now)) c.args.self.now.rows.items = swept_by c.args.cont c.args.upto (contents_of c.args.self.now) c.rows.result.now c.deref.result.now c.mark_going.new.marks.items c.deref-2.result.now c.sweep.new.self.items c.mark_going.ensures.items c.rows.ensures c.deref.ensures.value c.deref-2.ensures.value c.sweep.ensures in
+    pruned_is c.args.cont c.args.upto c.args.number (contents_of c.args.self.now) c.mark.new.rows.items c.sweep.new.self.items c.mark.ensures rows
 
 pub returns-clause-free : goal.returns-clause-free
 returns-clause-free c =
-    let rows : c.sweep.new.rows.items ≡ filter (is_staying c.args.cont c.args.upto (contents_of c.args.self.now)) c.args.self.now.rows.items = swept_by c.args.cont c.args.upto (contents_of c.args.self.now) c.deref.result.now c.deref-2.result.now c.mark_going.new.marks.items c.deref-3.result.now c.sweep.new.rows.items c.mark_going.ensures.items c.deref.ensures.value c.deref-2.ensures.value c.deref-3.ensures.value c.sweep.ensures.items in
-    let given : versions_blocks c.sweep.new.rows.items + going_count c.args.cont c.args.upto (contents_of c.args.self.now) ≤ versions_blocks c.args.self.now.rows.items = freed c.args.cont c.args.upto (contents_of c.args.self.now) c.sweep.new.rows.items rows in
+    let rows : c.sweep.new.self.items ≡ filter (is_staying c.args.cont c.args.upto (contents_of c.args.self.now)) c.args.self.now.rows.items = swept_by c.args.cont c.args.upto (contents_of c.args.self.now) c.rows.result.now c.deref.result.now c.mark_going.new.marks.items c.deref-2.result.now c.sweep.new.self.items c.mark_going.ensures.items c.rows.ensures c.deref.ensures.value c.deref-2.ensures.value c.sweep.ensures in
+    let given : versions_blocks c.sweep.new.self.items + going_count c.args.cont c.args.upto (contents_of c.args.self.now) ≤ versions_blocks c.args.self.now.rows.items = freed c.args.cont c.args.upto (contents_of c.args.self.now) c.sweep.new.self.items rows in
     omega (arith, c.args.self.now.room, given)
 
 pub blocks_taken-self-requires-clause-form : goal.blocks_taken-self-requires-clause-form
 blocks_taken-self-requires-clause-form c =
-    let rows : c.sweep.new.rows.items ≡ filter (is_staying c.args.cont c.args.upto (contents_of c.args.self.now)) c.args.self.now.rows.items = swept_by c.args.cont c.args.upto (contents_of c.args.self.now) c.deref.result.now c.deref-2.result.now c.mark_going.new.marks.items c.deref-3.result.now c.sweep.new.rows.items c.mark_going.ensures.items c.deref.ensures.value c.deref-2.ensures.value c.deref-3.ensures.value c.sweep.ensures.items in
-    ap (list_all is_version_in_form) c.deref-4.ensures.value
-    ∙ all_left is_version_in_form (is_staying c.args.cont c.args.upto (contents_of c.args.self.now)) c.args.self.now.rows.items c.sweep.new.rows.items rows c.args.self.now.formed.writes
+    let rows : c.sweep.new.self.items ≡ filter (is_staying c.args.cont c.args.upto (contents_of c.args.self.now)) c.args.self.now.rows.items = swept_by c.args.cont c.args.upto (contents_of c.args.self.now) c.rows.result.now c.deref.result.now c.mark_going.new.marks.items c.deref-2.result.now c.sweep.new.self.items c.mark_going.ensures.items c.rows.ensures c.deref.ensures.value c.deref-2.ensures.value c.sweep.ensures in
+    ap (list_all is_version_in_form) c.rows-2.ensures
+    ∙ all_left is_version_in_form (is_staying c.args.cont c.args.upto (contents_of c.args.self.now)) c.args.self.now.rows.items c.sweep.new.self.items rows c.args.self.now.formed.writes
 
 pub blocks_taken-self-requires-clause-few : goal.blocks_taken-self-requires-clause-few
 blocks_taken-self-requires-clause-few c =
-    let rows : c.sweep.new.rows.items ≡ filter (is_staying c.args.cont c.args.upto (contents_of c.args.self.now)) c.args.self.now.rows.items = swept_by c.args.cont c.args.upto (contents_of c.args.self.now) c.deref.result.now c.deref-2.result.now c.mark_going.new.marks.items c.deref-3.result.now c.sweep.new.rows.items c.mark_going.ensures.items c.deref.ensures.value c.deref-2.ensures.value c.deref-3.ensures.value c.sweep.ensures.items in
-    let given : versions_blocks c.sweep.new.rows.items + going_count c.args.cont c.args.upto (contents_of c.args.self.now) ≤ versions_blocks c.args.self.now.rows.items = freed c.args.cont c.args.upto (contents_of c.args.self.now) c.sweep.new.rows.items rows in
-    let read : versions_blocks c.deref-4.result.now ≡ versions_blocks c.sweep.new.rows.items = ap versions_blocks c.deref-4.ensures.value in
-    let entries : length c.deref-5.result.now ≡ length c.args.self.now.entries.items = ap (λ x. length x) c.deref-5.ensures.value in
+    let rows : c.sweep.new.self.items ≡ filter (is_staying c.args.cont c.args.upto (contents_of c.args.self.now)) c.args.self.now.rows.items = swept_by c.args.cont c.args.upto (contents_of c.args.self.now) c.rows.result.now c.deref.result.now c.mark_going.new.marks.items c.deref-2.result.now c.sweep.new.self.items c.mark_going.ensures.items c.rows.ensures c.deref.ensures.value c.deref-2.ensures.value c.sweep.ensures in
+    let given : versions_blocks c.sweep.new.self.items + going_count c.args.cont c.args.upto (contents_of c.args.self.now) ≤ versions_blocks c.args.self.now.rows.items = freed c.args.cont c.args.upto (contents_of c.args.self.now) c.sweep.new.self.items rows in
+    let read : versions_blocks c.rows-2.result.now ≡ versions_blocks c.sweep.new.self.items = ap versions_blocks c.rows-2.ensures in
+    let entries : length c.rows-3.result.now ≡ length c.args.self.now.entries.items = ap (λ x. length x) c.rows-3.ensures in
     omega (arith, c.args.self.now.room, given, read, entries)
 
 pub invariant_of-self-clause-counted : goal.invariant_of-self-clause-counted
 invariant_of-self-clause-counted c =
-    let read : versions_blocks c.deref-4.result.now ≡ versions_blocks c.sweep.new.rows.items = ap versions_blocks c.deref-4.ensures.value in
-    let entries : length c.deref-5.result.now ≡ length c.args.self.now.entries.items = ap (λ x. length x) c.deref-5.ensures.value in
+    let read : versions_blocks c.rows-2.result.now ≡ versions_blocks c.sweep.new.self.items = ap versions_blocks c.rows-2.ensures in
+    let entries : length c.rows-3.result.now ≡ length c.args.self.now.entries.items = ap (λ x. length x) c.rows-3.ensures in
     omega (arith, c.blocks_taken-self.ensures, read, entries)
+
+pub invariant_of-self-clause-marked : goal.invariant_of-self-clause-marked
+invariant_of-self-clause-marked c =
+    let rows : c.sweep.new.self.items ≡ filter (is_staying c.args.cont c.args.upto (contents_of c.args.self.now)) c.args.self.now.rows.items = swept_by c.args.cont c.args.upto (contents_of c.args.self.now) c.rows.result.now c.deref.result.now c.mark_going.new.marks.items c.deref-2.result.now c.sweep.new.self.items c.mark_going.ensures.items c.rows.ensures c.deref.ensures.value c.deref-2.ensures.value c.sweep.ensures in
+    let few : length c.sweep.new.self.items ≤ length c.args.self.now.rows.items = fewer_versions c.args.self.now.rows.items c.sweep.new.self.items (is_staying c.args.cont c.args.upto (contents_of c.args.self.now)) rows in
+    omega (arith, c.args.self.now.marked, few, c.mark_going.ensures.capacity)

@@ -17,10 +17,10 @@ pub returns-in-Made-clause-kept : goal.returns-in-Made-clause-kept
 returns-in-Made-clause-kept c =
     let run : c.args.self.now.stops.stopped ≡ false = cc in
     makes prepare_stop (prepared c.args.entry.now c.args.writes.now) c.args.self.now.stops.stopped (contents_of c.args.self.now.contents) (contents_of c.prepare.new.self) run
-    (prepared_is c.args.entry.now c.args.writes.now c.in-Ok.rows.items (contents_of c.args.self.now.contents) (contents_of c.ready.new.self) (contents_of c.prepare.new.self) c.in-Ok.ensures.versions c.in-Ok.ensures.same c.prepare.ensures.kept)
+    (prepared_is c.args.entry.now c.args.writes.now c.ready.new.self.rows.coming (contents_of c.args.self.now.contents) (contents_of c.ready.new.self) (contents_of c.prepare.new.self) c.in-Ok.ensures.versions c.in-Ok.ensures.same c.prepare.ensures.kept)
 
 pub returns-in-StopAfter-clause-kept : goal.returns-in-StopAfter-clause-kept
 returns-in-StopAfter-clause-kept c =
     let run : c.args.self.now.stops.stopped ≡ false = cc in
     makes_stopped prepare_stop (prepared c.args.entry.now c.args.writes.now) c.args.self.now.stops.stopped prepare.Stopped (contents_of c.args.self.now.contents) (contents_of c.prepare-in-StopAfter.new.self) refl run
-    (prepared_is c.args.entry.now c.args.writes.now c.in-Ok.rows.items (contents_of c.args.self.now.contents) (contents_of c.ready.new.self) (contents_of c.prepare-in-StopAfter.new.self) c.in-Ok.ensures.versions c.in-Ok.ensures.same c.prepare-in-StopAfter.ensures.kept)
+    (prepared_is c.args.entry.now c.args.writes.now c.ready.new.self.rows.coming (contents_of c.args.self.now.contents) (contents_of c.ready.new.self) (contents_of c.prepare-in-StopAfter.new.self) c.in-Ok.ensures.versions c.in-Ok.ensures.same c.prepare-in-StopAfter.ensures.kept)
