@@ -1,7 +1,7 @@
 use Rattle.std.proofs.Common.{◌∙◌, sym, ap, arith}
 use Rattle.daos_model.specs.Durables.{version_key}
 use Rattle.daos_model.specs.Ordered.{puts}
-use Rattle.vos_plain.proofs.Places.{puts-last}
+use Rattle.vos_rows.proofs.Putting.{puts-last}
 use Rattle.replay_writes.proofs.stored.put_all.Goals as goal
 
 pub loop-row-preserved : goal.loop-row-preserved
