@@ -1,5 +1,6 @@
 pub mod BlockLaws
 pub mod Owning
+pub mod Compared
 pub mod Filling
 pub mod Nodes
 pub mod Lists

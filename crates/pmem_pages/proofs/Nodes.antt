@@ -6,6 +6,7 @@ use Rattle.byteorder.specs.Endian.{big_bytes, big_number}
 use Rattle.byteorder.specs.Numbers.{big_number-reads_back, length-bytes_high_first}
 use Rattle.pmem_pages.specs.declared.node.Node.{Node}
 use Rattle.pmem_pages.specs.Node.{node_bytes, node_of, IsNode, IsNodeBlock}
+use Rattle.pmem_pages.proofs.Compared.{take_bytes}
 
 -- what stands behind a part that stands from a place on
 past : (bs xs ys : List ℕ) (n k m : ℕ) → drop n bs ≡ xs ++ ys → length xs ≡ k → m ≡ n + k → drop m bs ≡ ys
@@ -66,13 +67,7 @@ module _ (kind : ℕ) (n : Node) (h : IsNode kind n) where
     value = record { len = sym h.value.fits i; bytes = value_again i };
   }
 
--- the first bytes of bytes are bytes
-take_bytes : (n : ℕ) (bs : List ℕ) → ((i : ℕ) → get_or bs i 0 < 256) → (i : ℕ) → get_or (take n bs) i 0 < 256
-take_bytes zero bs h i = omega arith
-take_bytes (suc n) [] h i = h i
-take_bytes (suc n) (b ∷ bs) h zero = h zero
-take_bytes (suc n) (b ∷ bs) h (suc i) = take_bytes n bs (λ j. h (suc j)) i
-
+-- what stands behind bytes are bytes
 drop_bytes : (n : ℕ) (bs : List ℕ) → ((i : ℕ) → get_or bs i 0 < 256) → (i : ℕ) → get_or (drop n bs) i 0 < 256
 drop_bytes n bs h i = rw (get_or-drop n bs i 0) (h (n + i))
 

@@ -1,5 +1,7 @@
 // The bytes of a node in its block.
 ghost use Rattle.std.specs.Prelude.{◌≡◌, ◌≤◌, ◌<◌, ◌+◌, ◌^◌, ℕ, List, length, take, drop};
+ghost use Rattle.std.specs.Ordering.{nat_cmp};
+ghost use Rattle.std.specs.Cmp.Lexicographic.{slice_cmp};
 ghost use Rattle.byteorder.specs.Endian.{big_bytes, big_number};
 ghost use Rattle.pmem_pages.specs.declared.node.Node.{Node as NodeOf};
 ghost use Rattle.pmem_pages.specs.Node.{key_cmp, value_len, node_bytes, node_of, IsNode, IsNodeBlock};
@@ -8,9 +10,9 @@ use crate::node::{Node, TreeKey, Value};
 use byteorder::{BigEndian, ByteOrder};
 use std::cmp::Ordering;
 
-/// How two keys lie to each other, by their bytes.
+// How two keys lie to each other, byte by byte.
 #[tactic(auto, unfolding(crate::specs::Node::key_cmp))]
-pub fn compare(a: &TreeKey, b: &TreeKey) -> Ordering
+fn compare_bytes(a: &TreeKey, b: &TreeKey) -> Ordering
     requires a { a.now.len ≤ 64 }
     requires b { b.now.len ≤ 64 }
     ensures { result ≡ key_cmp a.now b.now }
@@ -18,6 +20,33 @@ pub fn compare(a: &TreeKey, b: &TreeKey) -> Ordering
     let left = &a.bytes[..usize::from(a.len)];
     let right = &b.bytes[..usize::from(b.len)];
     left.cmp(right)
+}
+
+// How the first eight bytes lie to each other, as numbers.
+fn compare_heads(left: &[u8], right: &[u8]) -> Ordering
+    requires left { 8 ≤ length left.now }
+    requires right { 8 ≤ length right.now }
+    ensures { result ≡ slice_cmp nat_cmp (take 8 left.now) (take 8 right.now) }
+{
+    let high = BigEndian::read_u64(left);
+    high.cmp(&BigEndian::read_u64(right))
+}
+
+/// How two keys lie to each other, by their bytes. Where both have eight or more, the first eight are compared
+/// at once.
+pub fn compare(a: &TreeKey, b: &TreeKey) -> Ordering
+    requires a { a.now.len ≤ 64 }
+    requires b { b.now.len ≤ 64 }
+    ensures { result ≡ key_cmp a.now b.now }
+{
+    if a.len < 8 || b.len < 8 {
+        return compare_bytes(a, b);
+    }
+    match compare_heads(&a.bytes, &b.bytes) {
+        Ordering::Less => Ordering::Less,
+        Ordering::Equal => compare_bytes(a, b),
+        Ordering::Greater => Ordering::Greater,
+    }
 }
 
 /// How many bytes the values of a kind have.

@@ -11,6 +11,10 @@ use Rattle.pmem_tree.specs.Ends.{all_even, even_end}
 pub spent_none : (b0 b1 : Budget) → b1 ≡ b0 → IsSpent 0 0 b0 b1
 spent_none b0 b1 h = let r = ap (λ (b : Budget). b.ranges) h in let s = ap (λ (b : Budget). b.bytes) h in record { ranges_most = omega arith; ranges_least = omega arith; bytes_most = omega arith; bytes_least = omega arith }
 
+-- nothing was staged
+pub spent_nothing : (n k : ℕ) (b : Budget) → IsSpent n k b b
+spent_nothing n k b = record { ranges_most = omega arith; ranges_least = omega arith; bytes_most = omega arith; bytes_least = omega arith }
+
 same_height : (a b : ℕ) → a ≡ b → (a == b) ≡ true
 same_height a b h = grind (arith, nat_tests)
 

@@ -1,5 +1,5 @@
 // A node goes into the tree below a block.
-ghost use Rattle.std.specs.Prelude.{◌≡◌, ◌⊎◌, ◌≤◌, ◌<◌, ◌+◌, ◌*◌, true, IfOk, OnOk, IsErrOf, IsTrue};
+ghost use Rattle.std.specs.Prelude.{◌≡◌, ◌⊎◌, ◌≤◌, ◌<◌, ◌+◌, ◌*◌, true, Decides, IfOk, OnOk, IsErrOf, IsTrue};
 ghost use Rattle.pmem_pages.specs.Blocks.{IsSpent};
 ghost use Rattle.pmem_tree_base.specs.declared.refusal.TreeNo.{TreeNo};
 ghost use Rattle.pmem_tree_base.specs.Calls.{Goes};
@@ -10,6 +10,7 @@ ghost use Rattle.pmem_tree.specs.Grow.{SomeGrows, OfGrowing, Grown, GrowsCheaply
 use crate::rejoin::rejoin_in;
 use pmem_pages::BLOCK;
 use pmem_pages::codec::compare;
+use pmem_pages::node::Node;
 use pmem_pages::pages::Pages;
 use pmem_pages::steps::Steps;
 use pmem_tree_base::read::{Spot, Sub, read_in, sub_at};
@@ -17,6 +18,24 @@ use pmem_tree_base::refusal::TreeNo;
 use pmem_tree_base::write::stage_fork;
 use std::cmp::Ordering;
 use std::sync::ledger::Ledger;
+
+// Whether a tree that grew below a node leaves the node as it is: its root is still the one that the node names,
+// and it is lower than the node.
+fn is_as_before(node: &Node, root: u32, grown: Sub) -> bool
+    ensures { Decides result ((grown.root ≡ root) × (grown.height < node.now.height)) }
+{
+    grown.root == root && grown.height < node.height
+}
+
+// What the code holds of the tree below a node.
+fn sub_of(at: u32, node: &Node) -> Sub
+    ensures { result ≡ record { root = at; height = node.now.height } }
+{
+    Sub {
+        root: at,
+        height: node.height,
+    }
+}
 
 /// Puts a new node into the tree below a block, which is no higher than `depth`.
 ///
@@ -61,14 +80,20 @@ pub fn insert_at<P: Pages, L: Ledger>(
     let here = node.key;
     match compare(&fresh.pair.key, &here) {
         Ordering::Less => {
-            let right = sub_at(pages, fresh.kind, node.right, steps)?;
             let left = insert_at(pages, fresh, node.left, depth - 1, steps)?;
+            if is_as_before(&node, node.left, left) {
+                return Ok(sub_of(at, &node));
+            }
+            let right = sub_at(pages, fresh.kind, node.right, steps)?;
             rejoin_in(pages, fresh.kind, at, &block, left, right, steps)
         }
         Ordering::Equal => Err(TreeNo::TooMuch),
         Ordering::Greater => {
-            let left = sub_at(pages, fresh.kind, node.left, steps)?;
             let right = insert_at(pages, fresh, node.right, depth - 1, steps)?;
+            if is_as_before(&node, node.right, right) {
+                return Ok(sub_of(at, &node));
+            }
+            let left = sub_at(pages, fresh.kind, node.left, steps)?;
             rejoin_in(pages, fresh.kind, at, &block, left, right, steps)
         }
     }

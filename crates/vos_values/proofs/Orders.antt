@@ -1,42 +1,18 @@
 -- Bytes of one number lie to those of another as the numbers do.
-use Rattle.std.proofs.Common.{◌≡◌, ℕ, zero, suc, ◌+◌, ◌*◌, ◌/◌, ◌≤◌, ◌<◌, ◌^◌, List, [], ◌∷◌, ◌++◌, length, take, drop, refl, sym, ap, ◌∙◌, subst, arith, inl, inr, length-take-le}
-use Rattle.std.proofs.lemmas.Bool.{cases_lt}
+use Rattle.std.proofs.Common.{◌≡◌, ℕ, zero, suc, ◌+◌, ◌/◌, ◌≤◌, ◌<◌, ◌^◌, List, [], ◌∷◌, ◌++◌, length, take, drop, refl, sym, ap, ◌∙◌, subst, arith, length-take-le}
 use Rattle.std.proofs.lemmas.Bool.Decides.{nat_tests}
 use Rattle.std.proofs.lemmas.Cmp.{ranked}
 use Rattle.std.proofs.lemmas.List.{append-nil}
-use Rattle.std.proofs.Math.Nat.{mod-lt, mul-le-mul_right}
+use Rattle.std.proofs.Math.Nat.{mod-lt}
 use Rattle.std.specs.Int.{byte_at, bytes_high_first}
 use Rattle.std.specs.Ordering.{MatchOrdering, nat_cmp, ordering_then}
 use Rattle.std.specs.Cmp.Lexicographic.{slice_cmp}
 use Rattle.std.specs.declared.cmp.Ordering.{Ordering}
 use Rattle.std.specs.declared.cmp.Ordering.TheVariants.{Less, Equal, Greater}
 use Rattle.byteorder.specs.Endian.{big_bytes, big_number, big_from}
-use Rattle.byteorder.specs.Numbers.{big_from-cons, big_from-lt, big_from-take, big_number-reads_back, length-bytes_high_first}
+use Rattle.byteorder.specs.Numbers.{big_from-lt, big_from-take, big_number-reads_back, length-bytes_high_first}
+use Rattle.pmem_pages.proofs.Compared.{cmp_numbers, append_cmp, take_bytes}
 use Rattle.vos_values.specs.Fields.{Fields, packed, numbers_of, AllFit, AreAlike, AreBytes}
-
--- numbers of two digits, the high one first
-digits_cmp : (p x y a b : ℕ) → a < p → b < p → nat_cmp (x * p + a) (y * p + b) ≡ ordering_then (nat_cmp x y) (nat_cmp a b)
-digits_cmp p x y a b ha hb =
-    elim (cases_lt x y) [
-      | inl less ↦ let k : (x + 1) * p ≤ y * p = mul-le-mul_right p (omega arith) in let e : (x + 1) * p ≡ x * p + p = omega arith in grind (arith, nat_tests)
-      | inr other ↦ elim (cases_lt y x) [
-        | inl more ↦ let k : (y + 1) * p ≤ x * p = mul-le-mul_right p (omega arith) in let e : (y + 1) * p ≡ y * p + p = omega arith in grind (arith, nat_tests)
-        | inr same ↦ let e : x ≡ y = omega arith in rw e (grind (arith, nat_tests))
-      ]
-    ]
-
--- lists of bytes of one length
-cmp_numbers : (n : ℕ) (xs ys : List ℕ) → length xs ≡ n → length ys ≡ n → AreBytes xs → AreBytes ys → slice_cmp nat_cmp xs ys ≡ nat_cmp (big_from 0 n xs) (big_from 0 n ys)
-cmp_numbers zero [] [] lx ly hx hy = refl
-cmp_numbers zero (x ∷ xs) ys lx ly hx hy = absurd (omega arith)
-cmp_numbers zero [] (y ∷ ys) lx ly hx hy = absurd (omega arith)
-cmp_numbers (suc n) [] ys lx ly hx hy = absurd (omega arith)
-cmp_numbers (suc n) (x ∷ xs) [] lx ly hx hy = absurd (omega arith)
-cmp_numbers (suc n) (x ∷ xs) (y ∷ ys) lx ly hx hy =
-    let a = big_from-lt 0 n xs (λ i. hx (suc i)) in
-    let b = big_from-lt 0 n ys (λ i. hy (suc i)) in
-    let rest = cmp_numbers n xs ys (omega arith) (omega arith) (λ i. hx (suc i)) (λ i. hy (suc i)) in
-    rw (big_from-cons 0 n x xs, big_from-cons 0 n y ys, rest) (sym (digits_cmp (256 ^ n) x y (big_from 0 n xs) (big_from 0 n ys) a b))
 
 byte_low : (n x : ℕ) → byte_at n x < 256
 byte_low zero x = mod-lt x (omega arith)
@@ -47,12 +23,6 @@ pub number_bytes : (n x : ℕ) → AreBytes (bytes_high_first n x)
 number_bytes zero x i = omega arith
 number_bytes (suc n) x zero = byte_low n x
 number_bytes (suc n) x (suc i) = number_bytes n x i
-
-pub take_bytes : (n : ℕ) (bs : List ℕ) → AreBytes bs → AreBytes (take n bs)
-take_bytes zero bs h i = omega arith
-take_bytes (suc n) [] h i = h i
-take_bytes (suc n) (b ∷ bs) h zero = h zero
-take_bytes (suc n) (b ∷ bs) h (suc i) = take_bytes n bs (λ j. h (suc j)) i
 
 pub drop_bytes : (n : ℕ) (bs : List ℕ) → AreBytes bs → AreBytes (drop n bs)
 drop_bytes zero bs h i = h i
@@ -99,18 +69,6 @@ number_back n xs h l =
     level_lists (bytes_high_first n x) (take n xs) (c ∙ (ap (λ z. nat_cmp z (big_from 0 n (take n xs))) (number_again n x fits) ∙ (ap (nat_cmp x) same ∙ nat_level x)))
 
 -- ---- fields
-
--- behind fronts of one length
-append_cmp : (xs ys us vs : List ℕ) → length xs ≡ length ys → slice_cmp nat_cmp (xs ++ us) (ys ++ vs) ≡ ordering_then (slice_cmp nat_cmp xs ys) (slice_cmp nat_cmp us vs)
-append_cmp [] [] us vs l = refl
-append_cmp [] (y ∷ ys) us vs l = absurd (omega arith)
-append_cmp (x ∷ xs) [] us vs l = absurd (omega arith)
-append_cmp (x ∷ xs) (y ∷ ys) us vs l = ap (ordering_then (nat_cmp x y)) (append_cmp xs ys us vs (omega arith)) ∙ sym (then_assoc (nat_cmp x y) (slice_cmp nat_cmp xs ys) (slice_cmp nat_cmp us vs))
-  where
-    then_assoc : (o p q : Ordering) → ordering_then (ordering_then o p) q ≡ ordering_then o (ordering_then p q)
-    then_assoc Less p q = refl
-    then_assoc Equal p q = refl
-    then_assoc Greater p q = refl
 
 before_some : (w x : ℕ) (rest : List ℕ) → 0 < w → slice_cmp nat_cmp [] (bytes_high_first w x ++ rest) ≡ Less
 before_some zero x rest h = absurd (omega arith)
