@@ -9,6 +9,7 @@ ghost use Rattle.daos_run.specs.Stops.{IsOpeningFault, MayStop};
 ghost use Rattle.model_reports.specs.Lone.{HasOneClient};
 ghost use Rattle.model_reports.specs.Rooms.{FindsRoom, HasRoom};
 ghost use Rattle.run_laws.specs.shows.InTurn.{AllBeginInTurn};
+ghost use Rattle.world_ended.specs.Clients.{AllEndWell};
 ghost use Rattle.world_letters.specs.kinds.Fitting.{AllAnswersFit};
 ghost use Rattle.run_targets.specs.Ends.{IsReportOfLines, TellsOfLoneClient};
 ghost use Rattle.run_opening.specs.All.{AreKept, MayBeFound};
@@ -37,7 +38,7 @@ use vos_store::store::Fuse;
 /// left to settle. Fuses that are set are taken away; while the script runs, a store has those of its
 /// target's stop lines, one after another; in the end it has none. The stores and the clocks are set again at
 /// every ending, each at its place; a clock is then the one that was given, after so many readings. Where a
-/// store tells nothing of what it keeps, only `told`, `in_turn` and `kinds` bind what the report tells; the
+/// store tells nothing of what it keeps, only `told`, `in_turn`, `kinds` and `ends` bind what the report tells; the
 /// run is safe, and errors are told as of any others.
 ///
 /// The report names the least of the targets that were given up, if one was; the store of such a one is
@@ -76,6 +77,7 @@ pub fn run_on<R: Threads + Wait + Sync, S: Fuse + Send, C: Clock + Send, G: Gate
     ensures told { IfOk result (IsReportOfLines script.now) }
     ensures in_turn { IfOk result (λ report. AllBeginInTurn job.now.attempts script.now report.lines) }
     ensures kinds { IfOk result (λ report. AllAnswersFit script.now report.lines) }
+    ensures ends { IfOk result (λ report. AllEndWell script.now report.lines) }
     ensures served { StoresAreServed S.durable S.state parts.old parts.new }
     ensures unfused { FusesAreGone S.state parts.new }
     ensures clocks { ClocksAreRead C.is_read parts.old parts.new }

@@ -7,9 +7,10 @@ pub mod Accounts
 pub mod Due
 pub mod Turned
 pub mod Openings
-pub mod Steps
 pub mod InTurn
 pub mod Kinds
+pub mod Ends
+pub mod Steps
 pub mod InTurnLaws
 pub mod KindsLaws
 pub mod Serving
@@ -20,6 +21,7 @@ pub mod Stopping
 pub mod Reopening
 pub mod Clients
 pub mod Lettered
+pub mod EndsLaws
 pub mod Fitting
 pub mod Going
 pub mod Broken

@@ -11,7 +11,9 @@ ghost use Rattle.run_laws.specs.shows.Accounts.{AreAccounted, AreServed};
 ghost use Rattle.run_laws.specs.shows.CanGo.{CanGo};
 ghost use Rattle.run_laws.specs.shows.Due.{IsActor, IsUp};
 ghost use Rattle.run_laws.specs.shows.InTurn.{AllBeginInTurn, TellInTurn};
+ghost use Rattle.run_laws.specs.shows.Ends.{EndsGoOn};
 ghost use Rattle.run_laws.specs.shows.Kinds.{AnswersGoOn};
+ghost use Rattle.world_ended.specs.Clients.{AllEndWell};
 ghost use Rattle.world_letters.specs.kinds.Fitting.{AllAnswersFit};
 ghost use Rattle.run_laws.specs.shows.Shows.{Shows};
 ghost use Rattle.run_stage.specs.Now.{stage_now};
@@ -227,6 +229,7 @@ pub fn run_in_order<R: Wait, S: Fuse, C: Clock, G: Gate>(
     ensures reopens { IfOk result.2 (λ lines. AllCanReopen S.durable S.state S.may result.0.items) }
     ensures in_turn { (r : Rules) → TellInTurn r (stage_now stage) → IfOk result.2 (AllBeginInTurn r.attempts r.script) }
     ensures kinds { (r : Rules) → AnswersGoOn r (stage_now stage) → IfOk result.2 (AllAnswersFit r.script) }
+    ensures ends { (r : Rules) → EndsGoOn r (stage_now stage) → IfOk result.2 (AllEndWell r.script) }
 {
     let went = go(rt, alloc, order, &mut stage, gate);
     let Stage {

@@ -20,6 +20,7 @@ use Rattle.vos_store.specs.Refusals.{says}
 use Rattle.world_base.specs.declared.did.Did.{Did}
 use Rattle.world_base.specs.declared.target.Life.TheVariants.{Stopped}
 use Rattle.world_base.specs.Letters.{target}
+use Rattle.world_ended.specs.Asking.{Asked, LeavesWith}
 use Rattle.world_letters.specs.kinds.PostLaws.{CarryNone}
 use Rattle.world_contents.specs.posts.Forms.{Follows}
 
@@ -58,7 +59,7 @@ module _ {S C : Type 0} (durable : S → Option Durable) (state : S → State) (
 module _ {S C : Type 0} (durable : S → Option Durable) (state : S → State) (may : S → Durable → Type 0) (t number : ℕ) (x y : TargetOf S C) (said : Result Did TargetStop) (w : WatchNow) (a b : StageNow S C)
     (place : IsPlace a t x Stopped) (tried : w ≡ opening_tried a.watch) (few : w.openings < 2 ^ 32) (numbered : number ≡ w.restarts) (plan : y.plan ≡ x.plan) (clock : y.clock ≡ x.clock) (opens : Reopens said (state x.store) (state y.store) (durable x.store) (durable y.store))
     (turn : ForSome (durable x.store) (λ d. IfOk said (OpensAs x.plan number (may x.store) (durable y.store) (state y.store) y.memory))) (left : Left (may x.store) (may y.store)) (bare : IfErr said IsBare) (native : IsSome (durable x.store) → says stop_foreign said ≡ false)
-    (posts : IfOk said (λ did. Follows x.plan.targets y.memory.leader did.posts)) (line : IfOk said (TellsRestart number x.plan.me)) (reads : IfOk said (λ did. CarryNone did.posts)) (fresh : is_ok said ≡ true → y.memory.member.parked ≡ []) (opened : y.opened ≡ is_ok said) where
+    (posts : IfOk said (λ did. Follows x.plan.targets y.memory.leader did.posts)) (line : IfOk said (TellsRestart number x.plan.me)) (reads : IfOk said (λ did. CarryNone did.posts)) (ends-so : (asked : Asked) → IfOk said (λ did. LeavesWith asked y.memory.leader did.posts)) (fresh : is_ok said ≡ true → y.memory.member.parked ≡ []) (opened : y.opened ≡ is_ok said) where
   abbrev was-reopened : WasReopened durable state may t a
   was-reopened =
       let next = numbered ∙ ap (λ v. v.restarts) tried in
@@ -78,6 +79,7 @@ module _ {S C : Type 0} (durable : S → Option Durable) (state : S → State) (
         posts = posts;
         line = subst (λ n. IfOk said (TellsRestart n x.plan.me)) next line;
         reads = reads;
+        ends = ends-so;
         fresh = fresh;
         opened = opened;
       }

@@ -8,7 +8,9 @@ use Rattle.base_types.specs.declared.report.Line.{Line}
 use Rattle.client_core.specs.Clients.{ClientNow}
 use Rattle.daos_model.specs.declared.durable.Durable.{Durable}
 use Rattle.run_base.specs.Letters.{BetweenNow, IsPicked}
+use Rattle.run_laws.specs.shows.Ends.{LettersGoWith}
 use Rattle.run_laws.specs.shows.Kinds.{TurnsOnce}
+use Rattle.world_ended.specs.Asking.{Asked, EndsAsked}
 use Rattle.run_laws.specs.shows.Stages.{IsPlace, StageNow}
 use Rattle.run_laws.specs.shows.Steps.{ClientWorks, Cut, HasWorked, HeardOne, InWork, TargetBroke, TargetWorked, Whole, WorkEnds}
 use Rattle.run_laws.specs.shows.Turned.{AfterCut, IsTurned, followed, swept_stage, with_between, with_target_at}
@@ -43,9 +45,10 @@ heard-one (Err e) n number c d b left l awake picked only turn = tt
 
 module _ {S C : Type 0} (durable : S → Option Durable) (state : S → State) (may : S → Durable → Type 0) (is_read : C → C → Type 0) (settling : Bool) (t number : ℕ) (x y : TargetOf S C) (left : BetweenNow) (said : Result Did TargetStop) (a b : StageNow S C)
     (place : IsPlace a t x Running) (plan : y.plan ≡ x.plan) (opened : y.opened ≡ true) (runs : Runs stop_store said (state x.store) (state y.store) (durable x.store) (durable y.store)) (silent : IsSilent said) (clock : IsReadOn is_read x.clock y.clock)
-    (posts : IfOk said (λ did. PostsInForm x.plan.targets x.memory.leader y.memory.leader did.posts)) (once : IfOk said (TurnsOnce a.between left x.memory.member y.memory.member)) (turned : IsTurned durable state may settling t number x y a.between left said) where
+    (posts : IfOk said (λ did. PostsInForm x.plan.targets x.memory.leader y.memory.leader did.posts)) (once : IfOk said (TurnsOnce a.between left x.memory.member y.memory.member))
+    (ends-so : (asked : Asked) → LettersGoWith asked a.between.messages → IfOk said (λ did. EndsAsked asked x.memory.leader y.memory.leader did.posts)) (turned : IsTurned durable state may settling t number x y a.between left said) where
   abbrev has-worked : HasWorked durable state may is_read settling t number a
-  has-worked = record { before = x; now = y; left = left; result = said; place = place; plan = plan; opened = opened; runs = runs; silent = silent; clock = clock; posts = posts; once = once; turned = turned }
+  has-worked = record { before = x; now = y; left = left; result = said; place = place; plan = plan; opened = opened; runs = runs; silent = silent; clock = clock; posts = posts; once = once; ends = ends-so; turned = turned }
 
   worked : WorkEnds durable state may t x y left a b said → TargetWorked durable state may is_read settling t number a b
   worked ends = record { work = has-worked; ends = ends }

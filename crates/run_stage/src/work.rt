@@ -4,7 +4,9 @@ ghost use Rattle.run_base.specs.Letters.{IsPicked};
 ghost use Rattle.run_base.specs.Picks.{count_to};
 ghost use Rattle.run_laws.specs.shows.Accounts.{AreServed};
 ghost use Rattle.run_laws.specs.shows.CanGo.{CanTurn, IsHearable};
+ghost use Rattle.run_laws.specs.shows.Ends.{LettersGoWith};
 ghost use Rattle.run_laws.specs.shows.Kinds.{TurnsOnce};
+ghost use Rattle.world_ended.specs.Asking.{Asked, EndsAsked};
 ghost use Rattle.run_laws.specs.shows.Steps.{TargetBroke, TargetWorked};
 ghost use Rattle.run_laws.specs.shows.Turned.{IsTurned};
 ghost use Rattle.run_stage.specs.Now.{stage_now};
@@ -50,6 +52,7 @@ fn hear_or_idle<S: Store, C: Clock>(
     ensures silent { IsSilent result }
     ensures posts { IfOk result (λ did. PostsInForm host.old.plan.targets host.old.memory.leader host.new.memory.leader did.posts) }
     ensures once { IfOk result (TurnsOnce between.old between.new host.old.memory.member host.new.memory.member) }
+    ensures ends { (asked : Asked) → LettersGoWith asked between.old.messages → IfOk result (λ did. EndsAsked asked host.old.memory.leader host.new.memory.leader did.posts) }
 {
     if between.count_to(target_id(t)) > 0 {
         let letter = between.take(target_id(t), number);

@@ -21,6 +21,8 @@ use Rattle.run_laws.specs.ends.Keeping.{all-tell, breaks-off}
 use Rattle.run_laws.specs.ends.Ending.{comes-to}
 use Rattle.run_laws.specs.ends.Starts.{AllTell, HaveStarted, given_by, stores_of}
 use Rattle.run_laws.specs.ends.Reports.{AreTyped}
+use Rattle.run_laws.specs.shows.Ends.{EndsGoOn}
+use Rattle.run_laws.specs.shows.EndsLaws.{ends-first}
 use Rattle.run_laws.specs.shows.Kinds.{AnswersGoOn}
 use Rattle.run_laws.specs.shows.KindsLaws.{answers-first}
 use Rattle.run_targets.proofs.Telling.{first, told-first}
@@ -115,6 +117,12 @@ module _ {S C Z : Type 0} (durable : S → Option Durable) (state : S → State)
     answers-begin =
         answers-first (rules_of g) stage (told-first durable state g stage v.items started none) (λ n c at. (first durable state g stage v.items started n c at).2)
         (λ t y at. (begins.each t y (ap (λ zs. slice_get zs t) (sym put) ∙ at)).waits) messages none
+
+    -- nor was anything asked to be committed
+    pub ends-begin : EndsGoOn (rules_of g) stage
+    ends-begin =
+        ends-first (rules_of g) stage answers-begin (λ n c at. first durable state g stage v.items started n c at)
+        (λ t y at. ap (λ m. m.undecided) (begins.each t y (ap (λ zs. slice_get zs t) (sym put) ∙ at)).leader) messages asked none
 
     pub goes : AreAlike durable → CanGo durable state may stage
     goes alike = subst (CanGo durable state may) (sym stage-is) (can-go durable state g cs armed begins may now is-first alike)

@@ -19,6 +19,7 @@ use Rattle.run_laws.specs.shows.Stages.{StageNow}
 use Rattle.target_core.specs.Targets.{TargetOf}
 use Rattle.vos_store.specs.Calls.{State}
 use Rattle.world_plain.specs.ends.Ends.{rules_of}
+use Rattle.world_ended.specs.Clients.{AllEndWell}
 use Rattle.world_letters.specs.kinds.Fitting.{AllAnswersFit}
 use Rattle.world_plain.specs.whole.Begins.{first_client}
 
@@ -41,3 +42,6 @@ module _ {S C : Type 0} (durable : S → Option Durable) (state : S → State) (
 -- what a run's lines tell its report tells
 pub kinds-last : {E : Type 0} (s : Script) (ran : Result (List Line) E) (lines : List Line) (report : Report) → IfOk ran (AllAnswersFit s) → ran ≡ Ok lines → report ≡ report_with s lines → AllAnswersFit s report.lines
 kinds-last s ran lines report all is same = subst (λ q. AllAnswersFit s q.lines) (sym same) (subst (λ q. IfOk q (AllAnswersFit s)) is all)
+
+pub ends-last : {E : Type 0} (s : Script) (ran : Result (List Line) E) (lines : List Line) (report : Report) → IfOk ran (AllEndWell s) → ran ≡ Ok lines → report ≡ report_with s lines → AllEndWell s report.lines
+ends-last s ran lines report all is same = subst (λ q. AllEndWell s q.lines) (sym same) (subst (λ q. IfOk q (AllEndWell s)) is all)

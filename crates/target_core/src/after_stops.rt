@@ -1,5 +1,6 @@
 // A target hears what comes of stops.
 ghost use Rattle.std.specs.Prelude.{◌≡◌, ℕ, IfOk, Some, false, []};
+ghost use Rattle.world_ended.specs.Asking.{Asked, EndsAsked, GoesWith};
 ghost use Rattle.world_letters.specs.kinds.Loads.{AnswersOnce};
 ghost use Rattle.daos_model.specs.declared.durable.Durable.{Durable};
 ghost use Rattle.world_contents.specs.posts.Forms.{PostsInForm};
@@ -49,6 +50,7 @@ pub(crate) fn hear_after_stops<S: Store>(
         (S.durable store.new) (S.state store.new) (S.may store.new) (memory_of knows.new) result }
     ensures posts { is_of_client message ≡ from.client → IfOk result (λ did. PostsInForm plan.targets knows.old.leader knows.new.leader did.posts) }
     ensures reads { IfOk result (λ did. AnswersOnce [] knows.old.member.memory knows.new.member.memory did.posts) }
+    ensures ends { (asked : Asked) → GoesWith asked message → IfOk result (λ did. EndsAsked asked knows.old.leader knows.new.leader did.posts) }
     ensures target { IsTarget plan (S.state store.new) (S.durable store.new) knows.new }
     ensures stopped { TurnRuns result (S.state store.old) (S.state store.new) (S.durable store.old) (S.durable store.new) }
 {

@@ -1,5 +1,6 @@
 // A target hears a message.
 ghost use Rattle.std.specs.Prelude.{◌≡◌, ◌≤◌, ℕ, IfOk, IfSome, Some, true, false, [], ◌∷◌};
+ghost use Rattle.world_ended.specs.Asking.{Asked, EndsAsked, GoesWith};
 ghost use Rattle.world_letters.specs.kinds.Loads.{AnswersOnce};
 ghost use Rattle.std.specs.Option.{ForSome};
 ghost use Rattle.daos_model.specs.declared.durable.Durable.{Durable};
@@ -48,6 +49,7 @@ fn hear_client<S: Store, C: Clock>(
         (S.durable store.new) (S.state store.new) (S.may store.new) (memory_of knows.new) result) }
     ensures posts { from.client ≡ true → IfOk result (λ did. PostsInForm plan.targets knows.old.leader knows.new.leader did.posts) }
     ensures reads { IfOk result (λ did. AnswersOnce (message ∷ []) knows.old.member.memory knows.new.member.memory did.posts) }
+    ensures ends { (asked : Asked) → GoesWith asked message → IfOk result (λ did. EndsAsked asked knows.old.leader knows.new.leader did.posts) }
     ensures target { IsTarget plan (S.state store.new) (S.durable store.new) knows.new }
     ensures stopped { TurnRuns result (S.state store.old) (S.state store.new) (S.durable store.old) (S.durable store.new) }
     ensures clock { IsReadUpTo C.is_read (most_readings (has_epoch message)) clock.old clock.new }
@@ -114,6 +116,7 @@ fn hear_target<S: Store>(
         (S.durable store.new) (S.state store.new) (S.may store.new) (memory_of knows.new) result }
     ensures posts { from.client ≡ false → IfOk result (λ did. PostsInForm plan.targets knows.old.leader knows.new.leader did.posts) }
     ensures reads { IfOk result (λ did. AnswersOnce (message ∷ []) knows.old.member.memory knows.new.member.memory did.posts) }
+    ensures ends { (asked : Asked) → GoesWith asked message → IfOk result (λ did. EndsAsked asked knows.old.leader knows.new.leader did.posts) }
     ensures target { IsTarget plan (S.state store.new) (S.durable store.new) knows.new }
     ensures stopped { TurnRuns result (S.state store.old) (S.state store.new) (S.durable store.old) (S.durable store.new) }
 {
@@ -199,6 +202,7 @@ fn hear_other<S: Store>(
         (S.durable store.new) (S.state store.new) (S.may store.new) (memory_of knows.new) result }
     ensures posts { is_of_client message ≡ from.client → IfOk result (λ did. PostsInForm plan.targets knows.old.leader knows.new.leader did.posts) }
     ensures reads { IfOk result (λ did. AnswersOnce (message ∷ []) knows.old.member.memory knows.new.member.memory did.posts) }
+    ensures ends { (asked : Asked) → GoesWith asked message → IfOk result (λ did. EndsAsked asked knows.old.leader knows.new.leader did.posts) }
     ensures target { IsTarget plan (S.state store.new) (S.durable store.new) knows.new }
     ensures stopped { TurnRuns result (S.state store.old) (S.state store.new) (S.durable store.old) (S.durable store.new) }
 {
@@ -228,6 +232,7 @@ pub(crate) fn hear_message<S: Store, C: Clock>(
         (S.durable store.new) (S.state store.new) (S.may store.new) (memory_of knows.new) result) }
     ensures posts { is_of_client message ≡ from.client → IfOk result (λ did. PostsInForm plan.targets knows.old.leader knows.new.leader did.posts) }
     ensures reads { IfOk result (λ did. AnswersOnce (message ∷ []) knows.old.member.memory knows.new.member.memory did.posts) }
+    ensures ends { (asked : Asked) → GoesWith asked message → IfOk result (λ did. EndsAsked asked knows.old.leader knows.new.leader did.posts) }
     ensures target { IsTarget plan (S.state store.new) (S.durable store.new) knows.new }
     ensures stopped { TurnRuns result (S.state store.old) (S.state store.new) (S.durable store.old) (S.durable store.new) }
     ensures clock { IsReadUpTo C.is_read (most_readings (has_epoch message)) clock.old clock.new }

@@ -1,5 +1,6 @@
 // A target of a run.
 ghost use Rattle.std.specs.Prelude.{◌≡◌, ◌≤◌, ◌<◌, ◌+◌, ◌^◌, ℕ, [], IfOk, IfErr, IfSome, IsSome, Some, is_ok, true, false, ◌∷◌};
+ghost use Rattle.world_ended.specs.Asking.{Asked, EndsAsked, GoesWith, LeavesWith};
 ghost use Rattle.world_letters.specs.kinds.PostLaws.{CarryNone};
 ghost use Rattle.world_letters.specs.kinds.Loads.{AnswersOnce};
 ghost use Rattle.std.specs.Option.{ForSome};
@@ -149,6 +150,7 @@ impl<S: Store, C: Clock> Target<S, C> {
         ensures unread { has_epoch message ≡ true → self.new.clock ≡ self.old.clock }
         ensures posts { is_of_client message ≡ from.client → IfOk result (λ did. PostsInForm self.old.plan.targets self.old.memory.leader self.new.memory.leader did.posts) }
         ensures reads { IfOk result (λ did. AnswersOnce (message ∷ []) self.old.memory.member self.new.memory.member did.posts) }
+        ensures ends { (asked : Asked) → GoesWith asked message → IfOk result (λ did. EndsAsked asked self.old.memory.leader self.new.memory.leader did.posts) }
     {
         let _number = number;
         let Target {
@@ -182,6 +184,7 @@ impl<S: Store, C: Clock> Target<S, C> {
         ensures silent { IsSilent result }
         ensures posts { IfOk result (λ did. PostsInForm self.old.plan.targets self.old.memory.leader self.new.memory.leader did.posts) }
         ensures reads { IfOk result (λ did. AnswersOnce [] self.old.memory.member self.new.memory.member did.posts) }
+        ensures ends { (asked : Asked) → IfOk result (λ did. EndsAsked asked self.old.memory.leader self.new.memory.leader did.posts) }
     {
         idle_work(
             self.alloc,
@@ -224,6 +227,7 @@ impl<S: Store, C: Clock> Target<S, C> {
         ensures native { IsSome (S.durable self.old.store) → says stop_foreign result ≡ false }
         ensures posts { IfOk result (λ did. Follows self.old.plan.targets self.new.memory.leader did.posts) }
         ensures reads { IfOk result (λ did. CarryNone did.posts) }
+        ensures ends { (asked : Asked) → IfOk result (λ did. LeavesWith asked self.new.memory.leader did.posts) }
         ensures fresh { is_ok result ≡ true → self.new.memory.member.parked ≡ [] }
         ensures line { IfOk result (TellsRestart number self.old.plan.me) }
         ensures opened { self.new.opened ≡ is_ok result }

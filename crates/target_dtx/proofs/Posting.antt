@@ -1,3 +1,5 @@
+use Rattle.world_ended.specs.Asking.{Asked, PostsGoWith}
+use Rattle.world_ended.specs.PostLaws.{inquiries-end}
 -- What is posted has its form.
 use Rattle.std.proofs.Common.{ℕ, ◌≡◌, Bool, true, false, [], ap, subst, sym, List, Result, Ok, Err}
 use Rattle.std.specs.Prelude.{IfOk}
@@ -15,6 +17,10 @@ use Rattle.world_contents.specs.posts.Posting.{goes-on, inquiries-are-in-form}
 -- the Queries of idle work
 pub inquired-posts : (targets : ℕ) (es : List Entry) (s new : MemberOf) (posts : List Post) → member_step new (record { posts = posts; again = [] }) ≡ inquired es s → TargetPosts targets posts
 inquired-posts targets es s new posts is = subst (TargetPosts targets) (sym (ap (λ z. z.freed.posts) is)) (inquiries-are-in-form targets es s)
+
+-- they end nothing
+pub inquired-end : (asked : Asked) (es : List Entry) (s new : MemberOf) (posts : List Post) → member_step new (record { posts = posts; again = [] }) ≡ inquired es s → PostsGoWith asked posts
+inquired-end asked es s new posts is = subst (PostsGoWith asked) (sym (ap (λ z. z.freed.posts) is)) (inquiries-end asked es s)
 
 -- they carry nothing of reads
 pub asks-carry-none : (settling : Bool) (es : List Entry) (s new : MemberOf) (posts : List Post) → member_step new (record { posts = posts; again = [] }) ≡ asks_if settling es s → CarryNone posts

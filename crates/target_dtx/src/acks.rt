@@ -1,5 +1,6 @@
 // A leader hears what members answer.
 ghost use Rattle.std.specs.Prelude.{◌≡◌, ◌==◌, [], if◌then◌else◌, IfOk, OnErr, OnOk, Some, true, false};
+ghost use Rattle.world_ended.specs.Asking.{AreRefusals, Asked, EndsAsked};
 ghost use Rattle.world_letters.specs.kinds.Loads.{AnswersOnce};
 ghost use Rattle.std.specs.Option.{ForSome};
 ghost use Rattle.base_types.specs.declared.entry.Settle.TheVariants as step;
@@ -133,6 +134,7 @@ pub fn hear_ack<S: Store>(
         (S.durable store.new) (S.state store.new) (S.may store.new) result }
     ensures posts { IfOk result (λ did. PostsInForm plan.targets knows.old.leader knows.new.leader did.posts) }
     ensures reads { IfOk result (λ did. AnswersOnce [] knows.old.member.memory knows.new.member.memory did.posts) }
+    ensures ends { (asked : Asked) → AreRefusals refusal.now → IfOk result (λ did. EndsAsked asked knows.old.leader knows.new.leader did.posts) }
     ensures target { IsTarget plan (S.state store.new) (S.durable store.new) knows.new }
     ensures stopped { TurnRuns result (S.state store.old) (S.state store.new) (S.durable store.old) (S.durable store.new) }
 {
@@ -223,6 +225,7 @@ pub fn hear_marked<S: Store>(
         (S.durable store.new) (S.state store.new) (S.may store.new) result }
     ensures posts { IfOk result (λ did. PostsInForm plan.targets knows.old.leader knows.new.leader did.posts) }
     ensures reads { IfOk result (λ did. AnswersOnce [] knows.old.member.memory knows.new.member.memory did.posts) }
+    ensures ends { (asked : Asked) → IfOk result (λ did. EndsAsked asked knows.old.leader knows.new.leader did.posts) }
     ensures target { IsTarget plan (S.state store.new) (S.durable store.new) knows.new }
     ensures stopped { TurnRuns result (S.state store.old) (S.state store.new) (S.durable store.old) (S.durable store.new) }
 {

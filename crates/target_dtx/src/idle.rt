@@ -1,5 +1,6 @@
 // A target does its idle work.
 ghost use Rattle.std.specs.Prelude.{◌≡◌, ℕ, [], IfOk, IfErr, OnOk, OnErr, Some, false};
+ghost use Rattle.world_ended.specs.Asking.{Asked, EndsAsked, PostsGoWith};
 ghost use Rattle.world_letters.specs.kinds.Loads.{AnswersOnce};
 ghost use Rattle.std.specs.Option.{ForSome};
 ghost use Rattle.daos_model.specs.declared.durable.Durable.{Durable};
@@ -61,6 +62,7 @@ fn inquiries(
     ensures wanting { IfErr result (λ stop. stop ≡ stop_memory) }
     ensures kept { OnErr result (member.new ≡ member.old) }
     ensures posts { (targets : ℕ) → IfOk result (λ posts. TargetPosts targets posts) }
+    ensures ends { (asked : Asked) → IfOk result (λ posts. PostsGoWith asked posts) }
 {
     if !settling {
         return Ok(Items::new(alloc));
@@ -100,6 +102,7 @@ fn tell<S: Store>(
     ensures silent { IsSilent result }
     ensures posts { IfOk result (λ did. PostsInForm plan.targets knows.old.leader knows.new.leader did.posts) }
     ensures reads { IfOk result (λ did. AnswersOnce [] knows.old.member.memory knows.new.member.memory did.posts) }
+    ensures ends { (asked : Asked) → IfOk result (λ did. EndsAsked asked knows.old.leader knows.new.leader did.posts) }
     ensures target { IsTarget plan (S.state store.now) (S.durable store.now) knows.new }
 {
     let seat = seat_of(plan, store);
@@ -130,6 +133,7 @@ pub fn idle_work<S: Store>(
         (S.durable store.new) (S.state store.new) (S.may store.new) result }
     ensures posts { IfOk result (λ did. PostsInForm plan.targets knows.old.leader knows.new.leader did.posts) }
     ensures reads { IfOk result (λ did. AnswersOnce [] knows.old.member.memory knows.new.member.memory did.posts) }
+    ensures ends { (asked : Asked) → IfOk result (λ did. EndsAsked asked knows.old.leader knows.new.leader did.posts) }
     ensures target { IsTarget plan (S.state store.new) (S.durable store.new) knows.new }
     ensures stopped { TurnRuns result (S.state store.old) (S.state store.new) (S.durable store.old) (S.durable store.new) }
 {

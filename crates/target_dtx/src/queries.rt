@@ -1,5 +1,6 @@
 // A leader hears a Query.
 ghost use Rattle.std.specs.Prelude.{◌≡◌, IfOk, Some, false};
+ghost use Rattle.world_ended.specs.Asking.{Asked, PostsGoWith};
 ghost use Rattle.world_letters.specs.kinds.PostLaws.{CarryNone};
 ghost use Rattle.daos_model.specs.declared.durable.Durable.{Durable};
 ghost use Rattle.vos_store.specs.Refusals.{says};
@@ -48,6 +49,7 @@ pub fn hear_query<S: Store>(
     ensures silent { IsSilent result }
     ensures posts { from.client ≡ false → IfOk result (λ did. TargetPosts plan.targets did.posts) }
     ensures reads { IfOk result (λ did. CarryNone did.posts) }
+    ensures ends { (asked : Asked) → IfOk result (λ did. PostsGoWith asked did.posts) }
 {
     let seat = seat_of(plan, store);
     let entries = knows.entries.of_attempt(attempt);

@@ -1,3 +1,6 @@
+use Rattle.world_ended.specs.Asking.{Asked, EndsAsked, PostsGoWith}
+use Rattle.world_ended.specs.PostLaws.{queries-end, verdicts-end}
+use Rattle.world_ended.specs.PostLaws.{one-posted as one-ends, waits-on as ends-on}
 -- What is posted has its form.
 use Rattle.std.proofs.Common.{ℕ, ◌≡◌, ◌∙◌, ap, refl, subst, sym, true, Option, Result, Ok, Err}
 use Rattle.std.specs.Prelude.{IfOk}
@@ -49,3 +52,21 @@ served-posts t q from e s old n left (Err stop) client same told = told
 -- what a Verdict frees
 pub freed-posts : (targets : ℕ) (a : AttemptId) (ask : Option AttemptId) (v : Verdict) (old new : MemberOf) (freed : Freed) → member_step new freed ≡ verdict_heard a ask v old → TargetPosts targets freed.posts
 freed-posts targets a ask v old new freed is = subst (λ (x : Freed). TargetPosts targets x.posts) (sym (ap (λ s. s.freed) is)) (verdicts-post-in-form targets a ask v old)
+
+-- ---- and ends no attempt as committed
+
+served-end : (asked : Asked) (t : TargetPlan) (q : FetchRequest) (from : ActorId) (e : Epoch) (s : Served) (n : TargetMemory) → PostsGoWith asked (told_of t q from e s n).1.posts
+served-end asked t q from e (served.Answer b) n = one-ends asked _ tt
+served-end asked t q from e (served.Refused c) n = one-ends asked _ refl
+served-end asked t q from e (served.Unresolved a) n = one-ends asked _ refl
+served-end asked t q from e (served.Waits a leader) n = queries-end asked (fetch_at q e) a leader
+
+pub served-ends : (asked : Asked) (t : TargetPlan) (q : FetchRequest) (from : ActorId) (e : Epoch) (s : Served) (old : LeaderMemory) (n left : TargetMemory) (result : Result Did TargetStop) → n.leader.undecided ≡ old.undecided
+    → IfOk result (λ did. (left, did) ≡ told_of t q from e s n) → IfOk result (λ did. EndsAsked asked old left.leader did.posts)
+served-ends asked t q from e s old n left (Ok did) same told =
+    subst (λ (x : TargetMemory × Did). EndsAsked asked old x.0.leader x.1.posts) (sym told)
+    (ends-on asked old (told_of t q from e s n).0.leader (told_of t q from e s n).1.posts (ap (λ m. m.undecided) (served-waits t q from e s n) ∙ same) (served-end asked t q from e s n))
+served-ends asked t q from e s old n left (Err stop) same told = told
+
+pub freed-end : (asked : Asked) (a : AttemptId) (ask : Option AttemptId) (v : Verdict) (old new : MemberOf) (freed : Freed) → member_step new freed ≡ verdict_heard a ask v old → PostsGoWith asked freed.posts
+freed-end asked a ask v old new freed is = subst (λ (x : Freed). PostsGoWith asked x.posts) (sym (ap (λ s. s.freed) is)) (verdicts-end asked a ask v old)

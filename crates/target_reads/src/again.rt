@@ -1,5 +1,6 @@
 // A target hears a Verdict, and tries those Fetches again that waited for it.
 ghost use Rattle.std.specs.Prelude.{◌≡◌, ◌∷◌, ℕ, [], IfOk, OnOk, Option, Some, is_some, true, false};
+ghost use Rattle.world_ended.specs.Asking.{Asked, EndsAsked, PostsGoWith};
 ghost use Rattle.std.specs.Option.{ForSome};
 ghost use Rattle.base_types.specs.declared.entry.Verdict.{Verdict as VerdictOf};
 ghost use Rattle.base_types.specs.declared.id.AttemptId.{AttemptId as Attempt};
@@ -90,6 +91,7 @@ fn hear_again<S: Store>(
         (S.durable store.new) (S.state store.new) (S.may store.new) (memory_of knows.new) result }
     ensures posts { IfOk result (λ did. PostsInForm plan.targets knows.old.leader knows.new.leader did.posts) }
     ensures reads { IfOk result (λ did. AnswersOnce (ask ∷ []) knows.old.member.memory knows.new.member.memory did.posts) }
+    ensures ends { (asked : Asked) → IfOk result (λ did. EndsAsked asked knows.old.leader knows.new.leader did.posts) }
     ensures target { IsTarget plan (S.state store.new) (S.durable store.new) knows.new }
     ensures stopped { TurnRuns result (S.state store.old) (S.state store.new) (S.durable store.old) (S.durable store.new) }
 {
@@ -111,6 +113,7 @@ fn try_again<S: Store>(
     requires target { IsTarget plan (S.state store.old) (S.durable store.old) knows.old }
     requires running { (S.state store.old).stopped ≡ false }
     requires sent { TargetPosts plan.targets posts }
+    requires freed { (asked : Asked) → PostsGoWith asked posts }
     requires parkable { AreParkable asks }
     requires here { ForSome (S.durable store.old) (AreHere asks) }
     ensures turn { (d : Durable) → S.durable store.old ≡ Some d → (m : TargetMemory) (reading : ℕ) (a : Attempt) (ask : Option Attempt) (v : VerdictOf)
@@ -118,6 +121,7 @@ fn try_again<S: Store>(
         (S.durable store.new) (S.state store.new) (S.may store.new) (memory_of knows.new) result }
     ensures posts { IfOk result (λ did. PostsInForm plan.targets knows.old.leader knows.new.leader did.posts) }
     ensures reads { IfOk result (λ did. TriesOnce asks posts knows.old.member.memory knows.new.member.memory did.posts) }
+    ensures ends { (asked : Asked) → IfOk result (λ did. EndsAsked asked knows.old.leader knows.new.leader did.posts) }
     ensures target { IsTarget plan (S.state store.new) (S.durable store.new) knows.new }
     ensures stopped { TurnRuns result (S.state store.old) (S.state store.new) (S.durable store.old) (S.durable store.new) }
 {
@@ -174,6 +178,7 @@ pub fn hear_verdict<S: Store>(
         (S.durable store.new) (S.state store.new) (S.may store.new) (memory_of knows.new) result }
     ensures posts { IfOk result (λ did. PostsInForm plan.targets knows.old.leader knows.new.leader did.posts) }
     ensures reads { IfOk result (λ did. AnswersOnce [] knows.old.member.memory knows.new.member.memory did.posts) }
+    ensures ends { (asked : Asked) → IfOk result (λ did. EndsAsked asked knows.old.leader knows.new.leader did.posts) }
     ensures target { IsTarget plan (S.state store.new) (S.durable store.new) knows.new }
     ensures stopped { TurnRuns result (S.state store.old) (S.state store.new) (S.durable store.old) (S.durable store.new) }
 {

@@ -1,5 +1,6 @@
 // A target hears a Fetch: whole turns.
 ghost use Rattle.std.specs.Prelude.{◌≡◌, ◌/◌, ◌≤◌, ◌∷◌, ℕ, [], IfOk, IfErr, IfSome, OnOk, Some, None, is_some, true, false};
+ghost use Rattle.world_ended.specs.Asking.{Asked, EndsAsked};
 ghost use Rattle.std.specs.Option.{ForSome};
 ghost use Rattle.base_types.specs.Operations.{read_path};
 ghost use Rattle.daos_model.specs.declared.durable.Durable.{Durable};
@@ -137,6 +138,7 @@ fn read_at<S: Store>(
         (S.durable store.new) (S.state store.new) (S.may store.new) (memory_of knows.new) result }
     ensures posts { from.client ≡ true → IfOk result (λ did. PostsInForm plan.targets knows.old.leader knows.new.leader did.posts) }
     ensures reads { IfOk result (λ did. AnswersOnce (fetch_message request.now ∷ []) knows.old.member.memory knows.new.member.memory did.posts) }
+    ensures ends { (wanted : Asked) → IfOk result (λ did. EndsAsked wanted knows.old.leader knows.new.leader did.posts) }
     ensures target { IsTarget plan (S.state store.new) (S.durable store.new) knows.new }
     ensures stopped { TurnRuns result (S.state store.old) (S.state store.new) (S.durable store.old) (S.durable store.new) }
 {
@@ -174,6 +176,7 @@ pub fn hear_known<S: Store>(
         (S.durable store.new) (S.state store.new) (S.may store.new) (memory_of knows.new) result }
     ensures posts { from.client ≡ true → IfOk result (λ did. PostsInForm plan.targets knows.old.leader knows.new.leader did.posts) }
     ensures reads { IfOk result (λ did. AnswersOnce (fetch_message request.now ∷ []) knows.old.member.memory knows.new.member.memory did.posts) }
+    ensures ends { (wanted : Asked) → IfOk result (λ did. EndsAsked wanted knows.old.leader knows.new.leader did.posts) }
     ensures target { IsTarget plan (S.state store.new) (S.durable store.new) knows.new }
     ensures stopped { TurnRuns result (S.state store.old) (S.state store.new) (S.durable store.old) (S.durable store.new) }
 {
@@ -206,6 +209,7 @@ fn hear_new<S: Store, C: Clock>(
         (S.durable store.new) (S.state store.new) (S.may store.new) (memory_of knows.new) result) }
     ensures posts { from.client ≡ true → IfOk result (λ did. PostsInForm plan.targets knows.old.leader knows.new.leader did.posts) }
     ensures reads { IfOk result (λ did. AnswersOnce (fetch_message request.now ∷ []) knows.old.member.memory knows.new.member.memory did.posts) }
+    ensures ends { (wanted : Asked) → IfOk result (λ did. EndsAsked wanted knows.old.leader knows.new.leader did.posts) }
     ensures target { IsTarget plan (S.state store.new) (S.durable store.new) knows.new }
     ensures stopped { TurnRuns result (S.state store.old) (S.state store.new) (S.durable store.old) (S.durable store.new) }
     ensures clock { IsReadUpTo C.is_read (most_readings (is_some request.now.ep)) clock.old clock.new }
@@ -243,6 +247,7 @@ pub fn hear_fetch<S: Store, C: Clock>(
         (S.durable store.new) (S.state store.new) (S.may store.new) (memory_of knows.new) result) }
     ensures posts { from.client ≡ true → IfOk result (λ did. PostsInForm plan.targets knows.old.leader knows.new.leader did.posts) }
     ensures reads { IfOk result (λ did. AnswersOnce (fetch_message request.now ∷ []) knows.old.member.memory knows.new.member.memory did.posts) }
+    ensures ends { (wanted : Asked) → IfOk result (λ did. EndsAsked wanted knows.old.leader knows.new.leader did.posts) }
     ensures target { IsTarget plan (S.state store.new) (S.durable store.new) knows.new }
     ensures stopped { TurnRuns result (S.state store.old) (S.state store.new) (S.durable store.old) (S.durable store.new) }
     ensures clock { IsReadUpTo C.is_read (most_readings (is_some request.now.ep)) clock.old clock.new }

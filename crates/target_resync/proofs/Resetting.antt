@@ -1,3 +1,6 @@
+use Rattle.world_ended.specs.Asking.{Asked, EndsAsked, PostsGoWith}
+use Rattle.world_ended.specs.PostLaws.{reset-members-end, resets-end}
+use Rattle.world_ended.specs.TurnLaws.{and-more as ends-more, sent-by as ends-by}
 -- What a Reset comes to.
 use Rattle.std.proofs.Common.{ℕ, ◌≡◌, ◌∙◌, refl, sym, ap, subst, Bool, true, false, List, [], ◌∷◌, ◌++◌, Option, Some, None}
 use Rattle.std.specs.Prelude.{◌==◌, if◌then◌else◌}
@@ -142,3 +145,12 @@ reset-posts targets by down asked l n posts s joined freed all sent came-so join
     subst (PostsInForm targets l.memory n) (sym (is ∙ told))
     (and-more targets l.memory n posts freed.posts (posted-by targets (reset_heard by down asked l) l.memory n n posts posts (resets-post-in-form targets by down asked l) came-so refl refl)
     (subst (TargetPosts targets) (sym (ap (λ (x : MemberStep). x.freed.posts) joined-so)) (reset-members-post-in-form targets down asked s)))
+
+-- and ends as committed only what was asked
+pub reset-ends : (asked : Asked) (by : ℕ) (down : Bool) (lost : Message) (l : LeaderOf) (n : LeaderMemory) (posts : List Post) (s joined : MemberOf) (freed : Freed) (all sent : List Post)
+    → ◌≡◌ {A = LeaderMemory × List Post} (n, posts) (came (reset_heard by down lost l)) → member_step joined freed ≡ member.reset_heard down lost s → all ≡ posts ++ freed.posts → sent ≡ all
+    → EndsAsked asked l.memory n sent
+reset-ends asked by down lost l n posts s joined freed all sent came-so joined-so told is =
+    subst (EndsAsked asked l.memory n) (sym (is ∙ told))
+    (ends-more asked l.memory n posts freed.posts (ends-by asked (reset_heard by down lost l) l.memory n n posts posts (resets-end asked by down lost l) came-so refl refl)
+    (subst (PostsGoWith asked) (sym (ap (λ (x : MemberStep). x.freed.posts) joined-so)) (reset-members-end asked down lost s)))

@@ -1,5 +1,6 @@
 // A leader hears an Ask.
 ghost use Rattle.std.specs.Prelude.{◌≡◌, IfOk, Some, true, false, []};
+ghost use Rattle.world_ended.specs.Asking.{Asked, EndsAsked};
 ghost use Rattle.world_letters.specs.kinds.Loads.{AnswersOnce};
 ghost use Rattle.daos_model.specs.declared.durable.Durable.{Durable};
 ghost use Rattle.vos_store.specs.Refusals.{says};
@@ -46,6 +47,7 @@ pub fn hear_ask<S: Store>(
     ensures silent { IsSilent result }
     ensures posts { from.client ≡ true → IfOk result (λ did. PostsInForm plan.targets knows.old.leader knows.new.leader did.posts) }
     ensures reads { IfOk result (λ did. AnswersOnce [] knows.old.member.memory knows.new.member.memory did.posts) }
+    ensures ends { (asked : Asked) → asked attempt ≡ true → IfOk result (λ did. EndsAsked asked knows.old.leader knows.new.leader did.posts) }
     ensures target { IsTarget plan (S.state store.now) (S.durable store.now) knows.new }
 {
     let seat = seat_of(plan, store);

@@ -1,5 +1,6 @@
 // A target opens again.
 ghost use Rattle.std.specs.Prelude.{◌≡◌, ◌≤◌, ◌<◌, ◌+◌, ◌^◌, ◌⊎◌, IfOk, IfErr, IsSome, Some, false, []};
+ghost use Rattle.world_ended.specs.Asking.{Asked, LeavesWith};
 ghost use Rattle.world_letters.specs.kinds.PostLaws.{CarryNone};
 ghost use Rattle.std.specs.Option.{ForSome};
 ghost use Rattle.base_types.specs.Epochs.{restart_floor};
@@ -98,6 +99,7 @@ pub fn restart<S: Store>(
     ensures native { IsSome (S.durable store.old) → says stop_foreign result ≡ false }
     ensures posts { IfOk result (λ o. Follows plan.targets o.knows.leader o.did.posts) }
     ensures reads { IfOk result (λ o. CarryNone o.did.posts) }
+    ensures ends { (asked : Asked) → IfOk result (λ o. LeavesWith asked o.knows.leader o.did.posts) }
     ensures fresh { IfOk result (λ o. o.knows.member.memory.parked ≡ []) }
     ensures line { IfOk result (λ o. TellsRestart number plan.me o.did) }
     ensures target { IfOk result (λ o. IsTarget plan (S.state store.new) (S.durable store.new) o.knows) }

@@ -1,5 +1,6 @@
 // A target hears a Status, and a leader what members answer to it.
 ghost use Rattle.std.specs.Prelude.{◌≡◌, IfOk, Some, false, []};
+ghost use Rattle.world_ended.specs.Asking.{Asked, EndsAsked, PostsGoWith};
 ghost use Rattle.world_letters.specs.kinds.PostLaws.{CarryNone};
 ghost use Rattle.world_letters.specs.kinds.Loads.{AnswersOnce};
 ghost use Rattle.daos_model.specs.declared.durable.Durable.{Durable};
@@ -52,6 +53,7 @@ pub fn hear_status<S: Store>(
     ensures silent { IsSilent result }
     ensures posts { from.client ≡ false → IfOk result (λ did. TargetPosts plan.targets did.posts) }
     ensures reads { IfOk result (λ did. CarryNone did.posts) }
+    ensures ends { (asked : Asked) → IfOk result (λ did. PostsGoWith asked did.posts) }
 {
     let _plan = plan;
     let _store = store;
@@ -87,6 +89,7 @@ pub fn hear_status_is<S: Store>(
         (S.durable store.new) (S.state store.new) (S.may store.new) result }
     ensures posts { IfOk result (λ did. PostsInForm plan.targets knows.old.leader knows.new.leader did.posts) }
     ensures reads { IfOk result (λ did. AnswersOnce [] knows.old.member.memory knows.new.member.memory did.posts) }
+    ensures ends { (asked : Asked) → IfOk result (λ did. EndsAsked asked knows.old.leader knows.new.leader did.posts) }
     ensures target { IsTarget plan (S.state store.new) (S.durable store.new) knows.new }
     ensures stopped { TurnRuns result (S.state store.old) (S.state store.new) (S.durable store.old) (S.durable store.new) }
 {

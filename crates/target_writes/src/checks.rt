@@ -1,5 +1,6 @@
 // A target checks writes, and stores them.
 ghost use Rattle.std.specs.Prelude.{◌≡◌, ◌/◌, ◌≤◌, ◌<◌, All, List, Option, IfOk, OnErr, Some, None, true, false, vec_len, vec_capacity};
+ghost use Rattle.world_ended.specs.Asking.{AreRefusals};
 ghost use Rattle.std.specs.Option.{ForSome};
 ghost use Rattle.base_types.specs.declared.epoch.Epoch.{Epoch as EpochOf};
 ghost use Rattle.base_types.specs.declared.outcome.Outcome.TheVariants as outcome;
@@ -104,6 +105,7 @@ fn store_writes<S: Store>(
         → IsAllowed plan (S.state store.old).opening first entry.now.epoch d stamps writes.now
         → PreparesOrNot plan (S.state store.old).opening first stamps entry.now writes.now d (S.state store.old) (S.durable store.new) (S.state store.new) (S.may store.new) result }
     ensures entries { IfOk result (λ how. entries.new.items ≡ entries_then entry.now how entries.old.items) }
+    ensures refused { IfOk result AreRefusals }
     ensures kept { OnErr result (entries.new.items ≡ entries.old.items) }
 {
     let need = blocks(writes);
@@ -145,6 +147,7 @@ pub fn prepare<S: Store>(
     ensures prepared { (d : Durable) → S.durable store.old ≡ Some d
         → PreparesOrNot plan (S.state store.old).opening first knows.old.stamps.reads entry.now writes.now d (S.state store.old) (S.durable store.new) (S.state store.new) (S.may store.new) result }
     ensures leader { knows.new.leader ≡ knows.old.leader }
+    ensures refused { IfOk result AreRefusals }
     ensures keeps { Keeps plan halt_stop result (S.state store.old) (S.state store.new) (S.durable store.old) (S.durable store.new) knows.old knows.new }
 {
     match refusal(store, &knows.stamps, plan, first, entry.epoch, writes)? {

@@ -1,5 +1,6 @@
 // A target hears a Commit: whole turns.
 ghost use Rattle.std.specs.Prelude.{◌≡◌, ◌/◌, ◌<◌, ◌≤◌, ℕ, IfOk, IfErr, IfSome, Some, None, is_some, true, false, []};
+ghost use Rattle.world_ended.specs.Asking.{Asked, EndsAsked};
 ghost use Rattle.world_letters.specs.kinds.Loads.{AnswersOnce};
 ghost use Rattle.std.specs.Option.{ForSome};
 ghost use Rattle.base_messages.specs.declared.message.Message.TheVariants as message;
@@ -94,6 +95,7 @@ fn begin<S: Store>(
     ensures silent { IsSilent result }
     ensures posts { plan.me < plan.targets → from.client ≡ true → IfOk result (λ did. PostsInForm plan.targets knows.old.leader knows.new.leader did.posts) }
     ensures reads { IfOk result (λ did. AnswersOnce [] knows.old.member.memory knows.new.member.memory did.posts) }
+    ensures ends { (wanted : Asked) → wanted request.now.attempt ≡ true → IfOk result (λ did. EndsAsked wanted knows.old.leader knows.new.leader did.posts) }
     ensures target { IsTarget plan (S.state store.now) (S.durable store.now) knows.new }
 {
     let seat = seat_of(plan, store);
@@ -122,6 +124,7 @@ fn commit_at<S: Store>(
         (S.durable store.new) (S.state store.new) (S.may store.new) (memory_of knows.new) result }
     ensures posts { from.client ≡ true → IfOk result (λ did. PostsInForm plan.targets knows.old.leader knows.new.leader did.posts) }
     ensures reads { IfOk result (λ did. AnswersOnce [] knows.old.member.memory knows.new.member.memory did.posts) }
+    ensures ends { (wanted : Asked) → wanted request.now.attempt ≡ true → IfOk result (λ did. EndsAsked wanted knows.old.leader knows.new.leader did.posts) }
     ensures target { IsTarget plan (S.state store.new) (S.durable store.new) knows.new }
     ensures stopped { TurnRuns result (S.state store.old) (S.state store.new) (S.durable store.old) (S.durable store.new) }
 {
@@ -165,6 +168,7 @@ pub fn hear_commit<S: Store, C: Clock>(
         (S.durable store.new) (S.state store.new) (S.may store.new) (memory_of knows.new) result) }
     ensures posts { from.client ≡ true → IfOk result (λ did. PostsInForm plan.targets knows.old.leader knows.new.leader did.posts) }
     ensures reads { IfOk result (λ did. AnswersOnce [] knows.old.member.memory knows.new.member.memory did.posts) }
+    ensures ends { (wanted : Asked) → wanted request.now.attempt ≡ true → IfOk result (λ did. EndsAsked wanted knows.old.leader knows.new.leader did.posts) }
     ensures target { IsTarget plan (S.state store.new) (S.durable store.new) knows.new }
     ensures stopped { TurnRuns result (S.state store.old) (S.state store.new) (S.durable store.old) (S.durable store.new) }
     ensures clock { IsReadUpTo C.is_read (most_readings (is_some request.now.ep)) clock.old clock.new }

@@ -1,5 +1,6 @@
 // A target hears a Prepare: whole turns.
 ghost use Rattle.std.specs.Prelude.{◌≡◌, ◌/◌, ◌≤◌, IfOk, IfErr, Some, false, []};
+ghost use Rattle.world_ended.specs.Asking.{Asked, EndsAsked};
 ghost use Rattle.world_letters.specs.kinds.Loads.{AnswersOnce};
 ghost use Rattle.std.specs.Option.{ForSome};
 ghost use Rattle.daos_model.specs.declared.durable.Durable.{Durable};
@@ -70,6 +71,7 @@ fn prepare_at<S: Store>(
         (S.durable store.new) (S.state store.new) (S.may store.new) (memory_of knows.new) result }
     ensures posts { IfOk result (λ did. PostsInForm plan.targets knows.old.leader knows.new.leader did.posts) }
     ensures reads { IfOk result (λ did. AnswersOnce [] knows.old.member.memory knows.new.member.memory did.posts) }
+    ensures ends { (asked : Asked) → IfOk result (λ did. EndsAsked asked knows.old.leader knows.new.leader did.posts) }
     ensures target { IsTarget plan (S.state store.new) (S.durable store.new) knows.new }
     ensures stopped { TurnRuns result (S.state store.old) (S.state store.new) (S.durable store.old) (S.durable store.new) }
 {
@@ -102,6 +104,7 @@ pub fn hear_prepare<S: Store>(
         (S.durable store.new) (S.state store.new) (S.may store.new) (memory_of knows.new) result }
     ensures posts { IfOk result (λ did. PostsInForm plan.targets knows.old.leader knows.new.leader did.posts) }
     ensures reads { IfOk result (λ did. AnswersOnce [] knows.old.member.memory knows.new.member.memory did.posts) }
+    ensures ends { (asked : Asked) → IfOk result (λ did. EndsAsked asked knows.old.leader knows.new.leader did.posts) }
     ensures target { IsTarget plan (S.state store.new) (S.durable store.new) knows.new }
     ensures stopped { TurnRuns result (S.state store.old) (S.state store.new) (S.durable store.old) (S.durable store.new) }
 {

@@ -40,8 +40,3 @@ pub record AnswersGoOn {S C : Type 0} (r : Rules) (a : StageNow S C) : Type 0 wh
   pub in_turn : TellInTurn r a
   pub clients : (n : ℕ) (c : ClientNow) → slice_get a.clients n ≡ Some c → IsFittingClient (client_plan r n) c.state (loads_of a)
   pub lines : AllAnswersFit r.script a.between.lines
-
--- What turns keep of what lines tell: from one moment to another they tell in turn, and what they tell fits.
-pub record TellsOn {S C : Type 0} (r : Rules) (a b : StageNow S C) : Type 0 where
-  pub in_turn : TellInTurn r a → TellInTurn r b
-  pub answers : AnswersGoOn r a → AnswersGoOn r b

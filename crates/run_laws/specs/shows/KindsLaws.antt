@@ -23,8 +23,8 @@ use Rattle.dtx_base.specs.declared.member.MemberMemory.{MemberMemory}
 use Rattle.run_base.specs.Letters.{BetweenNow, IsPicked}
 use Rattle.run_base.specs.Sweeps.{is_left_by, is_lost_by}
 use Rattle.run_laws.specs.shows.InTurn.{TellInTurn}
-use Rattle.run_laws.specs.shows.InTurnLaws.{client-tells, line-alone, one-line, quietly, target-tells, turned-lines}
-use Rattle.run_laws.specs.shows.Kinds.{AnswersGoOn, TellsOn, TurnsOnce, loads_of, waiting_load, waiting_loads}
+use Rattle.run_laws.specs.shows.InTurnLaws.{client-tells, line-alone, one-line, quietly, turned-lines}
+use Rattle.run_laws.specs.shows.Kinds.{AnswersGoOn, TurnsOnce, loads_of, waiting_load, waiting_loads}
 use Rattle.run_laws.specs.shows.Stages.{IsPlace, StageNow}
 use Rattle.run_laws.specs.shows.Steps.{ClientTurned, ClientWorks, Cut, HeardOne, NotOpened, Opened, OpeningEnds, Reopened, TargetTurned, WentOn, Whole, WorkEnds, Worked}
 use Rattle.run_laws.specs.shows.Turned.{AfterFailure, AfterStop, ByForeign, ByHearing, ByIdling, ByStop, Failed, IsTurned, LastTime, NotFailed, failed_stage, followed, given_up_stage, stopped_stage, swept_between, swept_stage, with_between, with_client_at, with_target_at}
@@ -70,10 +70,12 @@ ops-of : (o : Option (List Command)) (n : ℕ) → ops_or_none (slice_get (numbe
 ops-of None n = refl
 ops-of (Some list) n = refl
 
-fits-script : (r : Rules) (n : ℕ) (a : Attempt) → IsFittingOf (client_plan r n) a → AnswersFit r.script a
+pub script-ops : (r : Rules) (n : ℕ) (a : Attempt) → a.id.client ≡ n → ops_numbered (client_plan r n) a.id.command ≡ attempt_ops r.script a.id
 unfolding command_of
-fits-script r n a k =
-    subst (λ ops. AreOfOps ops a.conds a.gots) (ops-of (slice_get r.script.clients n) a.id.command ∙ ap (λ m. ops_or_none (numbered_at a.id.command (slice_get r.script.clients m))) (sym k.own)) k.fits
+script-ops r n a own = ops-of (slice_get r.script.clients n) a.id.command ∙ ap (λ m. ops_or_none (numbered_at a.id.command (slice_get r.script.clients m))) (sym own)
+
+fits-script : (r : Rules) (n : ℕ) (a : Attempt) → IsFittingOf (client_plan r n) a → AnswersFit r.script a
+fits-script r n a k = subst (λ ops. AreOfOps ops a.conds a.gots) (script-ops r n a k.own) k.fits
 
 all-fit-script : (r : Rules) (n : ℕ) (as' : List Attempt) → All (IsFittingOf (client_plan r n)) as' → All (AnswersFit r.script) as'
 all-fit-script r n as' k = All-weaker (IsFittingOf (client_plan r n)) (AnswersFit r.script) (fits-script r n) as' k
@@ -148,7 +150,7 @@ module _ {S C : Type 0} (r : Rules) (n : ℕ) (c d : ClientNow) (did : Did) (lef
       it-is m x same at = set-is a.clients n d x (subst (λ q. slice_get (slice_set a.clients n d) q ≡ Some x) same at)
 
 -- a letter that was picked went about before
-picked-load : {S C : Type 0} (a : StageNow S C) (to : ActorId) (number : ℕ) (l : Letter) (rest : List Letter) (left : BetweenNow) → IsPicked a.between.messages to number l rest → left ≡ record a.between { messages = rest } → (x : AttemptId) (s : Read)
+pub picked-load : {S C : Type 0} (a : StageNow S C) (to : ActorId) (number : ℕ) (l : Letter) (rest : List Letter) (left : BetweenNow) → IsPicked a.between.messages to number l rest → left ≡ record a.between { messages = rest } → (x : AttemptId) (s : Read)
     → loads_of a x s ≡ load x s l.message + loads_of (with_between left a) x s
 picked-load a to number l rest left k is x s =
     let split = ap (total (letter_load x s)) k.among ∙ total-split (letter_load x s) k.before k.after l in
@@ -254,7 +256,7 @@ given-up-loads t a x s =
 less-then : (u v w : Loads) → AreLess u v → AreLess v w → AreLess u w
 less-then u v w first then' x r = let a = first x r in let b = then' x r in omega (arith, a, b)
 
-fault-lives : (t n : ℕ) (w : WatchNow) → (after_fault t n w).lives ≡ w.lives
+pub fault-lives : (t n : ℕ) (w : WatchNow) → (after_fault t n w).lives ≡ w.lives
 fault-lives t n w = by (n == 8)
   where
     by : (b : Bool) → (if b then w else record w { faults = slice_set w.faults t (n + 1) }).lives ≡ w.lives
@@ -392,18 +394,3 @@ idle-once b left before after (Ok did) is once = λ x r.
     let turn = once x r in
     omega (arith, same, turn)
 idle-once b left before after (Err e) is once = once
-
--- ---- what turns keep
-
-pub tells-none : {S C : Type 0} (r : Rules) (a : StageNow S C) → TellsOn r a a
-tells-none r a = record { in_turn = λ k. k; answers = λ k. k }
-
-pub tells-then : {S C : Type 0} (r : Rules) (a b c : StageNow S C) → TellsOn r a b → TellsOn r b c → TellsOn r a c
-tells-then r a b c k l = record { in_turn = λ t. l.in_turn (k.in_turn t); answers = λ t. l.answers (k.answers t) }
-
-pub client-tells-on : {S C : Type 0} (r : Rules) (n number : ℕ) (a b : StageNow S C) → ClientTurned n number a b → TellsOn r a b
-client-tells-on r n number a b k = record { in_turn = client-tells r n number a b k; answers = client-goes-on r n number a b k }
-
-pub target-tells-on : {S C : Type 0} (durable : S → Option Durable) (state : S → State) (may : S → Durable → Type 0) (r : Rules) (a b : StageNow S C) (t : ℕ) (is_read : C → C → Type 0) (settling : Bool) (number : ℕ)
-    → TargetTurned durable state may is_read settling t number a b → TellsOn r a b
-target-tells-on durable state may r a b t is_read settling number k = record { in_turn = target-tells durable state may r a b t is_read settling number k; answers = target-goes-on durable state may r a b t is_read settling number k }

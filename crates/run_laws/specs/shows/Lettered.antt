@@ -1,5 +1,5 @@
 -- Letters stay in form, whatever becomes of them.
-use Rattle.std.specs.Prelude.{ℕ, ◌≡◌, ◌≤◌, ◌<◌, ◌+◌, ◌++◌, ◌==◌, ◌&&◌, not, true, false, Bool, List, [], ◌∷◌, filter, length, map, slice_get, Contains, Option, Some, None, refl, if◌then◌else◌}
+use Rattle.std.specs.Prelude.{ℕ, ◌≡◌, ◌⊎◌, ◌≤◌, ◌<◌, ◌+◌, ◌++◌, ◌==◌, ◌&&◌, not, true, false, Bool, List, [], ◌∷◌, filter, length, map, slice_get, Contains, Option, Some, None, refl, if◌then◌else◌}
 use Rattle.std.proofs.Common.{drop, inl, inr, suc, take, zero, sym, ◌∙◌, ap, subst, arith}
 use Rattle.std.proofs.lemmas.Bool.Decides.{nat_tests}
 use Rattle.std.proofs.lemmas.Option.{slice_get_within}
@@ -31,6 +31,22 @@ has-drop zero xs l i = i
 has-drop (suc n) [] l i = i
 has-drop (suc n) (x ∷ xs) l i = inr (has-drop n xs l i)
 
+first-left : (p : Letter → Bool) (xs : List Letter) (l : Letter) → Has l (before_first p xs ++ after_first p xs) → Has l xs
+first-left p xs l i = elim (has-cases (before_first p xs) (after_first p xs) l i) [ inl j ↦ has-take (position_or_len p xs) xs l j | inr j ↦ has-drop (position_or_len p xs + 1) xs l j ]
+
+-- a letter without an answer was so before, or is sent
+pub has-asked : (asked ls : List Letter) (l : Letter) → Has l (asked_after asked ls) → Has l asked ⊎ Has l ls
+unfolding asked_with
+has-asked asked [] l i = inl i
+has-asked asked (m ∷ ls) l i = elim (has-asked (asked_with asked m) ls l i) [ inl j ↦ one j | inr j ↦ inr (inr j) ]
+  where
+    one : Has l (asked_with asked m) → Has l asked ⊎ Has l (m ∷ ls)
+    one j = by (is_answerable m.message) j
+      where
+        by : (b : Bool) → Has l (if b then asked ++ m ∷ [] else before_first (is_answer_to m) asked ++ after_first (is_answer_to m) asked) → Has l asked ⊎ Has l (m ∷ ls)
+        by true k = elim (has-cases asked (m ∷ []) l k) [ inl old ↦ inl old | inr new ↦ inr (elim new [ inl same ↦ inl same | inr none ↦ absurd none ]) ]
+        by false k = inl (first-left (is_answer_to m) asked l k)
+
 module _ (plans : ℕ → TargetPlan) where
   -- all of some letters have form
   abbrev pub InForm : List Letter → Type 0
@@ -46,9 +62,6 @@ module _ (plans : ℕ → TargetPlan) where
   sent from posts k l i = let q = has-from_map (letter_of from) posts l i in subst (IsLetter plans) q.2 (k q.0 q.1)
 
   -- ---- without an answer
-
-  first-left : (p : Letter → Bool) (xs : List Letter) (l : Letter) → Has l (before_first p xs ++ after_first p xs) → Has l xs
-  first-left p xs l i = elim (has-cases (before_first p xs) (after_first p xs) l i) [ inl j ↦ has-take (position_or_len p xs) xs l j | inr j ↦ has-drop (position_or_len p xs + 1) xs l j ]
 
   with-one : (asked : List Letter) (l : Letter) → InForm asked → IsLetter plans l → InForm (asked_with asked l)
   unfolding asked_with

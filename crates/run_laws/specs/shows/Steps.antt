@@ -5,6 +5,7 @@ use Rattle.client_core.specs.Clients.{ClientNow}
 use Rattle.daos_model.specs.declared.durable.Durable.{Durable}
 use Rattle.run_base.specs.Letters.{BetweenNow, IsPicked}
 use Rattle.run_base.specs.Picks.{count_to, heard_awake}
+use Rattle.run_laws.specs.shows.Ends.{LettersGoWith}
 use Rattle.run_laws.specs.shows.Kinds.{TurnsOnce}
 use Rattle.run_laws.specs.shows.Openings.{AfterOpening, HasFuse}
 use Rattle.run_laws.specs.shows.Stages.{IsPlace, StageNow}
@@ -23,6 +24,7 @@ use Rattle.world_base.specs.declared.letter.Letter.{Letter}
 use Rattle.world_base.specs.declared.target.Life.TheVariants.{Running, Stopped}
 use Rattle.world_base.specs.ClientTurns.{HearTurn, NextTurn}
 use Rattle.world_base.specs.Letters.{client, target}
+use Rattle.world_ended.specs.Asking.{Asked, EndsAsked, LeavesWith}
 use Rattle.world_letters.specs.kinds.PostLaws.{CarryNone}
 use Rattle.world_contents.specs.posts.Forms.{Follows, PostsInForm}
 
@@ -74,6 +76,7 @@ module _ {S C : Type 0} (durable : S → Option Durable) (state : S → State) (
     pub posts : IfOk result (λ did. Follows before.plan.targets now.memory.leader did.posts)
     pub line : IfOk result (TellsRestart a.watch.restarts before.plan.me)
     pub reads : IfOk result (λ did. CarryNone did.posts)
+    pub ends : (asked : Asked) → IfOk result (λ did. LeavesWith asked now.memory.leader did.posts)
     pub fresh : is_ok result ≡ true → now.memory.member.parked ≡ []
     pub opened : now.opened ≡ is_ok result
 
@@ -97,6 +100,7 @@ module _ {S C : Type 0} (durable : S → Option Durable) (state : S → State) (
       pub clock : IsReadOn is_read before.clock now.clock
       pub posts : IfOk result (λ did. PostsInForm before.plan.targets before.memory.leader now.memory.leader did.posts)
       pub once : IfOk result (TurnsOnce a.between left before.memory.member now.memory.member)
+      pub ends : (asked : Asked) → LettersGoWith asked a.between.messages → IfOk result (λ did. EndsAsked asked before.memory.leader now.memory.leader did.posts)
       pub turned : IsTurned durable state may settling t number before now a.between left result
 
     -- And what came of it came about.

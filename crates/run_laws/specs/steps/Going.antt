@@ -7,8 +7,8 @@ use Rattle.daos_model.specs.declared.durable.Durable.{Durable}
 use Rattle.run_laws.specs.shows.Accounts.{AreAccounted, AreServed}
 use Rattle.run_laws.specs.shows.Serving.{served-first, served-then}
 use Rattle.run_laws.specs.shows.CanGo.{CanGo}
-use Rattle.run_laws.specs.shows.Kinds.{TellsOn}
-use Rattle.run_laws.specs.shows.KindsLaws.{tells-none, tells-then}
+use Rattle.run_laws.specs.shows.Ends.{TellsOn}
+use Rattle.run_laws.specs.shows.EndsLaws.{tells-none, tells-then}
 use Rattle.run_laws.specs.shows.Shows.{Leads, Shows, WasReached}
 use Rattle.run_laws.specs.shows.Stages.{StageNow}
 use Rattle.run_laws.specs.turns.Keeping.{TurnsKeep, draws-keep, in_turn-keeps, rounds-keep}

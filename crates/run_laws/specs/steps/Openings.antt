@@ -12,8 +12,8 @@ use Rattle.run_laws.specs.shows.Fitting.{Fits, few-numbers, fit-after_stop, fit-
 use Rattle.run_laws.specs.shows.Givings.{downs_after, fault-leads}
 use Rattle.run_laws.specs.shows.Going.{AreAlike, AreFindable}
 use Rattle.run_laws.specs.shows.Lettered.{followed-form}
-use Rattle.run_laws.specs.shows.Kinds.{TellsOn}
-use Rattle.run_laws.specs.shows.KindsLaws.{target-tells-on}
+use Rattle.run_laws.specs.shows.Ends.{TellsOn}
+use Rattle.run_laws.specs.shows.EndsLaws.{target-tells-on}
 use Rattle.run_laws.specs.shows.Openings.{HasFuse}
 use Rattle.run_laws.specs.shows.Parts.{IsTurnSo, is-set, set-same}
 use Rattle.run_laws.specs.shows.Reopening.{failure-leads, opening-leads, set-twice}

@@ -4,8 +4,8 @@ use Rattle.std.proofs.Common.{sym, ◌∙◌, ap, subst, arith}
 use Rattle.daos_model.specs.declared.durable.Durable.{Durable}
 use Rattle.run_laws.specs.shows.CanGo.{CanGo, CanTurn}
 use Rattle.run_laws.specs.shows.Going.{AreAlike, AreFindable, found-with, some-found}
-use Rattle.run_laws.specs.shows.Kinds.{TellsOn}
-use Rattle.run_laws.specs.shows.KindsLaws.{client-tells-on, target-tells-on}
+use Rattle.run_laws.specs.shows.Ends.{TellsOn}
+use Rattle.run_laws.specs.shows.EndsLaws.{client-tells-on, target-tells-on}
 use Rattle.run_laws.specs.shows.Parts.{target-there}
 use Rattle.run_laws.specs.shows.Reopening.{choosing, chosen}
 use Rattle.run_laws.specs.shows.Serving.{served-by-runs}

@@ -12,7 +12,7 @@ use Rattle.run_laws.specs.shows.Accounts.{AreAccounted, AreServed, AtMostRises, 
 use Rattle.run_laws.specs.shows.CanGo.{CanGo}
 use Rattle.run_laws.specs.shows.Fitting.{Fits, can-go}
 use Rattle.run_laws.specs.shows.Going.{AreAlike, AreFindable, going-on}
-use Rattle.run_laws.specs.shows.Kinds.{TellsOn}
+use Rattle.run_laws.specs.shows.Ends.{TellsOn}
 use Rattle.run_laws.specs.shows.Parts.{IsTurnSo, at-both, leads-turn}
 use Rattle.run_laws.specs.shows.Shows.{IsGoing, Leads}
 use Rattle.run_laws.specs.shows.Stages.{StageNow}

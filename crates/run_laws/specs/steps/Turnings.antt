@@ -20,7 +20,7 @@ use Rattle.run_laws.specs.shows.Clients.{client-goes, client-hears}
 use Rattle.run_laws.specs.shows.Fitting.{Fits, few-numbers, fit-after_stop, fit-swept, fit-target, fits-of}
 use Rattle.run_laws.specs.shows.Givings.{downs_after, fault-leads}
 use Rattle.run_laws.specs.shows.Going.{AreAlike, AreFindable}
-use Rattle.run_laws.specs.shows.Kinds.{TellsOn}
+use Rattle.run_laws.specs.shows.Ends.{TellsOn}
 use Rattle.run_laws.specs.shows.Leading.{NonePrunes, turn-leads}
 use Rattle.run_laws.specs.shows.Lettered.{AllInForm, InForm, asked-lost, followed-form, lost-form}
 use Rattle.run_laws.specs.shows.ListLaws.{get-set, length-set}

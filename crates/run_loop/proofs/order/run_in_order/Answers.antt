@@ -5,6 +5,7 @@ use Rattle.run_laws.specs.shows.InTurn.{AllBeginInTurn}
 use Rattle.run_laws.specs.shows.InTurnLaws.{all-begin}
 use Rattle.run_stage.specs.Now.{stage_now}
 use Rattle.run_laws.specs.steps.Ended.{HasRunWith, can-reopen, has-run, left-accounted, left_of}
+use Rattle.world_ended.specs.Clients.{AllEndWell}
 use Rattle.world_letters.specs.kinds.Fitting.{AllAnswersFit}
 use Rattle.run_loop.proofs.order.run_in_order.Goals as goal
 
@@ -30,6 +31,9 @@ returns-in-Ok-clause-in_turn g c r k =
 
 pub returns-in-Ok-clause-kinds : goal.returns-in-Ok-clause-kinds
 returns-in-Ok-clause-kinds g c r k = subst (AllAnswersFit r.script) (sym c.into_lines-lines.ensures) ((c.in-Ok.ensures.goes.tells r).answers k).lines
+
+pub returns-in-Ok-clause-ends : goal.returns-in-Ok-clause-ends
+returns-in-Ok-clause-ends g c r k = subst (AllEndWell r.script) (sym c.into_lines-lines.ensures) ((c.in-Ok.ensures.goes.tells r).ends k).lines
 
 pub returns-in-Ok-clause-reopens : goal.returns-in-Ok-clause-reopens
 returns-in-Ok-clause-reopens g c = can-reopen g.S.Store.durable g.S.Store.state g.S.Store.may g.met.S.Store.steady (stage_now c.go-went.new.stage) c.in-Ok.ensures.goes.going

@@ -1,3 +1,4 @@
+use Rattle.run_laws.specs.shows.EndsLaws.{picked-among}
 use Rattle.std.proofs.Common.{refl, subst, sym}
 use Rattle.run_base.specs.Letters.{IsPicked}
 use Rattle.run_laws.specs.shows.KindsLaws.{heard-once, idle-once}
@@ -44,3 +45,10 @@ returns-then-count_to-gt0-clause-once g c =
 
 pub returns-else-count_to-gt0-clause-once : goal.returns-else-count_to-gt0-clause-once
 returns-else-count_to-gt0-clause-once g c = idle-once c.args.between.now c.args.between.now c.args.host.now.memory.member c.idle.new.self.memory.member c.idle.result refl c.idle.ensures.reads
+
+pub returns-then-count_to-gt0-clause-ends : goal.returns-then-count_to-gt0-clause-ends
+returns-then-count_to-gt0-clause-ends g c asked go =
+    c.hear.ensures.ends asked (go c.take-letter.result (picked-among c.args.between.now.messages c.target_id-then-count_to-gt0.result c.args.number c.take-letter.result c.take-letter.new.self.messages c.take-letter.ensures.picked))
+
+pub returns-else-count_to-gt0-clause-ends : goal.returns-else-count_to-gt0-clause-ends
+returns-else-count_to-gt0-clause-ends g c asked go = c.idle.ensures.ends asked

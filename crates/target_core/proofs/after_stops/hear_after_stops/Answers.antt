@@ -1,3 +1,5 @@
+use Rattle.world_ended.specs.Asking.{GoesWith}
+use Rattle.world_ended.specs.TurnLaws.{posts-end}
 use Rattle.std.proofs.Common.{◌≡◌, ◌∙◌, ◌<◌, ap, false, subst, sym, [], refl}
 use Rattle.base_messages.specs.declared.message.Message.{Reset}
 use Rattle.target_parts.specs.Knowing.{memory_of}
@@ -40,3 +42,15 @@ returns-in-Reset-clause-turn g c d at reading =
 
 pub returns-in-Status-clause-reads : goal.returns-in-Status-clause-reads
 returns-in-Status-clause-reads g c = turn-carries c.hear_status.result [] c.args.knows.now.member.memory c.args.knows.now.member.memory refl c.hear_status.ensures.reads
+
+pub returns-in-Ask-clause-ends : goal.returns-in-Ask-clause-ends
+returns-in-Ask-clause-ends g c asked goes = c.hear_ask.ensures.ends asked (subst (GoesWith asked) c.in-Ask.is goes)
+
+pub returns-in-Status-clause-ends : goal.returns-in-Status-clause-ends
+returns-in-Status-clause-ends g c asked goes = posts-end asked c.args.knows.now.leader c.hear_status.result (c.hear_status.ensures.ends asked)
+
+pub returns-in-StatusIs-clause-ends : goal.returns-in-StatusIs-clause-ends
+returns-in-StatusIs-clause-ends g c asked goes = c.hear_status_is.ensures.ends asked
+
+pub returns-in-Reset-clause-ends : goal.returns-in-Reset-clause-ends
+returns-in-Reset-clause-ends g c asked goes = c.hear_reset.ensures.ends asked

@@ -1,3 +1,4 @@
+use Rattle.world_ended.specs.Asking.{GoesWith}
 use Rattle.std.proofs.Common.{subst, sym, ◌∷◌, []}
 use Rattle.target_parts.specs.Knowing.{memory_of}
 use Rattle.target_core.specs.Targets.{CanHear, HearsOrStops}
@@ -39,3 +40,9 @@ returns-in-Fetch-clause-reads g c =
 
 pub returns-in-Commit-clause-reads : goal.returns-in-Commit-clause-reads
 returns-in-Commit-clause-reads g c = turn-heard c.hear_any_commit.result c.args.message c.args.knows.now.member.memory c.hear_any_commit.new.knows.member.memory c.hear_any_commit.ensures.reads
+
+pub returns-in-Fetch-clause-ends : goal.returns-in-Fetch-clause-ends
+returns-in-Fetch-clause-ends g c asked goes = c.hear_fetch.ensures.ends asked
+
+pub returns-in-Commit-clause-ends : goal.returns-in-Commit-clause-ends
+returns-in-Commit-clause-ends g c asked goes = c.hear_any_commit.ensures.ends asked (subst (GoesWith asked) c.in-Commit.is goes)

@@ -1,3 +1,5 @@
+use Rattle.world_ended.specs.Asking.{GoesWith}
+use Rattle.world_ended.specs.TurnLaws.{posts-end}
 use Rattle.std.proofs.Common.{◌∙◌, ap, subst, sym, refl, ◌∷◌, []}
 use Rattle.base_messages.specs.declared.message.Message.TheVariants.{Mark, Marked}
 use Rattle.target_parts.specs.Knowing.{memory_of}
@@ -68,3 +70,21 @@ returns-in-Query-clause-reads g c = turn-carries c.hear_query.result (c.args.mes
 
 pub returns-in-Verdict-clause-reads : goal.returns-in-Verdict-clause-reads
 returns-in-Verdict-clause-reads g c = turn-heard c.hear_verdict.result c.args.message c.args.knows.now.member.memory c.hear_verdict.new.knows.member.memory (c.hear_verdict.ensures.reads)
+
+pub returns-in-Prepare-clause-ends : goal.returns-in-Prepare-clause-ends
+returns-in-Prepare-clause-ends g c asked goes = c.hear_prepare.ensures.ends asked
+
+pub returns-in-Ack-clause-ends : goal.returns-in-Ack-clause-ends
+returns-in-Ack-clause-ends g c asked goes = c.hear_ack.ensures.ends asked (subst (GoesWith asked) c.in-Ack.is goes)
+
+pub returns-in-Mark-clause-ends : goal.returns-in-Mark-clause-ends
+returns-in-Mark-clause-ends g c asked goes = c.hear_mark.ensures.ends asked
+
+pub returns-in-Marked-clause-ends : goal.returns-in-Marked-clause-ends
+returns-in-Marked-clause-ends g c asked goes = c.hear_marked.ensures.ends asked
+
+pub returns-in-Query-clause-ends : goal.returns-in-Query-clause-ends
+returns-in-Query-clause-ends g c asked goes = posts-end asked c.args.knows.now.leader c.hear_query.result (c.hear_query.ensures.ends asked)
+
+pub returns-in-Verdict-clause-ends : goal.returns-in-Verdict-clause-ends
+returns-in-Verdict-clause-ends g c asked goes = c.hear_verdict.ensures.ends asked

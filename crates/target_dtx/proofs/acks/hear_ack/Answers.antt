@@ -1,3 +1,5 @@
+use Rattle.world_ended.specs.PostLaws.{acks-end}
+use Rattle.world_ended.specs.TurnLaws.{sent-by as ends-by}
 use Rattle.std.proofs.Common.{◌≡◌, ◌∙◌, Err, ap, refl, rules, subst, sym, []}
 use Rattle.world_base.specs.Acks.{AckEnds, AckNext, Heard, is_refusing}
 use Rattle.world_base.specs.Roles.{leads_on}
@@ -95,3 +97,9 @@ returns-in-Ok-clause-reads g c =
     unread-answers [] c.args.knows.now.member.memory c.abort_if.new.knows.member.memory c.sends.result.posts (ap (λ m. m.memory.parked) c.in-Ok.ensures.keeps.beside.member)
     (sent-by (ack_heard c.args.member c.args.attempt c.args.inc c.args.refusal.now leader) c.count.new.leader c.in_ok-posts.posts c.sends.result.posts (acks-carry c.args.member c.args.attempt c.args.inc c.args.refusal.now leader)
     c.in_ok-posts.ensures.ok (ap (λ did. did.posts) c.sends.ensures))
+
+pub returns-in-Ok-clause-ends : goal.returns-in-Ok-clause-ends
+returns-in-Ok-clause-ends g c asked refused =
+    let leader = leader_of c.seat_of-seat.result c.args.knows.now.entries.items c.args.knows.now.leader in
+    ends-by asked (ack_heard c.args.member c.args.attempt c.args.inc c.args.refusal.now leader) c.args.knows.now.leader c.count.new.leader c.abort_if.new.knows.leader c.in_ok-posts.posts c.sends.result.posts
+    (acks-end asked c.args.member c.args.attempt c.args.inc c.args.refusal.now leader refused) c.in_ok-posts.ensures.ok c.in-Ok.ensures.leader (ap (λ did. did.posts) c.sends.ensures)

@@ -1,3 +1,5 @@
+use Rattle.world_ended.specs.Asking.{PostsGoWith}
+use Rattle.world_ended.specs.PostLaws.{none-posted as none-ends, waits-on as ends-on}
 use Rattle.std.proofs.Common.{◌≡◌, ◌∙◌, [], Err, ap, refl, rules, subst, sym}
 use Rattle.std.specs.Prelude.{◌==◌, if◌then◌else◌}
 use Rattle.dtx_base.specs.Leading.{answered}
@@ -57,3 +59,8 @@ returns-in-Ok-clause-posts g c =
 pub returns-in-Ok-clause-reads : goal.returns-in-Ok-clause-reads
 returns-in-Ok-clause-reads g c =
     unread-answers [] c.args.knows.now.member.memory c.confirm_all.new.knows.member.memory c.sends.result.posts (ap (λ m. m.memory.parked) c.in-Ok.ensures.keeps.beside.member) (subst CarryNone (sym (ap (λ did. did.posts) c.sends.ensures ∙ c.new.ensures)) none-carried)
+
+pub returns-in-Ok-clause-ends : goal.returns-in-Ok-clause-ends
+returns-in-Ok-clause-ends g c asked =
+    ends-on asked c.args.knows.now.leader c.confirm_all.new.knows.leader c.sends.result.posts (ap (λ m. m.undecided) (c.in-Ok.ensures.leader ∙ c.in_ok-hear_marked.ensures.ok))
+    (subst (PostsGoWith asked) (sym (ap (λ did. did.posts) c.sends.ensures ∙ c.new.ensures)) (none-ends asked))

@@ -1,4 +1,6 @@
-use Rattle.std.proofs.Common.{ap, []}
+use Rattle.world_ended.specs.TurnLaws.{on-fewer}
+use Rattle.model_laws.specs.Members.{Has}
+use Rattle.std.proofs.Common.{ap, subst, []}
 use Rattle.target_parts.specs.Knowing.{memory_of}
 use Rattle.target_parts.specs.KnowsLaws.{memory-beside}
 use Rattle.target_parts.specs.Parts.{kept}
@@ -27,3 +29,7 @@ returns-clause-posts g c =
 
 pub returns-clause-reads : goal.returns-clause-reads
 returns-clause-reads g c = turn-on c.tell.result [] c.args.knows.now.member.memory c.settle_all.new.knows.member.memory c.tell.new.knows.member.memory (ap (λ m. m.memory.parked) c.in_default.ensures.keeps.beside.member) c.tell.ensures.reads
+
+pub returns-clause-ends : goal.returns-clause-ends
+returns-clause-ends g c asked =
+    on-fewer asked c.args.knows.now.leader c.settle_all.new.knows.leader c.tell.new.knows.leader c.tell.result (λ u i. subst (Has u) (ap (λ m. m.undecided) c.in_default.ensures.leader) i) (c.tell.ensures.ends asked)

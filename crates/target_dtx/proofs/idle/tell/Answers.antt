@@ -1,3 +1,6 @@
+use Rattle.world_ended.specs.Asking.{EndsAsked}
+use Rattle.world_ended.specs.PostLaws.{batches-end}
+use Rattle.world_ended.specs.TurnLaws.{and-more as ends-more, sent-by as ends-by}
 use Rattle.std.proofs.Common.{◌∙◌, ap, refl, subst, sym, []}
 use Rattle.dtx_base.specs.Leading.{batched}
 use Rattle.dtx_table.specs.Seats.{leader_of}
@@ -44,3 +47,11 @@ returns-clause-reads g c =
     (both-carry c.in_ok-posts.posts c.in_ok-asks.asks
     (sent-by (batched leader) c.batch.new.leader c.in_ok-posts.posts c.in_ok-posts.posts (batches-carry leader) c.in_ok-posts.ensures.ok refl)
     (asks-carry-none c.args.settling c.rows.result.now c.args.knows.now.member c.inquiries.new.member c.in_ok-asks.asks c.in_ok-asks.ensures.asked)))
+
+pub returns-clause-ends : goal.returns-clause-ends
+returns-clause-ends g c asked =
+    let leader = leader_of c.seat_of-seat.result c.args.knows.now.entries.items c.args.knows.now.leader in
+    subst (EndsAsked asked c.args.knows.now.leader c.batch.new.leader) (sym (ap (λ did. did.posts) c.sends.ensures ∙ c.in_ok-push_all.ensures))
+    (ends-more asked c.args.knows.now.leader c.batch.new.leader c.in_ok-posts.posts c.in_ok-asks.asks
+    (ends-by asked (batched leader) c.args.knows.now.leader c.batch.new.leader c.batch.new.leader c.in_ok-posts.posts c.in_ok-posts.posts (batches-end asked leader) c.in_ok-posts.ensures.ok refl refl)
+    (c.in_ok-asks.ensures.ends asked))

@@ -1,3 +1,6 @@
+use Rattle.world_ended.specs.Asking.{PostsGoWith}
+use Rattle.world_ended.specs.PostLaws.{one-posted as one-ends}
+use Rattle.world_ended.specs.TurnLaws.{fewer-end}
 use Rattle.std.proofs.Common.{◌≡◌, ◌∙◌, Err, None, ap, refl, rules, subst, sym, [], Ok}
 use Rattle.base_messages.specs.declared.message.Message.TheVariants.{Marked}
 use Rattle.dtx_base.specs.Leading.{attempts_of}
@@ -57,3 +60,9 @@ pub returns-in-Ok-clause-reads : goal.returns-in-Ok-clause-reads
 returns-in-Ok-clause-reads g c =
     unread-answers [] c.args.knows.now.member.memory c.settle_all.new.knows.member.memory c.in_ok-did.did.posts (ap (λ m. m.memory.parked) c.in-Ok.ensures.keeps.beside.member)
     (says-none {E = TargetStop} (Ok c.in_ok-did.did) c.args.from (Marked c.args.inc _) None refl c.in_ok-did.ensures.did)
+
+pub returns-in-Ok-clause-ends : goal.returns-in-Ok-clause-ends
+returns-in-Ok-clause-ends g c asked =
+    fewer-end asked c.args.knows.now.leader c.settle_all.new.knows.leader c.in_ok-did.did.posts
+    (told-fewer (attempts_of c.args.marks.now) (memory_of c.args.knows.now) c.settle_all.new.knows.leader (ap (λ (m : TargetMemory). m.leader) c.in-Ok.ensures.told))
+    (subst (λ did. PostsGoWith asked did.posts) (sym c.in_ok-did.ensures.did) (one-ends asked _ tt))

@@ -1,3 +1,4 @@
+use Rattle.world_ended.specs.TurnLaws.{says-posts}
 use Rattle.std.proofs.Common.{◌≡◌, ◌∙◌, None, ap, subst, refl}
 use Rattle.std.specs.Prelude.{IfOk}
 use Rattle.base_messages.specs.declared.message.Message.{Message}
@@ -24,3 +25,6 @@ returns-clause-turn g c d at =
 
 pub returns-clause-reads : goal.returns-clause-reads
 returns-clause-reads g c = says-none c.says.result c.args.from (Verdict c.args.attempt c.args.ask c.seat_of-seat.result.incarnation c.answer_query-verdict.result) None refl c.says.ensures.did
+
+pub returns-clause-ends : goal.returns-clause-ends
+returns-clause-ends g c asked = says-posts asked c.args.from (Verdict c.args.attempt c.args.ask c.seat_of-seat.result.incarnation c.answer_query-verdict.result) None c.says.result tt c.says.ensures.did

@@ -1,3 +1,5 @@
+use Rattle.target_reads.proofs.Posting.{freed-end}
+use Rattle.world_ended.specs.TurnLaws.{on-fewer}
 use Rattle.std.proofs.Common.{◌≡◌, ◌∙◌, Err, ap, refl, rules, subst}
 use Rattle.vos_store.specs.Refusals.{always_stop}
 use Rattle.world_base.specs.Roles.{is_prepared, told_by}
@@ -100,3 +102,11 @@ pub returns-in-Ok-clause-reads : goal.returns-in-Ok-clause-reads
 returns-in-Ok-clause-reads g c =
     verdict-reads c.args.attempt c.args.ask c.args.verdict c.args.knows.now.member c.hear_verdict.new.self c.in_ok-posts.field-0 c.settle_by.new.knows.member.memory c.try_again.new.knows.member.memory c.try_again.result c.in_ok-posts.ensures.ok
     (ap (λ m. m.memory) c.in-Ok.ensures.keeps.beside.member) c.try_again.ensures.reads
+
+pub try_again-requires-clause-freed : goal.try_again-requires-clause-freed
+try_again-requires-clause-freed g c asked = freed-end asked c.args.attempt c.args.ask c.args.verdict c.args.knows.now.member c.hear_verdict.new.self c.in_ok-posts.field-0 c.in_ok-posts.ensures.ok
+
+pub returns-in-Ok-clause-ends : goal.returns-in-Ok-clause-ends
+returns-in-Ok-clause-ends g c asked =
+    on-fewer asked c.args.knows.now.leader c.settle_by.new.knows.leader c.try_again.new.knows.leader c.try_again.result
+    (judged-fewer c.args.verdict c.args.attempt (memory_of (with_member c.hear_verdict.new.self c.args.knows.now)) c.settle_by.new.knows.leader c.in-Ok.ensures.leader) (c.try_again.ensures.ends asked)

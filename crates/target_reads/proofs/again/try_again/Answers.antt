@@ -1,3 +1,6 @@
+use Rattle.world_ended.specs.Asking.{EndsAsked}
+use Rattle.world_ended.specs.PostLaws.{waits-on as ends-on}
+use Rattle.world_ended.specs.TurnLaws.{then-ends}
 use Rattle.std.proofs.Common.{◌≡◌, ◌<◌, Err, ap, arith, inl, inr, length, refl, rules, subst, sym}
 use Rattle.model_laws.specs.Members.{Has}
 use Rattle.world_base.specs.Roles.{is_prepared}
@@ -24,6 +27,7 @@ loop-plan-init g c = record {
   here = λ d at. subst (λ xs. AreHere xs d) (sym c.into_vec-rest.ensures) (c.requires.here d at);
   once = tried-none c.args.asks c.args.posts c.args.knows.now.member.memory c.into_vec-rest.result.items c.into_vec-rest.ensures;
   posts = waits-on c.args.plan.targets c.args.knows.now.leader c.args.knows.now.leader c.args.posts refl c.requires.sent;
+  ends = λ asked. ends-on asked c.args.knows.now.leader c.args.knows.now.leader c.args.posts refl (c.requires.freed asked);
   reached = λ d at m reading a ask v. record {
     durable = d;
     kept_is = at;
@@ -88,6 +92,8 @@ loop-plan-preserved g c =
           inv.once one.reads c.in_ok-push_all.ensures;
       posts = subst (PostsInForm c.args.plan.targets c.args.knows.now.leader c.hear_again.new.knows.leader) (sym c.in_ok-push_all.ensures)
           (then-posts c.args.plan.targets c.args.knows.now.leader c.loop-plan.knows.leader c.hear_again.new.knows.leader c.loop-plan.posts c.in_ok-did.did.posts inv.posts one.posts);
+      ends = λ asked. subst (EndsAsked asked c.args.knows.now.leader c.hear_again.new.knows.leader) (sym c.in_ok-push_all.ensures)
+          (then-ends asked c.args.knows.now.leader c.loop-plan.knows.leader c.hear_again.new.knows.leader c.loop-plan.posts c.in_ok-did.did.posts (inv.ends asked) (one.ends asked));
       reached = λ d at m reading a ask v.
           let now = inv.reached d at m reading a ask v in
           let old = kept d (g.S.Store.state c.args.store.now) in

@@ -1,3 +1,4 @@
+use Rattle.world_ended.specs.Asking.{Asked, EndsAsked}
 use Rattle.std.proofs.Common.{◌≡◌, ℕ, Option, Some, length}
 use Rattle.std.specs.Option.{ForSome}
 use Rattle.base_types.specs.declared.entry.Verdict.{Verdict}
@@ -23,6 +24,7 @@ invariant-loop-plan g l = record {
   here : ForSome (g.S.Store.durable l.store) (AreHere l.rest.items);
   once : TriedSoFar l.fn.asks l.fn.posts l.fn.knows.member.memory l.knows.member.memory l.rest.items l.posts;
   posts : PostsInForm l.plan.targets l.fn.knows.leader l.knows.leader l.posts;
+  ends : (asked : Asked) → EndsAsked asked l.fn.knows.leader l.knows.leader l.posts;
   reached : (d : Durable) → g.S.Store.durable l.fn.store ≡ Some d → (m : TargetMemory) (reading : ℕ) (a : AttemptId) (ask : Option AttemptId) (v : Verdict)
       → Now (g.S.Store.durable l.store) (g.S.Store.state l.store) (λ k. Reached (VerdictNext is_prepared l.plan m reading a ask v) (Freed l.fn.asks (memory_of l.fn.knows) l.fn.posts) (kept d (g.S.Store.state l.fn.store)) (Freed l.rest.items (memory_of l.knows) l.posts) k);
 }

@@ -1,3 +1,4 @@
+use Rattle.world_ended.specs.TurnLaws.{on-same}
 use Rattle.std.proofs.Common.{◌≡◌, ◌∙◌, ◌/◌, ap, false, refl, subst, sym, true, ◌∷◌, []}
 use Rattle.base_types.specs.Operations.{read_path}
 use Rattle.daos_model.specs.Changes.{leased}
@@ -49,3 +50,7 @@ returns-in-Ok-clause-posts g c client =
 pub returns-in-Ok-clause-reads : goal.returns-in-Ok-clause-reads
 returns-in-Ok-clause-reads g c =
     reads-on (fetch_message c.args.request.now ∷ []) (fetch_message c.args.request.now ∷ []) c.args.knows.now.member.memory c.hear.new.knows.member.memory c.read_at-in-Ok.new.knows.member.memory c.read_at-in-Ok.result (ap (λ k. k.member.memory) c.in-Ok.ensures.heard) refl c.read_at-in-Ok.ensures.reads
+
+pub returns-in-Ok-clause-ends : goal.returns-in-Ok-clause-ends
+returns-in-Ok-clause-ends g c asked =
+    on-same asked c.args.knows.now.leader c.hear.new.knows.leader c.read_at-in-Ok.new.knows.leader c.read_at-in-Ok.result (ap (λ k. k.leader) c.in-Ok.ensures.heard) (c.read_at-in-Ok.ensures.ends asked)

@@ -1,3 +1,5 @@
+use Rattle.world_ended.specs.Asking.{GoesWith}
+use Rattle.world_ended.specs.TurnLaws.{on-same, says-ends}
 use Rattle.std.proofs.Common.{◌≡◌, ◌∙◌, ◌/◌, None, Some, ap, false, refl, subst, sym, true, ◌∷◌, []}
 use Rattle.base_types.specs.Operations.{read_path}
 use Rattle.daos_model.specs.Changes.{leased}
@@ -88,3 +90,13 @@ returns-in-Ok-Some-clause-reads g c =
 pub returns-in-Ok-None-clause-reads : goal.returns-in-Ok-None-clause-reads
 returns-in-Ok-None-clause-reads g c =
     spent-reads c.args.request.now c.args.from c.fetched.result outcome.EpochsSpent c.args.knows.now.member.memory c.ready.new.knows.member.memory c.says.result c.fetched.ensures (ap (λ k. k.member.memory) c.in-Ok-None.ensures.heard) c.says.ensures.did
+
+pub returns-in-Ok-Some-clause-ends : goal.returns-in-Ok-Some-clause-ends
+returns-in-Ok-Some-clause-ends g c asked =
+    let heard : c.ready.new.knows ≡ with_clock (heard_of (Some c.in-Ok-Some.epoch) c.args.knows.now.hlc) c.args.knows.now = c.in-Ok-Some.ensures.heard ∙ ap (λ o. with_clock (heard_of o c.args.knows.now.hlc) c.args.knows.now) c.in-Ok-Some.field-0-is in
+    on-same asked c.args.knows.now.leader c.ready.new.knows.leader c.read_at.new.knows.leader c.read_at.result (ap (λ k. k.leader) heard) (c.read_at.ensures.ends asked)
+
+pub returns-in-Ok-None-clause-ends : goal.returns-in-Ok-None-clause-ends
+returns-in-Ok-None-clause-ends g c asked =
+    let heard : c.ready.new.knows ≡ with_clock c.args.knows.now.hlc c.args.knows.now = c.in-Ok-None.ensures.heard ∙ ap (λ o. with_clock (heard_of o c.args.knows.now.hlc) c.args.knows.now) c.in-Ok-None.field-0-is in
+    says-ends asked c.args.knows.now.leader c.ready.new.knows.leader c.args.from c.fetched.result None c.says.result (ap (λ k. k.leader) heard) (subst (GoesWith asked) (sym c.fetched.ensures) refl) c.says.ensures.did

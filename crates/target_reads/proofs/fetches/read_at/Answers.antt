@@ -1,3 +1,4 @@
+use Rattle.target_reads.proofs.Posting.{served-ends}
 use Rattle.std.proofs.Common.{◌≡◌, ◌∙◌, ap, refl, sym, true}
 use Rattle.base_types.specs.Operations.{read_path}
 use Rattle.daos_model.specs.Durables.{is_enlisted}
@@ -63,3 +64,8 @@ pub returns-in-Ok-clause-reads : goal.returns-in-Ok-clause-reads
 returns-in-Ok-clause-reads g c =
     served-reads c.args.plan c.args.request.now c.args.from c.args.epoch c.in-Ok.served c.args.knows.now.member.memory (memory_of c.serve.new.knows) (memory_of c.tell.new.knows) c.tell.result c.in-Ok.ensures.kind
     (ap (λ m. m.memory) c.in-Ok.ensures.keeps.beside.member) c.tell.ensures.told
+
+pub returns-in-Ok-clause-ends : goal.returns-in-Ok-clause-ends
+returns-in-Ok-clause-ends g c asked =
+    served-ends asked c.args.plan c.args.request.now c.args.from c.args.epoch c.in-Ok.served c.args.knows.now.leader (memory_of c.serve.new.knows) (memory_of c.tell.new.knows) c.tell.result
+    (ap (λ m. m.undecided) (c.in-Ok.ensures.leader refl)) c.tell.ensures.told

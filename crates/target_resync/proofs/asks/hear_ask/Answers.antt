@@ -1,3 +1,5 @@
+use Rattle.world_ended.specs.PostLaws.{asks-end}
+use Rattle.world_ended.specs.TurnLaws.{sent-by as ends-by}
 use Rattle.std.proofs.Common.{◌≡◌, ◌∙◌, Err, ap, refl, rules, []}
 use Rattle.dtx_base.specs.Asking.{ask_heard}
 use Rattle.dtx_table.specs.Seats.{leader_of}
@@ -54,3 +56,9 @@ returns-clause-reads g c =
     let leader = leader_of c.seat_of-seat.result c.rows.result.now c.args.knows.now.leader in
     unread-answers [] c.args.knows.now.member.memory c.args.knows.now.member.memory c.sends.result.posts refl
     (sent-by (ask_heard c.args.attempt c.args.from leader) c.hear_ask.new.self c.in_ok-posts.posts c.sends.result.posts (asks-carry c.args.attempt c.args.from leader) c.in_ok-posts.ensures.ok (ap (λ did. did.posts) c.sends.ensures))
+
+pub returns-clause-ends : goal.returns-clause-ends
+returns-clause-ends g c asked was =
+    let leader = leader_of c.seat_of-seat.result c.rows.result.now c.args.knows.now.leader in
+    ends-by asked (ask_heard c.args.attempt c.args.from leader) c.args.knows.now.leader c.hear_ask.new.self c.hear_ask.new.self c.in_ok-posts.posts c.sends.result.posts
+    (asks-end asked c.args.attempt c.args.from leader was) c.in_ok-posts.ensures.ok refl (ap (λ did. did.posts) c.sends.ensures)

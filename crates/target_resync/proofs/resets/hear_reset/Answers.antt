@@ -1,3 +1,4 @@
+use Rattle.target_resync.proofs.Resetting.{reset-ends}
 use Rattle.std.proofs.Common.{◌≡◌, ◌∙◌, Err, ap, refl, rules}
 use Rattle.dtx_table.specs.Seats.{leader_of}
 use Rattle.world_base.specs.declared.did.Did.{Did}
@@ -86,3 +87,8 @@ returns-clause-reads g c =
     reset-answers c.args.down c.args.message.now c.args.knows.now.member c.hear_reset-2.new.self c.in_ok-freed.freed c.in_ok-posts.posts c.push_all.new.posts c.sends.result.posts c.in_ok-freed.ensures.ok
     (sent-by (reset_heard c.args.target c.args.down c.args.message.now leader) c.hear_reset.new.self c.in_ok-posts.posts c.in_ok-posts.posts (resets-carry c.args.target c.args.down c.args.message.now leader) c.in_ok-posts.ensures.ok refl)
     c.in_ok-push_all.ensures (ap (λ did. did.posts) c.sends.ensures)
+
+pub returns-clause-ends : goal.returns-clause-ends
+returns-clause-ends g c asked =
+    reset-ends asked c.args.target c.args.down c.args.message.now (leader_of c.seat_of-seat.result c.rows.result.now c.args.knows.now.leader) c.hear_reset.new.self c.in_ok-posts.posts c.args.knows.now.member c.hear_reset-2.new.self
+    c.in_ok-freed.freed c.push_all.new.posts c.sends.result.posts c.in_ok-posts.ensures.ok c.in_ok-freed.ensures.ok c.in_ok-push_all.ensures (ap (λ did. did.posts) c.sends.ensures)

@@ -1,3 +1,5 @@
+use Rattle.world_ended.specs.Asking.{LeavesWith}
+use Rattle.world_ended.specs.PostLaws.{openings-end}
 use Rattle.std.proofs.Common.{◌≡◌, ◌<◌, ◌^◌, ◌-◌, ◌∙◌, ap, filter, min, subst, sym, Some, []}
 use Rattle.base_types.specs.Epochs.{restart_floor}
 use Rattle.daos_model.specs.declared.durable.Durable.{Durable}
@@ -59,3 +61,10 @@ returns-clause-reads g c =
 
 pub returns-clause-fresh : goal.returns-clause-fresh
 returns-clause-fresh g c = ap (λ m. m.memory.parked) c.in_ok-knows.ensures.member
+
+pub returns-clause-ends : goal.returns-clause-ends
+returns-clause-ends g c wanted =
+    let led = filter (is_led c.args.plan.me) c.in_ok-entries.entries in
+    let asked = filter is_open (filter (is_led c.args.plan.me) c.as_slice.result.now) in
+    subst (λ m. LeavesWith wanted m c.in_ok-did.did.posts) (sym c.in_ok-knows.ensures.leader)
+    (subst (LeavesWith wanted (first_memory led)) (sym c.in_ok-did.ensures.posts) (openings-end wanted c.incarnation-incarnation.result led asked))

@@ -1,3 +1,4 @@
+use Rattle.world_ended.specs.TurnLaws.{says-posts}
 use Rattle.std.proofs.Common.{◌≡◌, ◌∙◌, List, None, ap, refl}
 use Rattle.base_types.specs.declared.entry.Entry.{Entry}
 use Rattle.base_types.specs.declared.entry.EntryState.{EntryState}
@@ -24,3 +25,6 @@ returns-clause-turn g c d at =
 
 pub returns-clause-reads : goal.returns-clause-reads
 returns-clause-reads g c = says-none c.says.result c.args.from (StatusIs c.args.attempt c.args.inc c.state_of.result) None refl c.says.ensures.did
+
+pub returns-clause-ends : goal.returns-clause-ends
+returns-clause-ends g c asked = says-posts asked c.args.from (StatusIs c.args.attempt c.args.inc c.state_of.result) None c.says.result tt c.says.ensures.did

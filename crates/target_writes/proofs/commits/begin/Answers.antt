@@ -1,4 +1,7 @@
-use Rattle.std.proofs.Common.{◌∙◌, [], ap, refl, subst, sym}
+use Rattle.world_ended.specs.PostLaws.{beginnings-end}
+use Rattle.world_ended.specs.TurnLaws.{sent-by as ends-by}
+use Rattle.base_types.specs.declared.entry.Entry.{Entry}
+use Rattle.std.proofs.Common.{◌≡◌, ◌∙◌, [], ap, refl, subst, sym, true}
 use Rattle.dtx_base.specs.Leading.{begun}
 use Rattle.dtx_table.specs.Seats.{came, leader_of}
 use Rattle.world_base.specs.Requests.{sends}
@@ -46,3 +49,10 @@ returns-clause-reads g c =
     unread-answers [] c.args.knows.now.member.memory c.args.knows.now.member.memory c.sends.result.posts refl
     (sent-by (begun c.args.entry.now c.args.request.now.first c.args.from c.as_slice.result.now leader) c.begin.new.self c.in_ok-posts.posts c.sends.result.posts (beginnings-carry c.args.entry.now c.args.request.now.first c.args.from c.as_slice.result.now leader)
     c.in_ok-posts.ensures.ok (ap (λ did. did.posts) c.sends.ensures))
+
+pub returns-clause-ends : goal.returns-clause-ends
+returns-clause-ends g c asked was =
+    let leader = leader_of c.seat_of-seat.result [] c.args.knows.now.leader in
+    ends-by asked (begun c.args.entry.now c.args.request.now.first c.args.from c.as_slice.result.now leader) c.args.knows.now.leader c.begin.new.self c.begin.new.self c.in_ok-posts.posts c.sends.result.posts
+    (beginnings-end asked c.args.entry.now c.args.request.now.first c.args.from c.as_slice.result.now leader (subst (λ (e : Entry). asked e.attempt ≡ true) (sym c.requires.entry) was))
+    c.in_ok-posts.ensures.ok refl (ap (λ did. did.posts) c.sends.ensures)

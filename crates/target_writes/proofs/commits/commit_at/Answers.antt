@@ -1,4 +1,6 @@
-use Rattle.std.proofs.Common.{◌≡◌, ◌∙◌, Err, None, Ok, Some, ap, refl, rules, subst, sym, []}
+use Rattle.world_ended.specs.Asking.{AreRefusals, GoesWith}
+use Rattle.world_ended.specs.TurnLaws.{on-same, says-ends}
+use Rattle.std.proofs.Common.{inl, ◌≡◌, ◌∙◌, Err, None, Ok, Some, ap, refl, rules, subst, sym, []}
 use Rattle.std.specs.Prelude.{IfOk}
 use Rattle.base_messages.specs.declared.message.Message.TheVariants as message
 use Rattle.daos_model.specs.Changes.{prepared}
@@ -142,3 +144,12 @@ pub returns-in-Ok-Some-clause-reads : goal.returns-in-Ok-Some-clause-reads
 returns-in-Ok-Some-clause-reads g c =
     turn-carries c.says.result [] c.args.knows.now.member.memory c.prepare.new.knows.member.memory (ap (λ m. m.memory.parked) c.in-Ok-Some.ensures.keeps.beside.member)
     (says-none c.says.result c.args.from c.ended.result c.issued_for-issued.result (ap is_of_read c.ended.ensures) c.says.ensures.did)
+
+pub returns-in-Ok-None-clause-ends : goal.returns-in-Ok-None-clause-ends
+returns-in-Ok-None-clause-ends g c asked was =
+    on-same asked c.args.knows.now.leader c.prepare.new.knows.leader c.begin.new.knows.leader c.begin.result c.in-Ok-None.ensures.leader (c.begin.ensures.ends asked was)
+
+pub returns-in-Ok-Some-clause-ends : goal.returns-in-Ok-Some-clause-ends
+returns-in-Ok-Some-clause-ends g c asked was =
+    says-ends asked c.args.knows.now.leader c.prepare.new.knows.leader c.args.from c.ended.result c.issued_for-issued.result c.says.result c.in-Ok-Some.ensures.leader
+    (subst (GoesWith asked) (sym c.ended.ensures) (inl (subst AreRefusals c.in-Ok-Some.field-0-is c.in-Ok-Some.ensures.refused))) c.says.ensures.did

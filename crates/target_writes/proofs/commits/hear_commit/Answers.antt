@@ -1,4 +1,6 @@
-use Rattle.std.proofs.Common.{◌≡◌, ◌∙◌, ◌/◌, ◌<◌, None, Some, ap, arith, refl, sym, []}
+use Rattle.world_ended.specs.Asking.{GoesWith}
+use Rattle.world_ended.specs.TurnLaws.{on-same, says-ends}
+use Rattle.std.proofs.Common.{inl, subst, ◌≡◌, ◌∙◌, ◌/◌, ◌<◌, None, Some, ap, arith, refl, sym, []}
 use Rattle.daos_model.specs.Changes.{leased}
 use Rattle.world_base.specs.Commits.{led_entry, own_writes}
 use Rattle.world_base.specs.Requests as asked
@@ -91,3 +93,13 @@ pub returns-in-Ok-None-clause-reads : goal.returns-in-Ok-None-clause-reads
 returns-in-Ok-None-clause-reads g c =
     turn-carries c.says.result [] c.args.knows.now.member.memory c.ready.new.knows.member.memory (ap (λ k. k.member.memory.parked) c.in-Ok-None.ensures.heard)
     (says-none c.says.result c.args.from c.ended-message.result None (ap is_of_read c.ended-message.ensures) c.says.ensures.did)
+
+pub returns-in-Ok-Some-clause-ends : goal.returns-in-Ok-Some-clause-ends
+returns-in-Ok-Some-clause-ends g c asked was =
+    let heard : c.ready.new.knows ≡ with_clock (heard_of (Some c.in-Ok-Some.epoch) c.args.knows.now.hlc) c.args.knows.now = c.in-Ok-Some.ensures.heard ∙ ap (λ o. with_clock (heard_of o c.args.knows.now.hlc) c.args.knows.now) c.in-Ok-Some.field-0-is in
+    on-same asked c.args.knows.now.leader c.ready.new.knows.leader c.commit_at.new.knows.leader c.commit_at.result (ap (λ k. k.leader) heard) (c.commit_at.ensures.ends asked was)
+
+pub returns-in-Ok-None-clause-ends : goal.returns-in-Ok-None-clause-ends
+returns-in-Ok-None-clause-ends g c asked was =
+    let heard : c.ready.new.knows ≡ with_clock c.args.knows.now.hlc c.args.knows.now = c.in-Ok-None.ensures.heard ∙ ap (λ o. with_clock (heard_of o c.args.knows.now.hlc) c.args.knows.now) c.in-Ok-None.field-0-is in
+    says-ends asked c.args.knows.now.leader c.ready.new.knows.leader c.args.from c.ended-message.result None c.says.result (ap (λ k. k.leader) heard) (subst (GoesWith asked) (sym c.ended-message.ensures) (inl refl)) c.says.ensures.did

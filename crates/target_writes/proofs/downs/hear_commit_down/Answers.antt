@@ -1,4 +1,6 @@
-use Rattle.std.proofs.Common.{◌≡◌, ◌∙◌, None, Some, ap, refl, []}
+use Rattle.world_ended.specs.Asking.{GoesWith}
+use Rattle.world_ended.specs.TurnLaws.{says-ends}
+use Rattle.std.proofs.Common.{inl, subst, sym, ◌≡◌, ◌∙◌, None, Some, ap, refl, []}
 use Rattle.base_messages.specs.declared.message.Message.TheVariants as message
 use Rattle.base_types.specs.declared.outcome.Outcome.TheVariants.{Unknown}
 use Rattle.world_base.specs.Requests as asked
@@ -72,3 +74,13 @@ pub returns-in-Ok-None-clause-reads : goal.returns-in-Ok-None-clause-reads
 returns-in-Ok-None-clause-reads g c =
     turn-carries c.says-in-Ok-None.result [] c.args.knows.now.member.memory c.ready.new.knows.member.memory (ap (λ k. k.member.memory.parked) c.in-Ok-None.ensures.heard)
     (says-none c.says-in-Ok-None.result c.args.from c.ended-message-in-Ok-None.result None (ap is_of_read c.ended-message-in-Ok-None.ensures) c.says-in-Ok-None.ensures.did)
+
+pub returns-in-Ok-Some-clause-ends : goal.returns-in-Ok-Some-clause-ends
+returns-in-Ok-Some-clause-ends g c asked =
+    let heard : c.ready.new.knows ≡ with_clock (heard_of (Some c.in-Ok-Some.epoch) c.args.knows.now.hlc) c.args.knows.now = c.in-Ok-Some.ensures.heard ∙ ap (λ o. with_clock (heard_of o c.args.knows.now.hlc) c.args.knows.now) c.in-Ok-Some.field-0-is in
+    says-ends asked c.args.knows.now.leader c.ready.new.knows.leader c.args.from c.ended-message.result c.issued_for.result c.says.result (ap (λ k. k.leader) heard) (subst (GoesWith asked) (sym c.ended-message.ensures) (inl refl)) c.says.ensures.did
+
+pub returns-in-Ok-None-clause-ends : goal.returns-in-Ok-None-clause-ends
+returns-in-Ok-None-clause-ends g c asked =
+    let heard : c.ready.new.knows ≡ with_clock c.args.knows.now.hlc c.args.knows.now = c.in-Ok-None.ensures.heard ∙ ap (λ o. with_clock (heard_of o c.args.knows.now.hlc) c.args.knows.now) c.in-Ok-None.field-0-is in
+    says-ends asked c.args.knows.now.leader c.ready.new.knows.leader c.args.from c.ended-message-in-Ok-None.result None c.says-in-Ok-None.result (ap (λ k. k.leader) heard) (subst (GoesWith asked) (sym c.ended-message-in-Ok-None.ensures) (inl refl)) c.says-in-Ok-None.ensures.did

@@ -1,3 +1,4 @@
+use Rattle.world_ended.specs.TurnLaws.{on-same}
 use Rattle.std.proofs.Common.{◌/◌, ap, sym, []}
 use Rattle.daos_model.specs.Changes.{leased}
 use Rattle.target_parts.specs.Knowing.{memory_of}
@@ -33,3 +34,6 @@ returns-in-Ok-clause-posts g c = later-posts c.args.plan.targets c.args.knows.no
 
 pub returns-in-Ok-clause-reads : goal.returns-in-Ok-clause-reads
 returns-in-Ok-clause-reads g c = turn-on c.prepare_at.result [] c.args.knows.now.member.memory c.hear.new.knows.member.memory c.prepare_at.new.knows.member.memory (ap (λ k. k.member.memory.parked) c.in-Ok.ensures.heard) c.prepare_at.ensures.reads
+
+pub returns-in-Ok-clause-ends : goal.returns-in-Ok-clause-ends
+returns-in-Ok-clause-ends g c asked = on-same asked c.args.knows.now.leader c.hear.new.knows.leader c.prepare_at.new.knows.leader c.prepare_at.result (ap (λ k. k.leader) c.in-Ok.ensures.heard) (c.prepare_at.ensures.ends asked)

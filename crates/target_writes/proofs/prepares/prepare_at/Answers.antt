@@ -1,3 +1,4 @@
+use Rattle.world_ended.specs.TurnLaws.{says-ends}
 use Rattle.std.proofs.Common.{false, ◌∙◌, Err, Ok, ap, refl, subst, sym, [], None}
 use Rattle.vos_store.specs.Conditions.{IsPreparable}
 use Rattle.world_base.specs.Prepares.{acks}
@@ -53,3 +54,8 @@ returns-in-Ok-clause-reads g c =
     let q = c.args.request.now in
     turn-carries c.acks.result [] c.args.knows.now.member.memory c.prepare.new.knows.member.memory (ap (λ m. m.memory.parked) c.in-Ok.ensures.keeps.beside.member)
     (says-none c.acks.result (record { client = false; number = q.entry.leader }) (Ack q.entry.attempt q.inc c.in-Ok.refusal) None refl c.acks.ensures.did)
+
+pub returns-in-Ok-clause-ends : goal.returns-in-Ok-clause-ends
+returns-in-Ok-clause-ends g c asked =
+    let q = c.args.request.now in
+    says-ends asked c.args.knows.now.leader c.prepare.new.knows.leader (record { client = false; number = q.entry.leader }) (Ack q.entry.attempt q.inc c.in-Ok.refusal) None c.acks.result c.in-Ok.ensures.leader c.in-Ok.ensures.refused c.acks.ensures.did

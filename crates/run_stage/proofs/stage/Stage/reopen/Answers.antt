@@ -36,7 +36,7 @@ returns-in-Ok-clause-reopened g c =
     let e = c.restart.ensures in
     let there = at-index xs c.args.t x c.requires.within c.index_mut.ensures.value in
     reopened-whole g.S.Store.durable g.S.Store.state g.S.Store.may c.args.t c.next_restart-number.result x y c.restart.result c.try_opening.new.self (stage_now now) (stage_now c.opened.new.self)
-    (record { there = there; stands = c.requires.stopped }) c.in_ok-try_opening.ensures.tried c.in_ok-try_opening.ensures.few c.next_restart-number.ensures e.plan e.clock e.opens e.turn e.left e.bare e.native e.posts e.line e.reads e.fresh e.opened
+    (record { there = there; stands = c.requires.stopped }) c.in_ok-try_opening.ensures.tried c.in_ok-try_opening.ensures.few c.next_restart-number.ensures e.plan e.clock e.opens e.turn e.left e.bare e.native e.posts e.line e.reads e.ends e.fresh e.opened
     c.opened.result c.in-Ok.did c.in-Ok.is (c.opened.ensures.opened y (set-here xs c.args.t x y there))
 
 pub returns-in-Ok-clause-broke : goal.returns-in-Ok-clause-broke
@@ -48,7 +48,7 @@ returns-in-Ok-clause-broke g c settling k =
     let e = c.restart.ensures in
     let there = at-index xs c.args.t x c.requires.within c.index_mut.ensures.value in
     opened-broke g.S.Store.durable g.S.Store.state g.S.Store.may c.args.t c.next_restart-number.result x y c.restart.result c.try_opening.new.self (stage_now now) (stage_now c.opened.new.self)
-    (record { there = there; stands = c.requires.stopped }) c.in_ok-try_opening.ensures.tried c.in_ok-try_opening.ensures.few c.next_restart-number.ensures e.plan e.clock e.opens e.turn e.left e.bare e.native e.posts e.line e.reads e.fresh e.opened
+    (record { there = there; stands = c.requires.stopped }) c.in_ok-try_opening.ensures.tried c.in_ok-try_opening.ensures.few c.next_restart-number.ensures e.plan e.clock e.opens e.turn e.left e.bare e.native e.posts e.line e.reads e.ends e.fresh e.opened
     g.C.Clock.is_read settling k c.opened.result c.in-Ok.did c.in-Ok.is
     (c.opened.ensures.broke y (set-here xs c.args.t x y there))
 
@@ -74,7 +74,7 @@ returns-in-Err-clause-reopened g c =
     let there = at-index xs c.args.t x c.requires.within c.index_mut.ensures.value in
     let same = same-there xs c.args.t c.index.result.now x (at-index xs c.args.t c.index.result.now c.requires.within c.index.ensures) there in
     reopened-not g.S.Store.durable g.S.Store.state g.S.Store.may c.args.t c.next_restart-number.result x y c.restart.result c.try_opening.new.self (stage_now now) (stage_now c.not_opened.new.self)
-    (record { there = there; stands = c.requires.stopped }) c.in_ok-try_opening.ensures.tried c.in_ok-try_opening.ensures.few c.next_restart-number.ensures e.plan e.clock e.opens e.turn e.left e.bare e.native e.posts e.line e.reads e.fresh e.opened
+    (record { there = there; stands = c.requires.stopped }) c.in_ok-try_opening.ensures.tried c.in_ok-try_opening.ensures.few c.next_restart-number.ensures e.plan e.clock e.opens e.turn e.left e.bare e.native e.posts e.line e.reads e.ends e.fresh e.opened
     c.not_opened.result c.in-Err.stop c.faults-before.result c.in-Err.is (c.faults-before.ensures ∙ ap (λ z. (g.S.Store.state z.store).faults) same) (c.not_opened.ensures.after y (set-here xs c.args.t x y there))
 
 pub returns-in-Err-clause-broke : goal.returns-in-Err-clause-broke
@@ -86,7 +86,7 @@ returns-in-Err-clause-broke g c settling k =
     let e = c.restart.ensures in
     let there = at-index xs c.args.t x c.requires.within c.index_mut.ensures.value in
     opening-broke g.S.Store.durable g.S.Store.state g.S.Store.may c.args.t c.next_restart-number.result x y c.restart.result c.try_opening.new.self (stage_now now) (stage_now c.not_opened.new.self)
-    (record { there = there; stands = c.requires.stopped }) c.in_ok-try_opening.ensures.tried c.in_ok-try_opening.ensures.few c.next_restart-number.ensures e.plan e.clock e.opens e.turn e.left e.bare e.native e.posts e.line e.reads e.fresh e.opened
+    (record { there = there; stands = c.requires.stopped }) c.in_ok-try_opening.ensures.tried c.in_ok-try_opening.ensures.few c.next_restart-number.ensures e.plan e.clock e.opens e.turn e.left e.bare e.native e.posts e.line e.reads e.ends e.fresh e.opened
     g.C.Clock.is_read settling k c.not_opened.result c.in-Err.stop c.in-Err.is (ap (λ ts. ts.items) c.not_opened.ensures.targets)
 
 pub returns-in-Err-clause-served : goal.returns-in-Err-clause-served

@@ -31,7 +31,7 @@ returns-in-Ok-clause-worked g c =
     let x = c.index_mut.result.now in
     let e = c.hear_or_idle.ensures in
     worked-whole g.S.Store.durable g.S.Store.state g.S.Store.may g.C.Clock.is_read c.args.settling c.args.t c.args.number x c.hear_or_idle.new.host c.hear_or_idle.new.between c.hear_or_idle.result (stage_now now) (stage_now c.follow.new.self)
-    (record { there = at-index now.targets.items c.args.t x c.requires.within c.index_mut.ensures.value; stands = c.requires.runs }) e.plan e.opened e.runs e.silent e.clock e.posts e.once e.turned
+    (record { there = at-index now.targets.items c.args.t x c.requires.within c.index_mut.ensures.value; stands = c.requires.runs }) e.plan e.opened e.runs e.silent e.clock e.posts e.once e.ends e.turned
     c.follow.result c.in-Ok.did c.target_id.result c.in-Ok.is c.target_id.ensures c.follow.ensures.followed
 
 pub returns-in-Ok-clause-served : goal.returns-in-Ok-clause-served
@@ -49,7 +49,7 @@ returns-in-Ok-clause-broke g c =
     let x = c.index_mut.result.now in
     let e = c.hear_or_idle.ensures in
     work-broke g.S.Store.durable g.S.Store.state g.S.Store.may g.C.Clock.is_read c.args.settling c.args.t c.args.number x c.hear_or_idle.new.host c.hear_or_idle.new.between c.hear_or_idle.result (stage_now now) (stage_now c.follow.new.self)
-    (record { there = at-index now.targets.items c.args.t x c.requires.within c.index_mut.ensures.value; stands = c.requires.runs }) e.plan e.opened e.runs e.silent e.clock e.posts e.once e.turned
+    (record { there = at-index now.targets.items c.args.t x c.requires.within c.index_mut.ensures.value; stands = c.requires.runs }) e.plan e.opened e.runs e.silent e.clock e.posts e.once e.ends e.turned
     c.follow.result (ap (λ ts. ts.items) c.follow.ensures.targets)
 
 -- it was cut
@@ -63,7 +63,7 @@ returns-in-Err-clause-worked g c =
     let there = at-index xs c.args.t x c.requires.within c.index_mut.ensures.value in
     let same = same-there xs c.args.t c.index.result.now x (at-index xs c.args.t c.index.result.now c.requires.within c.index.ensures) there in
     worked-cut g.S.Store.durable g.S.Store.state g.S.Store.may g.C.Clock.is_read c.args.settling c.args.t c.args.number x y c.hear_or_idle.new.between c.hear_or_idle.result (stage_now now) (stage_now c.cut.new.self)
-    (record { there = there; stands = c.requires.runs }) e.plan e.opened e.runs e.silent e.clock e.posts e.once e.turned
+    (record { there = there; stands = c.requires.runs }) e.plan e.opened e.runs e.silent e.clock e.posts e.once e.ends e.turned
     c.cut.result c.in-Err.stop c.faults-before.result c.in-Err.is (c.faults-before.ensures ∙ ap (λ z. (g.S.Store.state z.store).faults) same) (c.cut.ensures.after y (set-here xs c.args.t x y there))
 
 pub returns-in-Err-clause-broke : goal.returns-in-Err-clause-broke
@@ -72,7 +72,7 @@ returns-in-Err-clause-broke g c =
     let x = c.index_mut.result.now in
     let e = c.hear_or_idle.ensures in
     work-broke g.S.Store.durable g.S.Store.state g.S.Store.may g.C.Clock.is_read c.args.settling c.args.t c.args.number x c.hear_or_idle.new.host c.hear_or_idle.new.between c.hear_or_idle.result (stage_now now) (stage_now c.cut.new.self)
-    (record { there = at-index now.targets.items c.args.t x c.requires.within c.index_mut.ensures.value; stands = c.requires.runs }) e.plan e.opened e.runs e.silent e.clock e.posts e.once e.turned
+    (record { there = at-index now.targets.items c.args.t x c.requires.within c.index_mut.ensures.value; stands = c.requires.runs }) e.plan e.opened e.runs e.silent e.clock e.posts e.once e.ends e.turned
     c.cut.result (ap (λ ts. ts.items) c.cut.ensures.targets)
 
 pub returns-in-Err-clause-served : goal.returns-in-Err-clause-served

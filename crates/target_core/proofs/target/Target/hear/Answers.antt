@@ -1,3 +1,4 @@
+use Rattle.world_ended.specs.Asking.{EndsAsked}
 use Rattle.std.proofs.Common.{◌≡◌, ◌∙◌, ap, subst, ◌∷◌, []}
 use Rattle.std.specs.Prelude.{IfOk}
 use Rattle.world_contents.specs.posts.Forms.{PostsInForm}
@@ -18,3 +19,7 @@ returns-clause-posts g c =
 
 pub returns-clause-reads : goal.returns-clause-reads
 returns-clause-reads g c = subst (λ x. IfOk c.hear_message.result (λ did. AnswersOnce (c.args.message ∷ []) x.memory.member c.hear_message.new.knows.member.memory did.posts)) c.self.view_is c.hear_message.ensures.reads
+
+pub returns-clause-ends : goal.returns-clause-ends
+returns-clause-ends g c asked goes =
+    subst (λ x. IfOk c.hear_message.result (λ did. EndsAsked asked x.memory.leader c.hear_message.new.knows.leader did.posts)) c.self.view_is (c.hear_message.ensures.ends asked goes)

@@ -1,3 +1,4 @@
+use Rattle.world_ended.specs.Asking.{EndsAsked}
 use Rattle.std.proofs.Common.{◌≡◌, Some, subst, []}
 use Rattle.std.specs.Prelude.{IfOk}
 use Rattle.world_contents.specs.posts.Forms.{PostsInForm}
@@ -19,3 +20,6 @@ returns-clause-posts g c = subst (λ x. IfOk c.idle_work.result (λ did. PostsIn
 
 pub returns-clause-reads : goal.returns-clause-reads
 returns-clause-reads g c = subst (λ x. IfOk c.idle_work.result (λ did. AnswersOnce [] x.memory.member c.idle_work.new.knows.member.memory did.posts)) c.self.view_is c.idle_work.ensures.reads
+
+pub returns-clause-ends : goal.returns-clause-ends
+returns-clause-ends g c asked = subst (λ x. IfOk c.idle_work.result (λ did. EndsAsked asked x.memory.leader c.idle_work.new.knows.leader did.posts)) c.self.view_is (c.idle_work.ensures.ends asked)

@@ -1,0 +1,6 @@
+-- Which attempts can end as committed: those of which their client has asked it.
+pub mod Asking
+pub mod PostLaws
+pub mod TurnLaws
+pub mod Clients
+pub mod ClientLaws
