@@ -113,3 +113,7 @@ returns-clause-turn g c d at m reading a ask v =
 pub returns-clause-reads : goal.returns-clause-reads
 returns-clause-reads g c =
     tried-each c.args.asks c.args.posts c.args.knows.now.member.memory c.loop-plan.knows.member.memory c.loop-plan.rest.items c.loop-plan.posts c.sends.result.posts (ap (λ x. x.posts) c.sends.ensures) c.loop-plan.invariant.once
+
+pub returns-clause-ends : goal.returns-clause-ends
+returns-clause-ends g c asked =
+    subst (EndsAsked asked c.args.knows.now.leader c.loop-plan.knows.leader) (sym (ap (λ x. x.posts) c.sends.ensures)) (c.loop-plan.invariant.ends asked)
