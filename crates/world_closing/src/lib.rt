@@ -6,8 +6,8 @@ ghost use Rattle.world_closing.specs.Dates.{DatesAreApart};
 ghost use Rattle.world_closing.specs.Issued.{AllEventsIssueOnce};
 
 /// Says that each line of an attempt shows its cause among all lines, as a legal report asks, in a run of any script:
-/// where each attempt of which an epoch counts has its line with that epoch, none was stored twice at a target or
-/// has two lines, lines stand in turn, later reads that causes name were issued their epochs, and outcomes show
+/// where each attempt of which an epoch counts has its line with that epoch, each that was stored at a target has one
+/// which doesn't tell that space was wanting there, none was stored twice at a target or has two lines, lines stand in turn, later reads that causes name were issued their epochs, and outcomes show
 /// their causes over dates. A snapshot that lacks a place shows that the opening's and those of other lines may fill
 /// all; ticks are spent by attempts that have lines, those that read at snapshots among them. No attempt counts with
 /// two epochs, where none was issued two.

@@ -38,12 +38,12 @@ abbrev pub IsBegunBy : Rules → World → AttemptId → Type 0
 IsBegunBy r w x = IsPresent r w x ⊎ (IsOver w.clients x ⊎ HasItsLine w x)
 
 -- What counts for an attempt: its epoch; or where it reads at a snapshot, that of the snapshot, so much later. That it may be later shows that no
--- cause but what a read met rests on it.
+-- later read which a cause names is one at a snapshot.
 abbrev pub counted_as : Rules → ℕ → AttemptId → Epoch → Epoch
 counted_as r late x e = if is_at_snapshot r x then record { 0 = e.0 + late } else e
 
--- These count in a world: but for those of attempts that read at snapshots, just the epochs that were issued; each is its attempt's, which was
--- begun; and an attempt that reads at a snapshot has at most one.
+-- These count in a world: but for those of attempts that read at snapshots, just the epochs that were issued; each is its attempt's, or so
+-- much later, which was begun; and an attempt that reads at a snapshot has at most one.
 pub record AreDates (r : Rules) (late : ℕ) (dated : Dated) (w : World) : Type 0 where
   pub issued : filter (is_own_date r) dated ≡ w.issued
   pub epochs : (x : AttemptId) (d : Epoch) → Contains dated (x, d) → (e : Epoch) × IsEpochOf r w x e × (d ≡ counted_as r late x e)
