@@ -7,7 +7,7 @@ use Rattle.daos_model.specs.declared.durable.Durable.{Durable}
 use Rattle.pmem_undo.specs.Layout.{SameContent, gate, is_content}
 use Rattle.pmem_undo.specs.Settled.{IsAtRest, settled}
 use Rattle.vos_commits.specs.Kept.{IsCommit, IsQuiet, MayFind, Reading, content_of, kept_in, kept_over}
-use Rattle.vos_commits.specs.Laws.{AtRestOneIsFound, CommitsFind, CommitsKeep, QuietFindsTheSame}
+use Rattle.vos_commits.specs.Laws.{AtRestOneIsFound, CommitsFind, CommitsKeep, QuietFindsTheSame, QuietKeepsTheSame}
 
 -- two images with the same content have one content
 same-content : (f g : Image) → SameContent f g → content_of f ≡ content_of g
@@ -69,3 +69,6 @@ quiet-finds reading size ranges done f g old new x k quiet may =
       | inl before ↦ before
       | inr after ↦ subst (MayFind reading size old) (sym (after ∙ quiet)) (kept-found reading size ranges done f g old new x k may)
     ]
+
+pub quiet-keeps : QuietKeepsTheSame
+quiet-keeps reading size ranges done f g old new k quiet ok = commit-keeps reading size ranges done f g old new k ok ∙ quiet

@@ -6,7 +6,7 @@ use Rattle.daos_model.specs.declared.durable.Durable.{Durable}
 use Rattle.pmem_undo.specs.Settled.{IsAtRest}
 use Rattle.vos_commits.specs.Kept.{IsCommit, IsQuiet, MayFind, Reading, kept_in, kept_over}
 use Rattle.vos_store.specs.Calls.{Makes, MakesPartly}
-use Rattle.vos_store.specs.Refusals.{refuses}
+use Rattle.vos_store.specs.Refusals.{refuses, says}
 
 -- at rest the next opening finds what is kept, and nothing else
 abbrev pub AtRestOneIsFound : Type 1
@@ -36,6 +36,18 @@ abbrev pub QuietFindsTheSame : Type 1
 QuietFindsTheSame =
     (reading : Reading) (size : ℕ) (ranges : List Range) (done : Bool) (f g : Image) (old new : Image → Type 0) (x : Durable)
     → IsCommit size ranges done f g old new → IsQuiet reading size ranges f → MayFind reading size new x → MayFind reading size old x
+
+-- and, where it is done, what is kept
+abbrev pub QuietKeepsTheSame : Type 1
+QuietKeepsTheSame =
+    (reading : Reading) (size : ℕ) (ranges : List Range) (done : Bool) (f g : Image) (old new : Image → Type 0)
+    → IsCommit size ranges done f g old new → IsQuiet reading size ranges f → done ≡ true → kept_in reading size g ≡ kept_in reading size f
+
+-- a call that stopped before its change was made has made none of it, where what came before leaves to openings what they would have found
+abbrev pub StoppedBeforeMakesNone : Type 1
+StoppedBeforeMakesNone =
+    (T E : Type 0) (stop : E → Bool) (change : Durable → Durable) (was_stopped : Bool) (result : Result T E) (kept new : Option Durable) (may after : Durable → Type 0)
+    → says stop result ≡ true → ((x : Durable) → after x → may x) → is_some new ≡ is_some kept → Makes was_stopped stop change result kept new may after
 
 -- a change is the same change where what came before it left to openings what they would have found
 abbrev pub QuietBeforeStays : Type 1

@@ -1,5 +1,5 @@
 -- Commits that make a change, as a store's call makes it.
-use Rattle.std.specs.Prelude.{ℕ, ◌≡◌, ◌⊎◌, Bool, true, false, List, OnOk, Option, Some, None, Result, Ok, Err, is_ok, is_some, refl}
+use Rattle.std.specs.Prelude.{ℕ, ◌≡◌, ◌⊎◌, Bool, true, false, not, List, OnOk, Option, Some, None, Result, Ok, Err, is_ok, is_some, refl}
 use Rattle.std.specs.Option.{option_map}
 use Rattle.std.proofs.Common.{ap, sym, ◌∙◌, subst, inl, inr}
 use Rattle.base_outside.specs.Images.{Image, Range}
@@ -7,9 +7,9 @@ use Rattle.daos_model.specs.declared.durable.Durable.{Durable}
 use Rattle.daos_model.specs.BoolLaws.{clash}
 use Rattle.vos_commits.specs.Found.{commit-finds, commit-keeps}
 use Rattle.vos_commits.specs.Kept.{IsCommit, MayFind, Reading, kept_in, kept_over}
-use Rattle.vos_commits.specs.Laws.{CommitsMake, QuietAfterStays, QuietBeforeStays, StepsArePartOfAChange}
+use Rattle.vos_commits.specs.Laws.{CommitsMake, QuietAfterStays, QuietBeforeStays, StepsArePartOfAChange, StoppedBeforeMakesNone}
 use Rattle.vos_store.specs.Calls.{Makes, MakesPartly}
-use Rattle.vos_store.specs.Refusals.{refuses}
+use Rattle.vos_store.specs.Refusals.{refuses, says}
 
 -- what holds where a result is Ok holds at Ok
 pub on-ok : {T E : Type 0} (P : Type 0) (result : Result T E) → (is_ok result ≡ true → P) → OnOk result P
@@ -67,4 +67,25 @@ step-is-part T E stop change Cut result reading size ranges d f g may old left s
     | inl before ↦ so_far x before
     | inr after ↦ inr (subst (Cut d) (sym after) cut)
   ]);
+}
+
+-- what stopped is no other refusal, and isn't Ok
+not-refused : {T E : Type 0} (stop : E → Bool) (result : Result T E) → says stop result ≡ true → refuses stop result ≡ true → ⊥
+not-refused stop (Ok x) stopped refused = clash false stopped refl
+not-refused stop (Err e) stopped refused = clash (stop e) stopped (by (stop e) refused)
+  where
+    by : (b : Bool) → not b ≡ true → b ≡ false
+    by true h = let no : ⊥ = cc in absurd no
+    by false h = refl
+
+not-ok : {T E : Type 0} (P : Type 0) (stop : E → Bool) (result : Result T E) → says stop result ≡ true → OnOk result P
+not-ok P stop (Ok x) stopped = absurd (clash false stopped refl)
+not-ok P stop (Err e) stopped = tt
+
+pub stopped-makes : StoppedBeforeMakesNone
+stopped-makes T E stop change was_stopped result kept new may after stopped quiet told = record {
+  told = told;
+  done = not-ok (new ≡ option_map change kept) stop result stopped;
+  refused = λ no. absurd (not-refused stop result stopped no);
+  left = λ x found. inl (quiet x found);
 }
