@@ -1,5 +1,6 @@
 -- What may be said of how attempts end, where their clients have asked to commit these.
 use Rattle.std.specs.Prelude.{ℕ, ◌≡◌, ◌⊎◌, Bool, true, IfSome, List, Option, Some}
+use Rattle.std.proofs.Common.{sym, subst}
 use Rattle.base_types.specs.declared.id.AttemptId.{AttemptId}
 use Rattle.base_types.specs.declared.outcome.Outcome.{Outcome}
 use Rattle.base_types.specs.declared.outcome.Outcome.TheVariants as outcome
@@ -12,6 +13,8 @@ use Rattle.base_messages.specs.declared.message.Reply.TheVariants as reply
 use Rattle.dtx_base.specs.declared.leading.LeaderMemory.{LeaderMemory}
 use Rattle.dtx_base.specs.declared.leading.Undecided.{Undecided}
 use Rattle.model_laws.specs.Members.{Has}
+use Rattle.world_base.specs.declared.target.Collection.{Collection}
+use Rattle.world_base.specs.declared.target.TargetMemory.{TargetMemory}
 use Rattle.world_letters.specs.clients.Answered.{is_refusal}
 
 -- the attempts of which their client has asked that they end as committed
@@ -39,11 +42,13 @@ AsksSo asked (message.Prune x cont tracker e) = asked x ≡ true
 AsksSo asked m = Unit {0}
 
 -- A message goes with what was asked: that an attempt is committed is asked and told, and told to be lost, of those alone of which it was
--- asked; any other end is a refusal, and so is what a leader is told of a Prepare that failed.
+-- asked; any other end is a refusal, and so is what a leader is told of a Prepare that failed,
+-- and target 0 of a Freeze.
 abbrev pub GoesWith : Asked → Message → Type 0
 GoesWith asked (message.Fetched x op group e b) = IsReply b
 GoesWith asked (message.Ended x e how) = IsEnd (asked x) how
 GoesWith asked (message.Ack x inc refusal) = AreRefusals refusal
+GoesWith asked (message.Held x refusal) = AreRefusals refusal
 GoesWith asked (message.Reset' by down place (more_of-Message m rest)) = AsksSo asked m
 GoesWith asked m = AsksSo asked m
 
@@ -63,3 +68,35 @@ pub record LeavesWith (asked : Asked) (m : LeaderMemory) (posts : List Post) : T
 -- posts goes with what was asked.
 abbrev pub EndsAsked : Asked → LeaderMemory → LeaderMemory → List Post → Type 0
 EndsAsked asked old new posts = WaitWith asked old → LeavesWith asked new posts
+
+-- ---- what is being made besides
+
+-- target 0 makes snapshots and aggregations for those attempts alone of which it was asked
+abbrev pub MakesWith : Asked → List Collection → Type 0
+MakesWith asked cs = (n : Collection) → Has n cs → asked n.attempt ≡ true
+
+-- all that a target remembers goes with what was asked
+pub record RemembersWith (asked : Asked) (m : TargetMemory) : Type 0 where
+  pub waiting : WaitWith asked m.leader
+  pub making : MakesWith asked m.collecting
+
+-- and so does what is posted
+pub record TurnLeavesWith (asked : Asked) (m : TargetMemory) (posts : List Post) : Type 0 where
+  pub said : PostsGoWith asked posts
+  pub remembers : RemembersWith asked m
+
+-- A target ends as committed only what it was asked, in any turn.
+abbrev pub TurnsEndAsked : Asked → TargetMemory → TargetMemory → List Post → Type 0
+TurnsEndAsked asked old new posts = RemembersWith asked old → TurnLeavesWith asked new posts
+
+-- so does a turn of a leader, in which nothing is made
+pub leaders-end : (asked : Asked) (old new : TargetMemory) (posts : List Post) → new.collecting ≡ old.collecting → EndsAsked asked old.leader new.leader posts → TurnsEndAsked asked old new posts
+leaders-end asked old new posts same k before =
+    let l = k before.waiting in
+    record { said = l.said; remembers = record { waiting = l.waiting; making = λ n i. before.making n (subst (Has n) same i) } }
+
+-- and a turn in which nothing that a leader remembers changes
+pub makers-end : (asked : Asked) (old new : TargetMemory) (posts : List Post) → new.leader ≡ old.leader → (MakesWith asked old.collecting → PostsGoWith asked posts × MakesWith asked new.collecting) → TurnsEndAsked asked old new posts
+makers-end asked old new posts same k before =
+    let l = k before.making in
+    record { said = l.0; remembers = record { waiting = subst (WaitWith asked) (sym same) before.waiting; making = l.1 } }

@@ -56,6 +56,7 @@ goes-more asked now (message.Fetched x op group e b) more k = k
 goes-more asked now (message.Ended x e how) more (inl refused) = inl refused
 goes-more asked now (message.Ended x e how) more (inr k) = inr (k.0, more x k.1)
 goes-more asked now (message.Ack x inc refusal) more k = k
+goes-more asked now (message.Held x refusal) more k = k
 goes-more asked now (message.Reset' by down place (more_of-Message m rest)) more k = asks-more m k
   where
     asks-more : (m : Message) → AsksSo asked m → AsksSo now m

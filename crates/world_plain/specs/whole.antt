@@ -3,6 +3,7 @@ pub mod Judged
 pub mod ScriptForm
 pub mod Asking
 pub mod Commits
+pub mod KnownSnapshots
 pub mod Posting
 pub mod Everything
 -- What a run begins with, and what follows from there.

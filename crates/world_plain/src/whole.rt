@@ -6,6 +6,7 @@ ghost use Rattle.world_plain.specs.whole.Everything.{EventsKeepEverything, RunsK
 ghost use Rattle.world_plain.specs.whole.Fresh.{EmptyStoresOpen, EnlistedOpensToo, FreshStoresOpen, FreshWorldsAreBegun};
 ghost use Rattle.world_plain.specs.whole.Hearable.{HeardHasForm, RequestsCanBeHeard};
 ghost use Rattle.world_plain.specs.whole.Judged.{ClientsKeepJudged};
+ghost use Rattle.world_plain.specs.whole.KnownSnapshots.{ClientsKeepReadsKnown, HearersKeepReadsKnown, ReadsKnownBegins};
 ghost use Rattle.world_plain.specs.whole.Posting.{ClientsPostInForm, HearersPostInForm};
 ghost use Rattle.world_plain.specs.whole.ScriptForm.{ReadsAreInForm, WritesAreInForm};
 ghost use Rattle.world_plain.specs.whole.Whole.{RunsBeginWhole, RunsCanBeHeard, RunsStayWhole};
@@ -26,14 +27,17 @@ pub fn laws_of_requests()
 {}
 
 /// Says that what a script in form reads is in form, and so are the writes of each of its attempts. So
-/// is all that its clients send, whatever they heard, where they make no snapshot, read at none, and
-/// don't aggregate: reads, writes, and questions what became of these go to targets, writes to their leader, and
-/// trackers to clients.
+/// is all that its clients send, whatever they heard: reads, writes, what asks for snapshots and aggregations, and
+/// questions what became of these go to targets, writes to their leader, and trackers to clients. A client that reads
+/// at a snapshot has to know it, and its epoch; every turn keeps that, and it is so before the first attempt.
 pub fn laws_of_forms()
     ensures reads { ReadsAreInForm }
     ensures writes { WritesAreInForm }
     ensures posts { ClientsPostInForm }
     ensures answers { HearersPostInForm }
+    ensures going { ClientsKeepReadsKnown }
+    ensures hearing { HearersKeepReadsKnown }
+    ensures first { ReadsKnownBegins }
 {}
 
 /// Says that every event of a run keeps, all together: what goes about, what lines tell,

@@ -16,6 +16,7 @@ pub mod Events
 pub mod Answers
 pub mod RefusalLaws
 pub mod Clients
+pub mod Ending
 pub mod Happening
 pub mod Begin
 pub mod Doing

@@ -49,14 +49,14 @@ first-of limit client command n (x ∷ y ∷ more) p a k i is = by (p x) refl i 
 
 -- ---- the commands of a client
 
-command-of : (limit client command n : ℕ) (xs : List Attempt) (a : Attempt) → AreAttempts limit client command n xs → Has a xs → a.id.command ≡ command
+pub command-of : (limit client command n : ℕ) (xs : List Attempt) (a : Attempt) → AreAttempts limit client command n xs → Has a xs → a.id.command ≡ command
 command-of limit client command n [] a k i = absurd i
 command-of limit client command n (b ∷ []) a k (inl same) = ap (λ c. c.id.command) same ∙ ap (λ x. x.command) k.0
 command-of limit client command n (b ∷ []) a k (inr i) = absurd i
 command-of limit client command n (b ∷ c ∷ more) a k (inl same) = ap (λ d. d.id.command) same ∙ ap (λ x. x.command) k.0
 command-of limit client command n (b ∷ c ∷ more) a k (inr i) = command-of limit client command (n + 1) (c ∷ more) a k.3 i
 
-from-on : (limit client n : ℕ) (cs : List Command) (xs : List Attempt) (a : Attempt) → AreInTurn limit client n cs xs → Has a xs → n ≤ a.id.command
+pub from-on : (limit client n : ℕ) (cs : List Command) (xs : List Attempt) (a : Attempt) → AreInTurn limit client n cs xs → Has a xs → n ≤ a.id.command
 from-on limit client n [] xs a k i = absurd (subst (Has a) k i)
 from-on limit client n (c ∷ cs) xs a k i = elim (has-cases k.0 k.1 a (subst (Has a) k.2 i)) [
   | inl j ↦ let e : a.id.command ≡ n = command-of limit client n 0 k.0 a k.3 j in omega (arith, e)

@@ -70,7 +70,7 @@ turn-command limit client n (c ∷ cs) attempts a t i = by (has-cases t.0 t.1 a 
     by (inr j) rest = let r = rest j in let at = r.1 in (suc r.0, omega (arith, at), r.2)
 
 -- in the end each attempt of the lines is one of a command of its client
-has-command : (limit : ℕ) (s : Script) (lines : List Line) (a : Attempt) → AllInTurn limit s lines → Has a (tries lines) → (d : Command) × (command_of s a.id ≡ Some d)
+pub has-command : (limit : ℕ) (s : Script) (lines : List Line) (a : Attempt) → AllInTurn limit s lines → Has a (tries lines) → (d : Command) × (command_of s a.id ≡ Some d)
 unfolding command_of
 has-command limit s lines a turn i = by (slice_get s.clients a.id.client) refl
   where
@@ -93,7 +93,7 @@ has-command limit s lines a turn i = by (slice_get s.clients a.id.client) refl
 -- ---- conditions
 
 -- an attempt of the lines ended as it was answered
-ended-well : (r : Rules) (w : World) (a : Attempt) → Lines r w → Has a (tries w.lines) → EndsWell (attempt_ops r.script a.id) a a.outcome
+pub ended-well : (r : Rules) (w : World) (a : Attempt) → Lines r w → Has a (tries w.lines) → EndsWell (attempt_ops r.script a.id) a a.outcome
 ended-well r w a k i = by (slice_get w.clients a.id.client) refl
   where
     mine : Has a (tries_of a.id.client w.lines)
@@ -106,7 +106,7 @@ ended-well r w a k i = by (slice_get w.clients a.id.client) refl
         (has-all (EndsAsAnswered (client_plan r a.id.client)) (tries_of a.id.client w.lines) a (lines-answered r w a.id.client c k e) mine)
 
 -- an attempt that was answered something has an epoch, and so has one whose writes are committed
-whole-issued : (r : Rules) (h : History) (a : Attempt) → IsLineServed r h a → (HasWrites r a.id → (e : Epoch) × (a.epoch ≡ Some e)) → attempt_ops r.script a.id ≢ [] → IsAnsweredWhole (attempt_ops r.script a.id) a
+pub whole-issued : (r : Rules) (h : History) (a : Attempt) → IsLineServed r h a → (HasWrites r a.id → (e : Epoch) × (a.epoch ≡ Some e)) → attempt_ops r.script a.id ≢ [] → IsAnsweredWhole (attempt_ops r.script a.id) a
     → is_some a.epoch ≡ true
 whole-issued r h a served written some whole = by a.epoch refl
   where
@@ -121,7 +121,7 @@ whole-issued r h a served written some whole = by a.epoch refl
         unissued [] none = some (no-ops 0 0 (attempt_ops r.script a.id) none (sym whole.answered ∙ ap (map (λ got. got.0)) told.0))
         unissued (m ∷ ms) is = let e = written (λ none. let no : ⊥ = cc in no) in let both : None ≡ Some e.0 = sym at ∙ e.1 in let no : ⊥ = cc in no
 
-ends-right : (ops : List Op) (a : Attempt) (how : Outcome) → (how ≡ outcome.Committed → IsAnsweredWhole ops a → is_some a.epoch ≡ true) → EndsWell ops a how → EndsRight ops a how
+pub ends-right : (ops : List Op) (a : Attempt) (how : Outcome) → (how ≡ outcome.Committed → IsAnsweredWhole ops a → is_some a.epoch ≡ true) → EndsWell ops a how → EndsRight ops a how
 ends-right ops a outcome.Committed issued k = record { issued = issued refl k; asked = k.asked; answered = k.answered; hold = k.hold }
 ends-right ops a (outcome.CondFailed op) issued k = k
 ends-right ops a (outcome.Restart cause) issued k = k

@@ -60,7 +60,7 @@ seen-dkeys r o h targets plain form opens x e m seen =
 
 -- ---- maps that hold the same
 
-right-same : (ops : List Op) (m n : List CellValue) (a : Attempt) → SameMap m n → IsToldRight ops (Some m) a → IsToldRight ops (Some n) a
+pub right-same : (ops : List Op) (m n : List CellValue) (a : Attempt) → SameMap m n → IsToldRight ops (Some m) a → IsToldRight ops (Some n) a
 right-same ops m n a same k = (all-more (IsRightAnswer ops m) (IsRightAnswer ops n) a.gots got k.0, all-more (IsRightCondition ops m) (IsRightCondition ops n) a.conds told k.1)
   where
     got : (x : ℕ × Answer) → IsRightAnswer ops m x → IsRightAnswer ops n x

@@ -23,11 +23,11 @@ use Rattle.world_causes.specs.causes.IssuedOnce.{IssuedOnce}
 use Rattle.world_causes.specs.causes.LastCauses.{stored-are-told}
 use Rattle.world_causes.specs.causes.Shown.{Causes}
 use Rattle.world_causes.specs.causes.Storing.{AreApart, dated_ids}
+use Rattle.world_causes.specs.handing.Places.{snapshots-read}
 use Rattle.world_plain.specs.ends.Ends.{durables_of, rules_of}
 use Rattle.world_plain.specs.ends.LinesApart.{lines-apart}
 use Rattle.world_letters.specs.epochs.Epochs.{HasLine}
 use Rattle.world_letters.specs.epochs.PlainLaws.{plain-epochs}
-use Rattle.world_letters.specs.epochs.PlainScripts.{no-snapshots}
 use Rattle.world_commit.specs.fates.Asked.{AskedRight}
 use Rattle.world_commit.specs.fates.Facts.{talking}
 use Rattle.world_letters.specs.lives.Legal.{AreCaused}
@@ -229,7 +229,7 @@ module _ (g : Given) (outside : Outside) (w v : World) (A : IsSimple (rules_of g
   turns = in-turn g outside goes_on.h (stored_over r run) v outcomes caused counted
 
   lines : AreLines g.script v
-  lines = record { plain = no-snapshots r A.unsnapped; distinct = goes_on.accounted.standing.heard.epochs.distinct.distinct; apart = lines-apart g.job.attempts g.script v.lines turns }
+  lines = record { reads = snapshots-read r g.script.targets A.form; distinct = goes_on.accounted.standing.heard.epochs.distinct.distinct; apart = lines-apart g.job.attempts g.script v.lines turns }
 
   issued : (x : AttemptId) (e : Epoch) → Contains v.issued (x, e) → HasLine v x e
   issued = issued-line r g.opening (held_at w) goes_on.h (stored_over r run) v A (held-before r g.opening w B) goes_on.accounted there.targets is_over.done

@@ -20,7 +20,7 @@ use Rattle.model_laws.specs.Members.{Has, contains-from_has, has-cases, has-from
 use Rattle.model_laws.specs.TargetLaws.{as_of-set}
 use Rattle.daos_model.specs.Accesses.{minor_writes}
 use Rattle.daos_model.specs.AsOf.{as_of}
-use Rattle.daos_model.specs.Attempts.{epoch_or_none, is_unknown, own_epochs, tries}
+use Rattle.daos_model.specs.Attempts.{epoch_or_none, has_own_epoch, is_unknown, own_epochs, snapshot_of, tries}
 use Rattle.daos_model.specs.Family.{resolved}
 use Rattle.daos_model.specs.Finals.{SameMap}
 use Rattle.daos_model.specs.Opening.{Opening}
@@ -35,7 +35,6 @@ use Rattle.world_causes.specs.causes.LastCauses.{ids}
 use Rattle.world_causes.specs.causes.Storing as storing
 use Rattle.world_plain.specs.ends.Ends.{durables_of}
 use Rattle.world_plain.specs.ends.Took.{with_writes, written-minors}
-use Rattle.world_letters.specs.epochs.PlainScripts.{NoSnapshots}
 use Rattle.world_contents.specs.reads.Transactions.{decided_of, transactions}
 use Rattle.world_legal.specs.closing.Closing.{Concluded, IsToldOf}
 
@@ -122,25 +121,34 @@ has-took s p (b ∷ attempts) a e (inr i) at is writes = has-right (took_by s p 
 
 -- ---- epochs apart
 
-own-next : (s : Script) (a : Attempt) (attempts : List Attempt) → NoSnapshots s → own_epochs s (a ∷ attempts) ≡ epoch_or_none a.epoch ++ own_epochs s attempts
+-- that of an attempt, where it has one of its own
+abbrev own_of : Script → Attempt → List ℕ
+own_of s a = if has_own_epoch s a then epoch_or_none a.epoch else []
+
+own-next : (s : Script) (a : Attempt) (attempts : List Attempt) → own_epochs s (a ∷ attempts) ≡ own_of s a ++ own_epochs s attempts
 unfolding own_epochs
-own-next s a attempts plain = ap (λ o. (if not (is_some o) then epoch_or_none a.epoch else []) ++ own_epochs s attempts) (plain a.id)
+own-next s a attempts = refl
+
+own-is : (s : Script) (a : Attempt) → has_own_epoch s a ≡ true → own_of s a ≡ epoch_or_none a.epoch
+own-is s a own = ap (λ b. if b then epoch_or_none a.epoch else []) own
 
 epoch-has : (o : Option Epoch) (e : Epoch) → o ≡ Some e → Has e.0 (epoch_or_none o)
 epoch-has None e at = let no : ⊥ = cc in absurd no
 epoch-has (Some f) e at = let same : f ≡ e = cc in inl (ap (λ g. g.0) (sym same))
 
-epoch-among : (s : Script) (attempts : List Attempt) (a : Attempt) (e : Epoch) → NoSnapshots s → Has a attempts → a.epoch ≡ Some e → Has e.0 (own_epochs s attempts)
-epoch-among s [] a e plain i at = absurd i
-epoch-among s (b ∷ attempts) a e plain (inl same) at =
-    subst (Has e.0) (sym (own-next s b attempts plain)) (has-left (epoch_or_none b.epoch) (own_epochs s attempts) e.0 (epoch-has b.epoch e (ap (λ c. c.epoch) (sym same) ∙ at)))
-epoch-among s (b ∷ attempts) a e plain (inr i) at =
-    subst (Has e.0) (sym (own-next s b attempts plain)) (has-right (epoch_or_none b.epoch) (own_epochs s attempts) e.0 (epoch-among s attempts a e plain i at))
+epoch-among : (s : Script) (attempts : List Attempt) (a : Attempt) (e : Epoch) → has_own_epoch s a ≡ true → Has a attempts → a.epoch ≡ Some e → Has e.0 (own_epochs s attempts)
+epoch-among s [] a e own i at = absurd i
+epoch-among s (b ∷ attempts) a e own (inl same) at =
+    subst (Has e.0) (sym (own-next s b attempts))
+    (has-left (own_of s b) (own_epochs s attempts) e.0
+    (subst (Has e.0) (sym (own-is s b (subst (λ c. has_own_epoch s c ≡ true) same own))) (epoch-has b.epoch e (ap (λ c. c.epoch) (sym same) ∙ at))))
+epoch-among s (b ∷ attempts) a e own (inr i) at = subst (Has e.0) (sym (own-next s b attempts)) (has-right (own_of s b) (own_epochs s attempts) e.0 (epoch-among s attempts a e own i at))
 
-distinct-rest : (o : Option Epoch) (es : List ℕ) → IsDistinct nat_eq (epoch_or_none o ++ es) → IsDistinct nat_eq es
+distinct-rest : (b : Bool) (o : Option Epoch) (es : List ℕ) → IsDistinct nat_eq ((if b then epoch_or_none o else []) ++ es) → IsDistinct nat_eq es
 unfolding IsDistinct
-distinct-rest None es d = d
-distinct-rest (Some e) es d = d.1
+distinct-rest false o es d = d
+distinct-rest true None es d = d
+distinct-rest true (Some e) es d = d.1
 
 tests-apart : (m n : ℕ) → nat_eq m n ≡ false → m ≢ n
 tests-apart m n e same = let no : ⊥ = grind (arith, nat_tests) in no
@@ -149,42 +157,55 @@ distinct-first : (n : ℕ) (es : List ℕ) (m : ℕ) → IsDistinct nat_eq (n �
 unfolding IsDistinct
 distinct-first n es m d i = tests-apart n m (has-all (λ k. nat_eq n k ≡ false) es m (All-from_recursion (λ k. nat_eq n k ≡ false) es d.0) i)
 
--- an attempt gives nothing, or one transaction at its epoch
-one-or-none : (s : Script) (p : AttemptId → Bool) (a : Attempt) → (took_by s p a ≡ []) ⊎ ((e : Epoch) × (a.epoch ≡ Some e) × (took_by s p a ≡ (a.id, e) ∷ []))
+-- an attempt gives nothing, or one transaction at its epoch, where it writes
+one-or-none : (s : Script) (p : AttemptId → Bool) (a : Attempt) → (took_by s p a ≡ []) ⊎ ((e : Epoch) × (a.epoch ≡ Some e) × (took_by s p a ≡ (a.id, e) ∷ []) × (minor_writes 0 (attempt_ops s a.id) ≢ []))
 one-or-none s p a = by (took_effect (p a.id) a.outcome) a.epoch (minor_writes 0 (attempt_ops s a.id))
   where
     by : (b : Bool) (o : Option Epoch) (ws : List MinorWrite)
-        → ((if b then with_writes a.id o ws else []) ≡ []) ⊎ ((e : Epoch) × (o ≡ Some e) × ((if b then with_writes a.id o ws else []) ≡ (a.id, e) ∷ []))
+        → ((if b then with_writes a.id o ws else []) ≡ []) ⊎ ((e : Epoch) × (o ≡ Some e) × ((if b then with_writes a.id o ws else []) ≡ (a.id, e) ∷ []) × (ws ≢ []))
     by false o ws = inl refl
     by true None ws = inl refl
     by true (Some e) [] = inl refl
-    by true (Some e) (w ∷ ws) = inr (e, refl, refl)
+    by true (Some e) (w ∷ ws) = inr (e, refl, refl, λ none. let no : ⊥ = cc in no)
 
 abbrev AreApart : Decided → Decided → Type 0
 AreApart d f = d.epoch.0 ≢ f.epoch.0
 
--- attempts with epochs of their own are transactions with such
-took-apart : (s : Script) (p : AttemptId → Bool) (attempts : List Attempt) → NoSnapshots s → IsDistinct nat_eq (own_epochs s attempts) → AllPairs AreApart (map (decided_of s) (all_took s p attempts))
-took-apart s p [] plain distinct = λ i j d lt within. absurd (omega arith)
-took-apart s p (a ∷ attempts) plain distinct = by (one-or-none s p a) (took-apart s p attempts plain (distinct-rest a.epoch (own_epochs s attempts) known))
-  where
-    known : IsDistinct nat_eq (epoch_or_none a.epoch ++ own_epochs s attempts)
-    known = subst (IsDistinct nat_eq) (own-next s a attempts plain) distinct
+-- who reads at a snapshot writes nothing
+abbrev pub ReadersWriteNothing : Script → Type 0
+ReadersWriteNothing s = (x : AttemptId) (name : List ℕ) → snapshot_of s x ≡ Some name → minor_writes 0 (attempt_ops s x) ≡ []
 
-    far : (e : Epoch) → a.epoch ≡ Some e → (d : Decided) → Has d (map (decided_of s) (all_took s p attempts)) → e.0 ≢ d.epoch.0
-    far e at d i =
+-- so who writes has an epoch of its own
+writers-own : (s : Script) (a : Attempt) → ReadersWriteNothing s → minor_writes 0 (attempt_ops s a.id) ≢ [] → has_own_epoch s a ≡ true
+writers-own s a reads writes = by (snapshot_of s a.id) refl
+  where
+    by : (o : Option (List ℕ)) → snapshot_of s a.id ≡ o → not (is_some (snapshot_of s a.id)) ≡ true
+    by None is = ap (λ o. not (is_some o)) is
+    by (Some name) is = absurd (writes (reads a.id name is))
+
+-- attempts with epochs of their own are transactions with such
+took-apart : (s : Script) (p : AttemptId → Bool) (attempts : List Attempt) → ReadersWriteNothing s → IsDistinct nat_eq (own_epochs s attempts) → AllPairs AreApart (map (decided_of s) (all_took s p attempts))
+took-apart s p [] reads distinct = λ i j d lt within. absurd (omega arith)
+took-apart s p (a ∷ attempts) reads distinct = by (one-or-none s p a) (took-apart s p attempts reads (distinct-rest (has_own_epoch s a) a.epoch (own_epochs s attempts) known))
+  where
+    known : IsDistinct nat_eq (own_of s a ++ own_epochs s attempts)
+    known = subst (IsDistinct nat_eq) (own-next s a attempts) distinct
+
+    far : (e : Epoch) → a.epoch ≡ Some e → minor_writes 0 (attempt_ops s a.id) ≢ [] → (d : Decided) → Has d (map (decided_of s) (all_took s p attempts)) → e.0 ≢ d.epoch.0
+    far e at writes d i =
         let z = has-from_map (decided_of s) (all_took s p attempts) d i in
         let c = took-has s p attempts z.0.0 z.0.1 z.1 in
         subst (λ f. e.0 ≢ f.epoch.0) z.2
-        (distinct-first e.0 (own_epochs s attempts) z.0.1.0 (subst (λ o. IsDistinct nat_eq (epoch_or_none o ++ own_epochs s attempts)) at known) (epoch-among s attempts c.a z.0.1 plain c.among c.at))
+        (distinct-first e.0 (own_epochs s attempts) z.0.1.0 (subst (λ o. IsDistinct nat_eq (epoch_or_none o ++ own_epochs s attempts)) at (subst (λ es. IsDistinct nat_eq (es ++ own_epochs s attempts)) (own-is s a (writers-own s a reads writes)) known))
+        (epoch-among s attempts c.a z.0.1 (writers-own s c.a reads c.writes) c.among c.at))
 
-    by : (took_by s p a ≡ []) ⊎ ((e : Epoch) × (a.epoch ≡ Some e) × (took_by s p a ≡ (a.id, e) ∷ [])) → AllPairs AreApart (map (decided_of s) (all_took s p attempts))
+    by : (took_by s p a ≡ []) ⊎ ((e : Epoch) × (a.epoch ≡ Some e) × (took_by s p a ≡ (a.id, e) ∷ []) × (minor_writes 0 (attempt_ops s a.id) ≢ [])) → AllPairs AreApart (map (decided_of s) (all_took s p attempts))
         → AllPairs AreApart (map (decided_of s) (took_by s p a ++ all_took s p attempts))
     by (inl none) rest = subst (λ ps. AllPairs AreApart (map (decided_of s) (ps ++ all_took s p attempts))) (sym none) rest
     by (inr one) rest =
         subst (λ ps. AllPairs AreApart (map (decided_of s) (ps ++ all_took s p attempts))) (sym one.2)
         (AllPairs-cons AreApart (decided_of s (a.id, one.0)) (map (decided_of s) (all_took s p attempts))
-        (all-from_has (AreApart (decided_of s (a.id, one.0))) (map (decided_of s) (all_took s p attempts)) (far one.0 one.1)) rest)
+        (all-from_has (AreApart (decided_of s (a.id, one.0))) (map (decided_of s) (all_took s p attempts)) (far one.0 one.1 one.3)) rest)
 
 -- ---- two lines of an attempt are one
 
@@ -202,9 +223,9 @@ neither : (how : Outcome) → (how ≡ outcome.Committed) ⊎ (is_unknown how �
 neither how (inl same) known off = off same
 neither how (inr unknown) known off = let no : ⊥ = cc (unknown, known) in no
 
--- what is known of lines: of each attempt there is one, none reads at a snapshot, and their epochs differ
+-- what is known of lines: of each attempt there is one, who reads at a snapshot writes nothing, and the epochs of the others differ
 pub record AreLines (s : Script) (v : World) : Type 0 where
-  pub plain : NoSnapshots s
+  pub reads : ReadersWriteNothing s
   pub distinct : IsDistinct nat_eq (own_epochs s (tries v.lines))
   pub apart : storing.AreApart (ids (tries v.lines))
 
@@ -272,7 +293,7 @@ module _ (r : Rules) (o : Opening) (held : ℕ → List Version) (h : History) (
 
   are-decided : AreDecided (map (decided_of r.script) told)
   are-decided = record {
-    apart = took-apart r.script is_resolved (tries v.lines) l.plain l.distinct;
+    apart = took-apart r.script is_resolved (tries v.lines) l.reads l.distinct;
     numbered = all-from_has IsNumbered (map (decided_of r.script) told) (λ d i. has-all IsNumbered (transactions r.script c.so.later) d c.so.versions.apart.numbered (to-transactions d i));
   }
 

@@ -24,7 +24,7 @@ use Rattle.daos_model.specs.Opening.{Opening}
 use Rattle.daos_model.specs.ReadsLegal.{map_at, map_read}
 use Rattle.daos_model.specs.Transactions.{attempt_ops}
 use Rattle.report_writer.specs.Forms.{IsCond, IsGot}
-use Rattle.script_runnable.specs.Keyed.{HasKeys, MapHasKeys, OpHasKeys, ScriptHasKeys, TakenHasKeys, WriteHasKeys}
+use Rattle.script_traits.specs.Keyed.{HasKeys, MapHasKeys, OpHasKeys, ScriptHasKeys, TakenHasKeys, WriteHasKeys}
 use Rattle.world_commit.specs.attempts.History.{History}
 use Rattle.world_base.specs.Events.{Rules}
 use Rattle.world_plain.specs.ends.LastReads.{then-dkeys}

@@ -15,7 +15,7 @@ use Rattle.daos_model.specs.Attempts.{is_of_client, tries, tries_of}
 use Rattle.daos_model.specs.Opening.{Given, top}
 use Rattle.daos_model.specs.Stops.{HasTarget, IsBelowSome, down_targets, least, target_of}
 use Rattle.report_writer.specs.Forms.{IsAttemptOf, IsCond, IsGot, IsLineOf, IsReportOf}
-use Rattle.script_runnable.specs.Keyed.{MapHasKeys, ScriptHasKeys}
+use Rattle.script_traits.specs.Keyed.{MapHasKeys, ScriptHasKeys}
 use Rattle.world_commit.specs.attempts.History.{History}
 use Rattle.world_base.specs.declared.client.ClientState.{ClientState}
 use Rattle.world_base.specs.declared.world.World.{World}

@@ -75,7 +75,7 @@ is_refusal (outcome.CondFailed op) = false
 is_refusal (outcome.Restart cause) = true
 is_refusal (outcome.NoSpace target need free) = true
 is_refusal outcome.EpochsSpent = true
-is_refusal outcome.NoSnapshot = true
+is_refusal outcome.NoSnapshot = false
 is_refusal (outcome.Unknown target) = true
 
 -- the attempt asks something at its stage

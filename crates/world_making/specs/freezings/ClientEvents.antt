@@ -129,7 +129,7 @@ new-try issued (Some l) own a (inr none) = absurd none
 -- ---- what they know
 
 -- the command of a present attempt is the one that its client is at
-command-back : (r : Rules) (n : ℕ) (c : ClientState) (a : Present) (d : Command) (attempts : List Attempt) → HasTold (client_plan r n) c attempts → c.present ≡ Some a
+pub command-back : (r : Rules) (n : ℕ) (c : ClientState) (a : Present) (d : Command) (attempts : List Attempt) → HasTold (client_plan r n) c attempts → c.present ≡ Some a
     → command_of r.script (attempt_id (client_plan r n) c a) ≡ Some d → command_at (client_plan r n) c ≡ Some d
 command-back r n c a d attempts told at of = by (command_at (client_plan r n) c) refl
   where

@@ -62,7 +62,7 @@ WaitingSeeFrozen =
 
 -- ---- what a client knows by a name
 
-found-known : (name : List ℕ) (known : List KnownSnap) (e : Epoch) → known_epoch known name ≡ Some e → (k : KnownSnap) × Has k known × (k.name ≡ name) × (k.epoch ≡ e)
+pub found-known : (name : List ℕ) (known : List KnownSnap) (e : Epoch) → known_epoch known name ≡ Some e → (k : KnownSnap) × Has k known × (k.name ≡ name) × (k.epoch ≡ e)
 found-known name [] e is = let no : ⊥ = cc in absurd no
 found-known name (k ∷ known) e is = by (is_known_as name k) refl is (found-known name known e)
   where

@@ -22,7 +22,7 @@ use Rattle.daos_model.specs.Cells.{single_cell, value_at}
 use Rattle.daos_model.specs.ReadsLegal.{IsRightAnswer, IsRightCondition, IsToldRight}
 use Rattle.daos_model.specs.Transactions.{read_of, read_of_op}
 use Rattle.report_writer.specs.Forms.{IsAnswer, IsCond, IsGot, IsPiece}
-use Rattle.script_runnable.specs.Keyed.{MapHasKeys}
+use Rattle.script_traits.specs.Keyed.{MapHasKeys}
 use Rattle.world_plain.specs.forms.KeyLaws.{akey-names, dkey-names}
 
 -- ---- pieces

@@ -27,7 +27,7 @@ use Rattle.daos_model.specs.Attempts.{tries}
 use Rattle.daos_model.specs.Effect.{effect, effects, extent_cells, index_value, record_cells, records_of, without}
 use Rattle.daos_model.specs.TookEffect.{all_taken, taken_at, taken_by, took, took_effect}
 use Rattle.daos_model.specs.Transactions.{attempt_ops, command_of, numbered, ops_or_none, writes_of, written}
-use Rattle.script_runnable.specs.Keyed.{CellHasKeys, CommandHasKeys, HasKeys, IsKeyOrNone, MapHasKeys, OpHasKeys, ScriptHasKeys, TakenHasKeys, WriteHasKeys}
+use Rattle.script_traits.specs.Keyed.{CellHasKeys, CommandHasKeys, HasKeys, IsKeyOrNone, MapHasKeys, OpHasKeys, ScriptHasKeys, TakenHasKeys, WriteHasKeys}
 
 -- ---- attempts
 

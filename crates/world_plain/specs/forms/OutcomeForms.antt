@@ -33,7 +33,7 @@ use Rattle.world_plain.specs.ends.Ends.{rules_of}
 use Rattle.world_letters.specs.epochs.Epochs.{Unsnapped, is_unsnapped}
 use Rattle.model_laws.specs.EntryLaws.{same-attempt}
 use Rattle.model_laws.specs.Lists.{any-all}
-use Rattle.script_runnable.specs.Keyed.{ScriptHasKeys}
+use Rattle.script_traits.specs.Keyed.{ScriptHasKeys}
 use Rattle.world_plain.specs.forms.PathForms.{attempt-paths, attempt-writes}
 use Rattle.world_plain.specs.forms.SpaceForms.{space-form}
 use Rattle.world_letters.specs.epochs.PlainScripts.{command-plain}

@@ -22,7 +22,7 @@ use Rattle.daos_model.specs.Accesses.{minor_write, minor_writes, op_path}
 use Rattle.daos_model.specs.Transactions.{attempt_ops}
 use Rattle.report_writer.specs.Forms.{HasNames, IsBelowOf, IsContOf, IsObjOf, IsPathOf}
 use Rattle.world_contents.specs.gots.FormLaws.{ops-form}
-use Rattle.script_runnable.specs.Keyed.{HasKeys, IsKeyOrNone, OpHasKeys, ScriptHasKeys}
+use Rattle.script_traits.specs.Keyed.{HasKeys, IsKeyOrNone, OpHasKeys, ScriptHasKeys}
 use Rattle.world_plain.specs.forms.KeyLaws.{attempt-keys}
 
 -- ---- what is so of all is so of one that is shown

@@ -36,7 +36,7 @@ use Rattle.world_plain.specs.ends.Ends.{rules_of}
 use Rattle.world_letters.specs.epochs.Epochs.{Unsnapped, is_unsnapped}
 use Rattle.world_contents.specs.gots.FormLaws.{ops-form}
 use Rattle.world_plain.specs.forms.AnswerForms.{told-form}
-use Rattle.script_runnable.specs.Keyed.{MapHasKeys, ScriptHasKeys}
+use Rattle.script_traits.specs.Keyed.{MapHasKeys, ScriptHasKeys}
 use Rattle.world_plain.specs.forms.KeyLaws.{as_of-keys, took-keys}
 use Rattle.world_plain.specs.forms.NumberForms.{id-form}
 use Rattle.world_plain.specs.forms.OutcomeForms.{AreFitLines, outcome-form}

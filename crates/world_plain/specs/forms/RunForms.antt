@@ -26,7 +26,7 @@ use Rattle.world_causes.specs.causes.Causes.{is_try}
 use Rattle.world_base.specs.Ended.{HasEnded}
 use Rattle.world_base.specs.Events.{Rules, Run}
 use Rattle.world_contents.specs.reads.Versions.{Versions}
-use Rattle.script_runnable.specs.Keyed.{CellHasKeys, MapHasKeys, ScriptHasKeys}
+use Rattle.script_traits.specs.Keyed.{CellHasKeys, MapHasKeys, ScriptHasKeys}
 use Rattle.world_plain.specs.forms.ReportForms.{HasSmallNumbers, IsReportWithout, report-form, try-among}
 use Rattle.world_plain.specs.whole.Asking.{plainly}
 

@@ -23,12 +23,13 @@ use Rattle.daos_model.specs.Accesses.{minor_writes}
 use Rattle.daos_model.specs.Forms.{AreWritesInForm}
 use Rattle.world_base.specs.declared.client.ClientPlan.{ClientPlan}
 use Rattle.world_base.specs.declared.client.ClientState.{ClientState}
+use Rattle.world_base.specs.declared.client.KnownSnap.{KnownSnap}
 use Rattle.world_base.specs.declared.client.Present.{Present}
 use Rattle.world_base.specs.declared.did.Did.{Did}
-use Rattle.world_base.specs.ClientTurns.{ClientDid, Ended_by, Heard_on, HearTurn, Move, Moves, NextTurn, None_yet, One_more, Skipped, Went_on, about, answered, asks_again, attempt_id, goes, heard, heard_at, hears_epochs, is_about, knows, listed, moved, question, reset, reset_by, waits}
+use Rattle.world_base.specs.ClientTurns.{ClientDid, Ended_by, Heard_on, HearTurn, Move, Moves, NextTurn, None_yet, One_more, Skipped, Went_on, about, answered, asks_again, attempt_id, command_at, goes, heard, heard_at, hears_epochs, is_about, knows, listed, moved, question, reset, reset_by, waits}
 use Rattle.world_plain.specs.whole.Asking.{question-form}
 use Rattle.world_plain.specs.whole.ScriptForm.{read-in-form, writes-declared, writes-in-form}
-use Rattle.world_letters.specs.epochs.Epochs.{Unsnapped, is_unsnapped}
+use Rattle.world_plain.specs.whole.KnownSnapshots.{KnowsIts, ReadsKnown, all-known, heard-known, snapshot_at}
 use Rattle.world_base.specs.Events.{Rules, client_plan, commands_or_none, target_plan}
 use Rattle.world_base.specs.Letters.{target}
 use Rattle.world_contents.specs.gots.FormLaws.{fit-object, write-declared}
@@ -40,18 +41,17 @@ use Rattle.world_letters.specs.talks.HearLaws.{ended-silent, replied-silent}
 
 -- ---- the statements
 
--- a script in form, in which no client makes a snapshot, reads at one, or aggregates
-pub record IsPlainScript (r : Rules) : Type 0 where
-  pub form : IsInForm r.script.targets r.script
-  pub unsnapped : Unsnapped r
-
--- wherever a client of such a script goes on from, what it sends has that form
+-- wherever a client of a script in form goes on from, where it knows the snapshot at which it reads, what it sends has that form
 abbrev pub ClientsPostInForm : Type 0
-ClientsPostInForm = (r : Rules) (n : ℕ) (c d : ClientState) (did : Did) → IsPlainScript r → NextTurn (client_plan r n) c did d → ClientPosts (target_plan r) did.posts
+ClientsPostInForm =
+    (r : Rules) (n : ℕ) (c d : ClientState) (did : Did) → IsInForm r.script.targets r.script → ReadsKnown (client_plan r n) c → NextTurn (client_plan r n) c did d
+    → ClientPosts (target_plan r) did.posts
 
 -- and so it is whatever it hears
 abbrev pub HearersPostInForm : Type 0
-HearersPostInForm = (r : Rules) (n : ℕ) (c d : ClientState) (m : Message) (did : Did) → IsPlainScript r → HearTurn (client_plan r n) c m did d → ClientPosts (target_plan r) did.posts
+HearersPostInForm =
+    (r : Rules) (n : ℕ) (c d : ClientState) (m : Message) (did : Did) → IsInForm r.script.targets r.script → ReadsKnown (client_plan r n) c → HearTurn (client_plan r n) c m did d
+    → ClientPosts (target_plan r) did.posts
 
 -- ---- commands
 
@@ -73,32 +73,32 @@ command-here r n place d form at = by (slice_get r.script.clients n) refl at
 
 -- ---- what is asked
 
-module _ (r : Rules) (plain : IsPlainScript r) where
+module _ (r : Rules) (script : IsInForm r.script.targets r.script) where
   fits-all : (w : Write) → IsWriteInForm r.script.objs w → IfSome (write_path w).obj (λ o. ClassFits o.class r.script.targets)
   fits-all w f =
-      let o = fit-object r.script.targets r.script.objs (write_path w) plain.form.classes (write-declared r.script.objs w f) in
+      let o = fit-object r.script.targets r.script.objs (write_path w) script.classes (write-declared r.script.objs w f) in
       subst (λ p. IfSome p (λ obj. ClassFits obj.class r.script.targets)) (sym o.1) o.2
 
   -- an operation's question
-  asks-read : (n place : ℕ) (ops : List Op) (turns : List ℕ) (snapshot : Option (List ℕ)) (a : Present) (op : Op) (q : Read) (ep : Option Epoch) → slice_get (commands_or_none (slice_get r.script.clients n)) place ≡ Some (command.Run ops turns snapshot)
-      → slice_get ops a.op ≡ Some op → question a.stage op ≡ Some q → IsReadAsked q ep (is_some snapshot)
-  asks-read n place ops turns snapshot a op q ep at here asks = record {
-    form = read-in-form r.script.objs q plain.form.declared.obj_units (question-form r.script.objs a.stage op q (all-at (IsOpInForm r.script.objs) ops a.op op (command-here r n place (command.Run ops turns snapshot) plain.form at).1.0.in_form here) asks);
-    known = by snapshot (plain.unsnapped n place (command.Run ops turns snapshot) at);
+  asks-read : (n place : ℕ) (ops : List Op) (turns : List ℕ) (snapshot : Option (List ℕ)) (a : Present) (op : Op) (q : Read) (known : List KnownSnap) → KnowsIts snapshot known (Some a) → slice_get (commands_or_none (slice_get r.script.clients n)) place ≡ Some (command.Run ops turns snapshot)
+      → slice_get ops a.op ≡ Some op → question a.stage op ≡ Some q → IsReadAsked q a.epoch (is_some snapshot)
+  asks-read n place ops turns snapshot a op q known reads at here asks = record {
+    form = read-in-form r.script.objs q script.declared.obj_units (question-form r.script.objs a.stage op q (all-at (IsOpInForm r.script.objs) ops a.op op (command-here r n place (command.Run ops turns snapshot) script at).1.0.in_form here) asks);
+    known = its snapshot reads;
   }
     where
-      by : (s : Option (List ℕ)) → is_unsnapped (command.Run ops turns s) ≡ true → is_some s ≡ true → is_some ep ≡ true
-      by None h is = let no : ⊥ = cc in absurd no
-      by (Some name) h is = let no : ⊥ = cc in absurd no
+      its : (s : Option (List ℕ)) → KnowsIts s known (Some a) → is_some s ≡ true → is_some a.epoch ≡ true
+      its None k is = let no : ⊥ = cc in absurd no
+      its (Some name) k is = k.1
 
   -- the writes of a transaction, which go to their leader
   asks-writes : (n place : ℕ) (ops : List Op) (turns : List ℕ) (snapshot : Option (List ℕ)) (w : MinorWrite) (ws : List MinorWrite) → slice_get (commands_or_none (slice_get r.script.clients n)) place ≡ Some (command.Run ops turns snapshot)
       → minor_writes 0 ops ≡ w ∷ ws → AreWrites (target_plan r (writes_leader (w ∷ ws) r.script.targets)) (w ∷ ws)
   asks-writes n place ops turns snapshot w ws at all =
-      let f = (command-here r n place (command.Run ops turns snapshot) plain.form at).1.0 in
-      let first = fit-object r.script.targets r.script.objs (write_path w.write) plain.form.classes (write-declared r.script.objs w.write (writes-declared r.script.objs ops f.in_form w (subst (Has w) (sym all) (inl refl)))) in
+      let f = (command-here r n place (command.Run ops turns snapshot) script at).1.0 in
+      let first = fit-object r.script.targets r.script.objs (write_path w.write) script.classes (write-declared r.script.objs w.write (writes-declared r.script.objs ops f.in_form w (subst (Has w) (sym all) (inl refl)))) in
       record {
-        form = subst AreWritesInForm all (writes-in-form r.script.objs ops plain.form.declared.obj_units f.few f.in_form);
+        form = subst AreWritesInForm all (writes-in-form r.script.objs ops script.declared.obj_units f.few f.in_form);
         some = leader-writes (target_plan r (writes_leader (w ∷ ws) r.script.targets)) w ws first.0 refl first.1 first.2;
         fit = subst (All (λ m. IfSome (write_path m.write).obj (λ o. ClassFits o.class r.script.targets))) all
             (all-from_has (λ m. IfSome (write_path m.write).obj (λ o. ClassFits o.class r.script.targets)) (minor_writes 0 ops) (λ m i. fits-all m.write (writes-declared r.script.objs ops f.in_form m i)));
@@ -107,21 +107,21 @@ module _ (r : Rules) (plain : IsPlainScript r) where
   to-target : (t : ℕ) (m : Message) → IsAsked (target_plan r t) m → IsOfClient (target_plan r) (record { to = target t; message = m })
   to-target t m k = record { asked = λ to. k; told = λ to. let no : ⊥ = cc in absurd no }
 
-  asked-form : (n : ℕ) (k : Epoch) (c : ClientState) (a : Present) (q : Post) → Asked (client_plan r n) k c a q → IsOfClient (target_plan r) q
-  asked-form n k c a q (ARead ops turns snapshot op z at here asks says) =
-      subst (IsOfClient (target_plan r)) (sym says) (to-target _ (message.Fetch (attempt_id (client_plan r n) c a) a.op _ a.epoch a.first k z (is_some snapshot)) (asks-read n c.place ops turns snapshot a op z a.epoch at here asks))
-  asked-form n k c a q (ItsWrites ops turns snapshot w ws at last all says) =
+  asked-form : (n : ℕ) (k : Epoch) (c : ClientState) (a : Present) (q : Post) → KnowsIts (snapshot_at (command_at (client_plan r n) c)) c.known (Some a) → Asked (client_plan r n) k c a q → IsOfClient (target_plan r) q
+  asked-form n k c a q reads (ARead ops turns snapshot op z at here asks says) =
+      subst (IsOfClient (target_plan r)) (sym says) (to-target _ (message.Fetch (attempt_id (client_plan r n) c a) a.op _ a.epoch a.first k z (is_some snapshot)) (asks-read n c.place ops turns snapshot a op z c.known (subst (λ o. KnowsIts (snapshot_at o) c.known (Some a)) at reads) at here asks))
+  asked-form n k c a q reads (ItsWrites ops turns snapshot w ws at last all says) =
       subst (IsOfClient (target_plan r)) (sym says) (to-target (writes_leader (w ∷ ws) r.script.targets) (message.Commit (attempt_id (client_plan r n) c a) a.epoch a.first k (w ∷ ws)) (asks-writes n c.place ops turns snapshot w ws at all))
-  asked-form n k c a q (ASnapshot name cont at says) = let bad : false ≡ true = plain.unsnapped n c.place (command.Snap name cont) at in let no : ⊥ = cc in absurd no
-  asked-form n k c a q (AnAggregation cont at says) = let bad : false ≡ true = plain.unsnapped n c.place (command.Aggregate cont) at in let no : ⊥ = cc in absurd no
+  asked-form n k c a q reads (ASnapshot name cont at says) = subst (IsOfClient (target_plan r)) (sym says) (to-target 0 (message.Snap (attempt_id (client_plan r n) c a) cont name k) tt)
+  asked-form n k c a q reads (AnAggregation cont at says) = subst (IsOfClient (target_plan r)) (sym says) (to-target 0 (message.Prune (attempt_id (client_plan r n) c a) cont (Some k) None) tt)
 
   -- ---- a move
 
   abbrev AreInForm : List Post → Type 0
   AreInForm posts = ClientPosts (target_plan r) posts
 
-  move-form : (n : ℕ) (c : ClientState) → AreInForm (listed (moved (client_plan r n) c).post)
-  move-form n c = by (waits c) refl
+  move-form : (n : ℕ) (c : ClientState) → ReadsKnown (client_plan r n) c → AreInForm (listed (moved (client_plan r n) c).post)
+  move-form n c known = by (waits c) refl
     where
       nothing : (m : Move) → m.post ≡ None → AreInForm (listed m.post)
       nothing m e q i = absurd (subst (λ o. Has q (listed o)) e i)
@@ -132,7 +132,7 @@ module _ (r : Rules) (plain : IsPlainScript r) where
       is-a : IsMove (client_plan r n) c (moved (client_plan r n) c) → AreInForm (listed (moved (client_plan r n) c).post)
       is-a (Silent free none) = nothing (moved (client_plan r n) c) none
       is-a (Telling m none free says) = one (moved (client_plan r n) c) _ says (record { asked = λ to. let no : ⊥ = cc in absurd no; told = λ to. refl })
-      is-a (Asking a q at asked says state) = one (moved (client_plan r n) c) q says (asked-form n c.tracker c a q asked)
+      is-a (Asking a q at asked says state) = one (moved (client_plan r n) c) q says (asked-form n c.tracker c a q (subst (KnowsIts (snapshot_at (command_at (client_plan r n) c)) c.known) at known) asked)
 
       by : (b : Bool) → waits c ≡ b → AreInForm (listed (moved (client_plan r n) c).post)
       by true h = nothing (moved (client_plan r n) c) (ap (λ m. m.post) (waiting-rests (client_plan r n) c h))
@@ -143,14 +143,16 @@ module _ (r : Rules) (plain : IsPlainScript r) where
   both-form : (xs ys : List Post) → AreInForm xs → AreInForm ys → AreInForm (xs ++ ys)
   both-form xs ys k l q i = elim (has-cases xs ys q i) [ inl j ↦ k q j | inr j ↦ l q j ]
 
-  moves-form : (n : ℕ) (c : ClientState) (posts : List Post) (lines : _) (d : ClientState) → Moves (client_plan r n) c posts lines d → AreInForm posts
-  moves-form n c posts lines d None_yet = λ q i. absurd i
-  moves-form n c posts lines d (One_more sent told e before goes-on) = both-form sent (listed (moved (client_plan r n) e).post) (moves-form n c sent told e before) (move-form n e)
+  moves-form : (n : ℕ) (c : ClientState) (posts : List Post) (lines : _) (d : ClientState) → ReadsKnown (client_plan r n) c → Moves (client_plan r n) c posts lines d → AreInForm posts
+  moves-form n c posts lines d known None_yet = λ q i. absurd i
+  moves-form n c posts lines d known (One_more sent told e before goes-on) =
+      both-form sent (listed (moved (client_plan r n) e).post) (moves-form n c sent told e known before) (move-form n e (all-known (client_plan r n) c sent told e before known))
 
-  did-form : (n : ℕ) (c d : ClientState) (did : Did) → ClientDid (client_plan r n) c did d → AreInForm did.posts
-  did-form n c d did k =
+  did-form : (n : ℕ) (c d : ClientState) (did : Did) → ReadsKnown (client_plan r n) c → ClientDid (client_plan r n) c did d → AreInForm did.posts
+  did-form n c d did known k =
       subst AreInForm (sym k.goes_on.all_sent)
-      (both-form k.goes_on.sent (listed (moved (client_plan r n) k.goes_on.last).post) (moves-form n c k.goes_on.sent k.goes_on.told k.goes_on.last k.goes_on.moves) (move-form n k.goes_on.last))
+      (both-form k.goes_on.sent (listed (moved (client_plan r n) k.goes_on.last).post) (moves-form n c k.goes_on.sent k.goes_on.told k.goes_on.last known k.goes_on.moves)
+      (move-form n k.goes_on.last (all-known (client_plan r n) c k.goes_on.sent k.goes_on.told k.goes_on.last k.goes_on.moves known)))
 
   -- ---- hearing
 
@@ -192,10 +194,11 @@ module _ (r : Rules) (plain : IsPlainScript r) where
 -- ---- the laws
 
 pub clients-post-in-form : ClientsPostInForm
-clients-post-in-form r n c d did plain (Skipped skips none counted) q i = absurd (subst (λ x. Has q x.posts) none i)
-clients-post-in-form r n c d did plain (Went_on awake k) q i = did-form r plain n c d did k q i
+clients-post-in-form r n c d did script known (Skipped skips none counted) q i = absurd (subst (λ x. Has q x.posts) none i)
+clients-post-in-form r n c d did script known (Went_on awake k) q i = did-form r script n c d did known k q i
 
 pub hearers-post-in-form : HearersPostInForm
-hearers-post-in-form r n c d m did plain (Ended_by over posts state) q i = heard-form r plain (client_plan r n) c m q (subst (λ x. Has q x.posts) posts i)
-hearers-post-in-form r n c d m did plain (Heard_on rest goes-on k both) q i =
-    both-form r plain (listed (heard (client_plan r n) c m).post) rest.posts (heard-form r plain (client_plan r n) c m) (did-form r plain n (heard (client_plan r n) c m).state d rest k) q (subst (λ x. Has q x.posts) both i)
+hearers-post-in-form r n c d m did script known (Ended_by over posts state) q i = heard-form r script (client_plan r n) c m q (subst (λ x. Has q x.posts) posts i)
+hearers-post-in-form r n c d m did script known (Heard_on rest goes-on k both) q i =
+    both-form r script (listed (heard (client_plan r n) c m).post) rest.posts (heard-form r script (client_plan r n) c m)
+    (did-form r script n (heard (client_plan r n) c m).state d rest (heard-known (client_plan r n) c m known) k) q (subst (λ x. Has q x.posts) both i)

@@ -84,7 +84,7 @@ LettersCanBeHeard =
 
 pub heard-in_form : HeardIsInForm
 heard-in_form r t d m (inl k) = inl (heard-has_form r t d m k)
-heard-in_form r t d m (inr k) = inr k
+heard-in_form r t d m (inr k) = inr (inl k)
 
 -- what tells of no snapshot asks for none
 not-collecting : (q : Message) → is_of_snapshots q ≡ false → is_collecting q ≡ false

@@ -1,11 +1,9 @@
 -- Clients keep that outcomes show their causes, whatever their commands are, where epochs of snapshots count as those of the attempts that read
 -- there.
-use Rattle.std.specs.Prelude.{ℕ, ◌≡◌, ◌<◌, ◌⊎◌, Contains, slice_get, Some, refl}
+use Rattle.std.specs.Prelude.{◌≡◌, ◌<◌, slice_get, Some, refl}
 use Rattle.std.proofs.Common.{append-nil, inl, inr, sym, ◌∙◌, ap, subst, arith}
 use Rattle.std.proofs.Math.ListN.{set}
-use Rattle.base_types.specs.declared.epoch.Epoch.{Epoch}
 use Rattle.base_types.specs.declared.id.AttemptId.{AttemptId}
-use Rattle.base_messages.specs.declared.message.Message.{Message}
 use Rattle.daos_model.specs.Opening.{Opening, top}
 use Rattle.model_laws.specs.Members.{Has}
 use Rattle.world_commit.specs.attempts.Counting.{has-left_over, has-taken}
@@ -22,6 +20,7 @@ use Rattle.world_causes.specs.causes.HearingLaws.{LossesStand}
 use Rattle.world_causes.specs.causes.Shown.{Causes}
 use Rattle.world_upheld.specs.causing.Dates.{line-on, with_dates}
 use Rattle.world_upheld.specs.causing.Doing.{AreBegun, counting-causes, dated-goes_causes, over-after}
+use Rattle.world_upheld.specs.causing.Ending.{AreToldOf, told-by-counting, told-by-hearing, told-by-moves}
 use Rattle.world_upheld.specs.causing.Told.{dated-hears_causes}
 use Rattle.world_making.specs.dates.Answering.{quiet-client}
 use Rattle.world_making.specs.dates.Going.{moved-dates}
@@ -59,11 +58,10 @@ HearsKeepsCauses =
     → AreBegun r dated v × Causes r o stored (with_dates dated v)
 
 -- what was begun was so, after steps of a client's turn
-pub begun-after : (r : Rules) (dated : Dated) (w u : World) → AreBegun r dated w → After r w u → AreBegun r dated u
-begun-after r dated w u begun k x e i = elim (begun x e i) [
-  | inl at ↦ elim (k.stays x at) [ inl z ↦ inl z.0 | inr over ↦ inr (inl over) ]
-  | inr (inl over) ↦ inr (inl (k.over x over))
-  | inr (inr told) ↦ inr (inr (line-on w u x k.more k.told told))
+pub begun-after : (r : Rules) (dated : Dated) (w u : World) → AreBegun r dated w → After r w u → AreToldOf r w u → AreBegun r dated u
+begun-after r dated w u begun k ends x e i = elim (begun x e i) [
+  | inl at ↦ ends x at
+  | inr told ↦ inr (line-on w u x k.more k.told told)
 ]
 
 -- a turn that is skipped leaves clients where they are
@@ -101,13 +99,14 @@ counts-step r w u n j c here k = record {
 
 module _ (r : Rules) (o : Opening) (stored : Stored) (dated : Dated) (some : 0 < r.attempts) (w : World) (lost : LossesKnown r w) (begun : AreBegun r dated w) where
   abbrev All : World → Type 0
-  All u = ClientsKnown r o u × After r w u × Causes r o stored (with_dates dated u)
+  All u = ClientsKnown r o u × After r w u × AreToldOf r w u × Causes r o stored (with_dates dated u)
 
   all-moves : KeptByMoves r All
   all-moves u n c here p = (
     (moves-keep r u n c here p.0.0, stands-by-moves r some u n c here p.0.1, dates),
     moves-step r w u n c here p.1,
-    dated-goes_causes r o stored dated u n c (talks-once r u p.0.0) p.0.1 dates (begun-after r dated w u begun p.1) here p.2,
+    told-by-moves r w u n c here p.2,
+    dated-goes_causes r o stored dated u n c (talks-once r u p.0.0) p.0.1 dates (begun-after r dated w u begun p.1 p.2) here p.3,
   )
     where
       dates : Epochs r (top o) (after_move u n (moved (client_plan r n) c))
@@ -117,14 +116,15 @@ module _ (r : Rules) (o : Opening) (stored : Stored) (dated : Dated) (some : 0 <
   all-counting u n k c here p = (
     (counting-keeps r u n k c here p.0.0, stands-by-counting r some u n k c here p.0.1, dates),
     counts-step r w u n k c here p.1,
-    counting-causes r o stored dated u n k c (begun-after r dated w u begun p.1) dates here p.2,
+    told-by-counting r w u n k c here p.2,
+    counting-causes r o stored dated u n k c (begun-after r dated w u begun p.1 p.2) dates here p.3,
   )
     where
       dates : Epochs r (top o) (with_client n (record c { skip = k }) u)
       dates = quiet-client r (top o) u n c (record c { skip = k }) p.0.2 (quiet-same r (top o) u n c (record c { skip = k }) p.0.2 here (omega arith) refl refl (λ name e i. i))
 
   pub going : (v : World) → ClientsKnown r o w → ClientGoes r w v → Causes r o stored (with_dates dated w) → All v
-  going v known g C = by-next r All all-moves all-counting w v (known, after-none r w w.messages lost.0 (λ l i. i), C) g
+  going v known g C = by-next r All all-moves all-counting w v (known, after-none r w w.messages lost.0 (λ l i. i), (λ x at. inl at), C) g
 
   pub hears : (v : World) → ClientsKnown r o w → (g : ClientHears r w v) → LossesStand r w.lines g.n g.c g.l.message → Causes r o stored (with_dates dated w) → All v
   hears v known g losses C = subst All (sym g.after) (by g.turn)
@@ -145,6 +145,7 @@ module _ (r : Rules) (o : Opening) (stored : Stored) (dated : Dated) (some : 0 <
       all-heard = (
         (hearing-keeps r w g.n g.c g.l g.rest g.here g.awake g.takes g.to_it known.0, stands-by-hearing r some w g.n g.c g.l g.rest g.here g.awake g.takes g.to_it known.1, dates),
         stepped r w (without w g.rest) (after-none r w g.rest lost.0 (λ l i. has-left_over w.messages g.l g.rest l g.takes i)) g.n g.c first g.here steps,
+        told-by-hearing r w g.n g.c g.l g.rest g.here,
         dated-hears_causes r o stored dated w g.n g.c g.l g.rest (talks-once r w known.0) dates begun steps.past g.here g.takes g.to_it losses C,
       )
 
@@ -156,7 +157,7 @@ module _ (r : Rules) (o : Opening) (stored : Stored) (dated : Dated) (some : 0 <
           (by-going r All all-moves (after_move (without w g.rest) g.n first) g.n first.state g.d rest.posts rest.lines (set-here w.clients g.n g.c first.state g.here) all-heard did.goes_on))
 
 pub going-keeps : GoingKeepsCauses
-going-keeps r o stored dated w v some known lost begun g C = let k = going r o stored dated some w lost begun v known g C in (begun-after r dated w v begun k.1, k.2)
+going-keeps r o stored dated w v some known lost begun g C = let k = going r o stored dated some w lost begun v known g C in (begun-after r dated w v begun k.1 k.2, k.3)
 
 pub hears-keeps : HearsKeepsCauses
-hears-keeps r o stored dated w v some known lost begun g losses C = let k = hears r o stored dated some w lost begun v known g losses C in (begun-after r dated w v begun k.1, k.2)
+hears-keeps r o stored dated w v some known lost begun g losses C = let k = hears r o stored dated some w lost begun v known g losses C in (begun-after r dated w v begun k.1 k.2, k.3)

@@ -1,19 +1,16 @@
 -- Which epochs count stays in order over every event; and that of the snapshot comes to count at which an attempt reads.
-use Rattle.std.specs.Prelude.{ℕ, ◌≡◌, ◌≤◌, ◌+◌, ◌++◌, ◌/◌, ◌⊎◌, Bool, true, false, not, List, [], ◌∷◌, filter, map, Contains, is_some, slice_get, Some, refl}
-use Rattle.std.proofs.Common.{append-nil, inl, inr, sym, ◌∙◌, ap, subst, arith}
+use Rattle.std.specs.Prelude.{ℕ, ◌≡◌, ◌≤◌, ◌+◌, ◌++◌, ◌/◌, ◌⊎◌, Bool, true, false, not, List, [], ◌∷◌, filter, Contains, is_some, Some, refl}
+use Rattle.std.proofs.Common.{append-nil, inl, inr, sym, ◌∙◌, ap, subst}
 use Rattle.std.proofs.lemmas.List.Elements.{filter-append}
 use Rattle.base_types.specs.declared.epoch.Epoch.{Epoch}
 use Rattle.base_types.specs.declared.id.AttemptId.{AttemptId}
-use Rattle.base_types.specs.declared.outcome.Outcome.{Outcome}
 use Rattle.daos_model.specs.BoolLaws.{clash}
 use Rattle.daos_model.specs.Durables.{same_attempt}
 use Rattle.daos_model.specs.EntryLaws.{same_attempt-itself}
 use Rattle.daos_model.specs.Opening.{Opening, top}
 use Rattle.model_laws.specs.EntryLaws.{same-attempt}
 use Rattle.model_laws.specs.Lists.{filter-all}
-use Rattle.model_laws.specs.Members.{Has, contains-from_has, has-cases, has-filter, has-from_contains, has-from_filter, has-left, has-right}
-use Rattle.world_base.specs.declared.client.ClientState.{ClientState}
-use Rattle.world_base.specs.declared.letter.Letter.{Letter}
+use Rattle.model_laws.specs.Members.{Has, contains-from_has, has-cases, has-from_contains, has-from_filter, has-left, has-right}
 use Rattle.world_base.specs.declared.world.World.{World}
 use Rattle.world_base.specs.Events.{ByClient, ByTarget, Rules, ToClient, ToTarget}
 use Rattle.world_base.specs.ClientTurns.{known_epoch}
@@ -30,7 +27,7 @@ use Rattle.world_causes.specs.causes.CommitTurns.{RefusalShows}
 use Rattle.world_upheld.specs.causing.Refusing.{FreezeRefusalsShow, refusal-on}
 use Rattle.world_letters.specs.clients.Snapshots.{is_at_snapshot}
 use Rattle.world_making.specs.dates.Known.{events-know}
-use Rattle.world_letters.specs.epochs.Epochs.{Epochs, IsEpochOf, IsOwn, IsSeen, ReadsNamed}
+use Rattle.world_letters.specs.epochs.Epochs.{Epochs, IsEpochOf, IsOwn, IsSeen}
 
 -- ---- the statements
 
@@ -119,7 +116,7 @@ module _ (r : Rules) (n late : ℕ) (dated : Dated) (w v : World) (D : AreDates 
 
   -- what was issued is of an attempt that is present, or has its line
   begun-new : (x : AttemptId) (d : Epoch) → Has (x, d) added → IsBegunBy r v x
-  begun-new x d i = elim (E.line x d (contains-from_has v.issued (x, d) (is-issued (x, d) i))) [ inl at ↦ inl at | inr told ↦ inr (inr (told.0, told.1, told.2)) ]
+  begun-new x d i = elim (E.line x d (contains-from_has v.issued (x, d) (is-issued (x, d) i))) [ inl at ↦ inl at | inr told ↦ inr (told.0, told.1, told.2) ]
 
   dates-on : AreDates r late (dated ++ added) v
   dates-on = record {

@@ -1,6 +1,6 @@
 -- Which epochs count as those of attempts: those that were issued, and that of the snapshot for an attempt that reads at one.
 use Rattle.std.specs.Prelude.{ℕ, ◌≡◌, ◌≤◌, ◌+◌, ◌++◌, ◌⊎◌, Bool, true, false, not, List, [], ◌∷◌, filter, length, Contains, refl, if◌then◌else◌}
-use Rattle.std.proofs.Common.{sym, ◌∙◌, ap, subst, arith}
+use Rattle.std.proofs.Common.{sym, ap, subst, arith}
 use Rattle.base_types.specs.declared.epoch.Epoch.{Epoch}
 use Rattle.base_types.specs.declared.id.AttemptId.{AttemptId}
 use Rattle.base_types.specs.declared.report.Attempt.{Attempt}
@@ -16,7 +16,6 @@ use Rattle.world_causes.specs.causes.Causes.{Dated}
 use Rattle.world_causes.specs.causes.Storing.{AreApart, dated_ids}
 use Rattle.world_letters.specs.clients.Snapshots.{is_at_snapshot}
 use Rattle.world_letters.specs.epochs.Epochs.{IsEpochOf, IsPresent}
-use Rattle.world_causes.specs.losses.Clients.{IsOver}
 
 -- a world in which these count as the epochs of attempts
 abbrev pub with_dates : Dated → World → World
@@ -33,9 +32,9 @@ is_own_date r i = not (is_at_snapshot r i.0)
 abbrev pub HasItsLine : World → AttemptId → Type 0
 HasItsLine w x = (b : Attempt) × Contains (tries w.lines) b × (b.id ≡ x)
 
--- an attempt was begun: its client is at it, or past it, or it has its line
+-- an attempt was begun: its client is at it, or it has its line
 abbrev pub IsBegunBy : Rules → World → AttemptId → Type 0
-IsBegunBy r w x = IsPresent r w x ⊎ (IsOver w.clients x ⊎ HasItsLine w x)
+IsBegunBy r w x = IsPresent r w x ⊎ HasItsLine w x
 
 -- What counts for an attempt: its epoch; or where it reads at a snapshot, that of the snapshot, so much later. That it may be later shows that no
 -- later read which a cause names is one at a snapshot.

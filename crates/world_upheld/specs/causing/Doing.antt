@@ -58,8 +58,7 @@ use Rattle.world_upheld.specs.causing.Dates.{IsBegunBy, with_dates}
 use Rattle.world_causes.specs.causes.ClientLaws.{ArePlain, IsLineOf, IsMild, IsPlain, IsQuiet, LineShows, attempt_here, ends-no_tell, ends-tracker, quiet-line}
 use Rattle.world_commit.specs.attempts.Turning.{one-or_another}
 use Rattle.world_letters.specs.clients.Standing.{HasTold}
-use Rattle.world_causes.specs.losses.Clients.{IsOver, present-not-over}
-use Rattle.world_causes.specs.outcomes.Moving.{moved-past, same-past}
+use Rattle.world_causes.specs.losses.Clients.{IsOver}
 use Rattle.world_letters.specs.snapshots.Events.{command-is}
 
 -- what is known of a client that does something: which attempts are present was so before, and none that is present has a line; and where
@@ -105,12 +104,11 @@ over-after clients n c d here past x over = elim (one-or_another x.client n) [
 ]
 
 -- one with an epoch that is present then was present before
-pub was-present : (r : Rules) (dated : Dated) (w v : World) (more : List Line) → AreBegun r dated w → ((x : AttemptId) → IsOver w.clients x → IsOver v.clients x) → v.lines ≡ w.lines ++ more → ((x : AttemptId) → IsPresent r v x → HasNoLine v.lines x)
+pub was-present : (r : Rules) (dated : Dated) (w v : World) (more : List Line) → AreBegun r dated w → v.lines ≡ w.lines ++ more → ((x : AttemptId) → IsPresent r v x → HasNoLine v.lines x)
     → (x : AttemptId) (e : Epoch) → Contains dated (x, e) → IsPresent r v x → IsPresent r w x
-was-present r dated w v more begun over lines unended x e i p = elim (begun x e i) [
+was-present r dated w v more begun lines unended x e i p = elim (begun x e i) [
   | inl q ↦ q
-  | inr (inl past) ↦ absurd (present-not-over r v x p (over x past))
-  | inr (inr q) ↦ absurd (unended x p q.0 (subst (λ ls. Has q.0 (tries ls)) (sym lines) (subst (Has q.0) (sym (tries-append w.lines more)) (has-left (tries w.lines) (tries more) q.0 (has-from_contains (tries w.lines) q.0 q.1)))) q.2)
+  | inr q ↦ absurd (unended x p q.0 (subst (λ ls. Has q.0 (tries ls)) (sym lines) (subst (Has q.0) (sym (tries-append w.lines more)) (has-left (tries w.lines) (tries more) q.0 (has-from_contains (tries w.lines) q.0 q.1)))) q.2)
 ]
 
 -- a line that tells of an attempt tells of no floor
@@ -382,7 +380,7 @@ dated-goes_causes r o stored dated w n c talk S F begun here C =
     (record {
       here = here;
       among = λ l i. i;
-      before = was-present r dated w (after_move w n (moved p c)) (map (with_epoch w.issued) (listed (moved p c).line)) begun (over-after w.clients n c (moved p c).state here (λ x past. moved-past p c x past)) refl (none-ended r (top o) (after_move w n (moved p c)) F);
+      before = was-present r dated w (after_move w n (moved p c)) (map (with_epoch w.issued) (listed (moved p c).line)) begun refl (none-ended r (top o) (after_move w n (moved p c)) F);
       unended = none-ended r (top o) (after_move w n (moved p c)) F;
       own = k.own;
       silent = λ a is z x i ends same. none-among n w.messages z (silent-unless w n c talk here (idle a is)) i (got-is-talk n z (ends-no_tell z.message x ends) (C.waiting.own z x i ends ∙ ap client same));
@@ -411,7 +409,7 @@ counting-causes r o stored dated w n k c begun F here C = subst (λ u. Causes r 
     (record {
       here = here;
       among = λ l i. i;
-      before = was-present r dated w (after_client (without w w.messages) n [] (listed None) (record c { skip = k })) [] begun (over-after w.clients n c (record c { skip = k }) here (λ x past. same-past c (record c { skip = k }) x refl (λ a at. (a, at, refl)) past)) refl then-unended;
+      before = was-present r dated w (after_client (without w w.messages) n [] (listed None) (record c { skip = k })) [] begun refl then-unended;
       unended = then-unended;
       own = tt;
       silent = λ a is. let no : ⊥ = cc in absurd no;

@@ -1,6 +1,6 @@
 -- Whatever happens keeps that outcomes show their causes, also where snapshots are made and read, and containers aggregated: epochs of snapshots count
 -- as those of the attempts that read there.
-use Rattle.std.specs.Prelude.{ℕ, ◌≡◌, ◌<◌, ◌++◌, ◌⊎◌, Bool, true, false, List, [], ◌∷◌, map, Contains, Option, Some, refl}
+use Rattle.std.specs.Prelude.{ℕ, ◌≡◌, ◌++◌, Bool, true, false, List, [], ◌∷◌, Option, Some, refl}
 use Rattle.std.proofs.Common.{append_assoc, append-nil, inl, inr, sym, ◌∙◌, ap, subst}
 use Rattle.base_types.specs.declared.entry.Verdict.{Verdict}
 use Rattle.base_types.specs.declared.entry.Verdict.TheVariants as verdicts
@@ -20,7 +20,7 @@ use Rattle.world_base.specs.declared.world.World.{World}
 use Rattle.world_base.specs.Events as events
 use Rattle.world_base.specs.Events.{ByClient, ByTarget, Rules, ToClient, ToTarget, TargetHears, kept, target_plan, with_epoch}
 use Rattle.world_base.specs.Requests.{fetch_message}
-use Rattle.world_base.specs.Stops.{AtWork, CutOf, Draws, Fails, Further, GivenUp, Happening, Hearing, HearsMore, IdleWork, IsCut, IsInHand, Opens, Plainly, TargetCut, WorldEvent, restart_line, stops_so_far, swept}
+use Rattle.world_base.specs.Stops.{AtWork, CutOf, Draws, Fails, Further, GivenUp, Happening, Hearing, HearsMore, IdleWork, IsCut, IsInHand, Opens, Plainly, TargetCut, WorldEvent, restart_line, stops_so_far}
 use Rattle.world_causes.specs.causes.Causes.{Dated, Stored, stored_by}
 use Rattle.world_causes.specs.causes.Growth.{blocks-more}
 use Rattle.world_causes.specs.causes.Heard.{IsHeardAs, IsKnownAt}
@@ -39,7 +39,6 @@ use Rattle.world_upheld.specs.causing.Events.{making-cuts_keep_causes, making-ke
 use Rattle.world_upheld.specs.causing.Known.{IsMakingKnown}
 use Rattle.world_upheld.specs.causing.SnapshotReads.{IsDatedRead}
 use Rattle.world_letters.specs.epochs.Epochs.{IsAt}
-use Rattle.world_causes.specs.losses.Clients.{IsOver}
 use Rattle.world_commit.specs.fates.Facts.{Attempts}
 use Rattle.world_commit.specs.fates.Rightly.{letters-tell}
 use Rattle.world_causes.specs.showing.Cutting.{cut-follows_on, hearing-leaves, idle-leaves, work_stored}
@@ -117,8 +116,7 @@ grown r w v (Draws g) = ([], ap (λ u. u.lines) g.after ∙ sym (append-nil w.li
 begun-there : (r : Rules) (dated : Dated) (w v : World) → AreBegun r dated w → Happening r w v → v.clients ≡ w.clients → AreBegun r dated v
 begun-there r dated w v begun e same x d i = elim (begun x d i) [
   | inl at ↦ inl (subst (λ cs. IsAt r cs x) (sym same) at)
-  | inr (inl over) ↦ inr (inl (subst (λ cs. IsOver cs x) (sym same) over))
-  | inr (inr told) ↦ let k = grown r w v e in inr (inr (line-on w v x k.0 k.1 told))
+  | inr told ↦ let k = grown r w v e in inr (line-on w v x k.0 k.1 told)
 ]
 
 -- ---- what happens

@@ -39,7 +39,7 @@ use Rattle.world_causes.specs.causes.Shown.{Causes, MeetsUnresolved, MessageStan
 use Rattle.world_causes.specs.causes.ClientLaws.{ArePlain, IsMild, IsPlain, answer-mild, attempt_here, ends-no_tell, ends-tracker, quiet-line}
 use Rattle.world_causes.specs.causes.HearingLaws.{IsHeard, LossStands, LossesStand}
 use Rattle.world_upheld.specs.causing.Dates.{with_dates}
-use Rattle.world_upheld.specs.causing.Doing.{AreBegun, did-causes, none-ended, over-after, was-present}
+use Rattle.world_upheld.specs.causing.Doing.{AreBegun, did-causes, none-ended, was-present}
 
 greatest-within : (t : ℕ) (es : List ℕ) (b : ℕ) → t / 256 ≤ b → ((e : ℕ) → Has e es → e / 256 ≤ b) → greatest t es / 256 ≤ b
 unfolding greatest
@@ -152,7 +152,7 @@ dated-hears_causes r o stored dated w n c l rest once F begun past here takes to
     (record {
       here = here;
       among = λ z i. left-is-among w.messages l rest z takes i;
-      before = was-present r dated w (after_move (without w rest) n m) (map (with_epoch w.issued) (listed m.line)) begun (over-after w.clients n c m.state here past) refl (none-ended r (top o) (after_move (without w rest) n m) F);
+      before = was-present r dated w (after_move (without w rest) n m) (map (with_epoch w.issued) (listed m.line)) begun refl (none-ended r (top o) (after_move (without w rest) n m) F);
       unended = none-ended r (top o) (after_move (without w rest) n m) F;
       own = k.own;
       silent = λ a is z x i ends same. answered-once a is z x i ends same;

@@ -30,12 +30,13 @@ use Rattle.world_commit.specs.attempts.Attempts.{IsOther, entry_at, entry_in, le
 use Rattle.world_commit.specs.attempts.History.{Decided, History}
 use Rattle.world_commit.specs.attempts.Overs.{prepare-to}
 use Rattle.world_base.specs.declared.letter.Letter.{Letter}
+use Rattle.world_base.specs.declared.target.TargetPlan.{TargetPlan}
 use Rattle.world_base.specs.declared.target.TargetState.{TargetState}
 use Rattle.world_base.specs.declared.target.Life.TheVariants.{Running}
 use Rattle.world_base.specs.declared.world.World.{World}
 use Rattle.world_base.specs.Commits.{own_writes}
 use Rattle.world_base.specs.Events.{Rules, target_plan}
-use Rattle.world_base.specs.Letters.{target}
+use Rattle.world_base.specs.Letters.{reset_message, target}
 use Rattle.world_base.specs.Requests.{request_epoch}
 use Rattle.world_letters.specs.epochs.Epochs.{AsksEpoch, IsReadOf}
 use Rattle.world_commit.specs.fates.Asked.{AskedRight}
@@ -92,15 +93,15 @@ IsLostInForm n by to m = ⊥
 -- The form of what a target of so many hears for snapshots and aggregations, from whom. A client asks to make a snapshot, to aggregate, or to
 -- read at a snapshot, whose epoch it tells; target 0 asks another one to freeze, or to prune, at an epoch; another target answers; or what
 -- asked a target to freeze or to prune got no answer.
-abbrev pub HasFormOfMaking : ℕ → ActorId → ActorId → Message → Type 0
-HasFormOfMaking n from to (message.Snap x c name tracker) = Unit {0}
-HasFormOfMaking n from to (message.Prune x c (Some tracker) None) = Unit {0}
-HasFormOfMaking n from to (message.Prune x c None (Some g)) = IsEpochInForm g × ComesFromAnother n from to
-HasFormOfMaking n from to (message.Freeze x c s) = IsEpochInForm s × ComesFromAnother n from to
-HasFormOfMaking n from to (message.Held x refusal) = ComesFromAnother n from to
-HasFormOfMaking n from to (message.Reset' by down place (more_of-Message asked rest)) = IsLostInForm n by to asked
-HasFormOfMaking n from to (message.Fetch x op group ep first tracker read true) = IsReadAsked read ep true
-HasFormOfMaking n from to m = ⊥
+abbrev pub GoesForMaking : ℕ → ActorId → ActorId → Message → Type 0
+GoesForMaking n from to (message.Snap x c name tracker) = Unit {0}
+GoesForMaking n from to (message.Prune x c (Some tracker) None) = Unit {0}
+GoesForMaking n from to (message.Prune x c None (Some g)) = IsEpochInForm g × ComesFromAnother n from to
+GoesForMaking n from to (message.Freeze x c s) = IsEpochInForm s × ComesFromAnother n from to
+GoesForMaking n from to (message.Held x refusal) = ComesFromAnother n from to
+GoesForMaking n from to (message.Reset' by down place (more_of-Message asked rest)) = IsLostInForm n by to asked
+GoesForMaking n from to (message.Fetch x op group ep first tracker read true) = IsReadAsked read ep true
+GoesForMaking n from to m = ⊥
 
 -- What a target that keeps this can hear of them: the container is one that it knows, and a snapshot at which is read is frozen there.
 abbrev pub CanHearOfMaking : Durable → Message → Type 0
@@ -114,16 +115,16 @@ CanHearOfMaking d m = ⊥
 
 -- such a letter has its form, and can be heard
 pub record IsMakingHeard (n : ℕ) (d : Durable) (from to : ActorId) (m : Message) : Type 0 where
-  pub form : HasFormOfMaking n from to m
+  pub form : GoesForMaking n from to m
   pub can : CanHearOfMaking d m
 
 -- a target can hear a letter as where no snapshot is made and nothing is aggregated, or as one of those
 abbrev pub CanHearLetter : Rules → ℕ → Durable → Letter → Type 0
 CanHearLetter r t d l = CanHearOn r t d l.message ⊎ IsMakingHeard r.script.targets d l.from l.to l.message
 
--- then it has a form that a target asks for
+-- then it has the form that a target asks for
 abbrev pub AllHeardIsInForm : Type 0
-AllHeardIsInForm = (r : Rules) (t : ℕ) (d : Durable) (l : Letter) → CanHearLetter r t d l → IsInForm (target_plan r t) l.message ⊎ HasFormOfMaking r.script.targets l.from l.to l.message
+AllHeardIsInForm = (r : Rules) (t : ℕ) (d : Durable) (l : Letter) → r.script.targets ≤ 64 → CanHearLetter r t d l → IsInForm (target_plan r t) l.message
 
 -- Where all is upheld, the declared containers are known, Resets tell of targets, and what asks for freezes and prunes goes from one target
 -- to another, what goes to a running target it can hear.
@@ -135,9 +136,24 @@ AllLettersCanBeHeard =
 
 -- ---- the form
 
+lost-in_form : (p : TargetPlan) (n by : ℕ) (down : Bool) (to : ActorId) (asked : Message) → n ≤ 64 → IsLostInForm n by to asked → IsInForm p (reset_message by down asked)
+lost-in_form p n by down to (message.Freeze x c s) few k = let low = k.within in inr (inr (omega (arith, few, low), tt))
+lost-in_form p n by down to (message.Prune x c None (Some g)) few k = let low = k.within in inr (inr (omega (arith, few, low), tt))
+lost-in_form p n by down to m few k = absurd k
+
+making-in_form : (p : TargetPlan) (n : ℕ) (from to : ActorId) (m : Message) → n ≤ 64 → GoesForMaking n from to m → IsInForm p m
+making-in_form p n from to (message.Snap x c name tracker) few k = inr (inr tt)
+making-in_form p n from to (message.Prune x c (Some tracker) None) few k = inr (inr tt)
+making-in_form p n from to (message.Prune x c None (Some g)) few k = inr (inr tt)
+making-in_form p n from to (message.Freeze x c s) few k = inr (inr tt)
+making-in_form p n from to (message.Held x refusal) few k = inr (inr tt)
+making-in_form p n from to (message.Reset' by down place (more_of-Message asked rest)) few k = lost-in_form p n by down to asked few k
+making-in_form p n from to (message.Fetch x op group ep first tracker read true) few k = inl k
+making-in_form p n from to m few k = absurd k
+
 pub all-heard_in_form : AllHeardIsInForm
-all-heard_in_form r t d l (inl k) = inl (heard-in_form r t d l.message k)
-all-heard_in_form r t d l (inr k) = inr k.form
+all-heard_in_form r t d l few (inl k) = heard-in_form r t d l.message k
+all-heard_in_form r t d l few (inr k) = making-in_form (target_plan r t) r.script.targets l.from l.to l.message few k.form
 
 -- ---- epochs
 

@@ -40,7 +40,7 @@ module _ (r : Rules) (top : ℕ) (h : History) (some : 0 < r.attempts) where
       by (IsOwn own) = k.epochs.one (attempt_id (client_plan r n) c a) f e own issued
       by (IsSeen named) = clash (is_at_snapshot r (attempt_id (client_plan r n) c a)) (ap is_some named.reads) (k.epochs.own (attempt_id (client_plan r n) c a) e issued)
 
-  by-moves : KeptByMoves r (ClientsSpeak r top h)
+  pub by-moves : KeptByMoves r (ClientsSpeak r top h)
   by-moves w n c here k = record {
     talk = wait.moves-keep r w n c here k.talk;
     endings = endings-by-moves r w n c here k.endings;
@@ -50,7 +50,7 @@ module _ (r : Rules) (top : ℕ) (h : History) (some : 0 < r.attempts) where
     outcomes = outcome.moving-keeps r h w n c k.lines here k.outcomes;
   }
 
-  by-counting : KeptByCounting (ClientsSpeak r top h)
+  pub by-counting : KeptByCounting (ClientsSpeak r top h)
   by-counting w n j c here k = record {
     talk = wait.counting-keeps r w n j c here k.talk;
     endings = endings-by-counting w n j c here k.endings;
@@ -60,7 +60,7 @@ module _ (r : Rules) (top : ℕ) (h : History) (some : 0 < r.attempts) where
     outcomes = outcome.counting-keeps r h w n j c here k.outcomes;
   }
 
-  hearing-keeps : KeptByHearing r (ClientsSpeak r top h)
+  pub hearing-keeps : KeptByHearing r (ClientsSpeak r top h)
   hearing-keeps w n c l rest here awake takes to k = record {
     talk = wait.hearing-keeps r w n c l rest here awake takes to k.talk;
     endings = ending.hearing-keeps r w n c l rest here awake takes to k.endings;

@@ -69,7 +69,7 @@ never-both (k ∷ ks) ls name c d apart (inr i) j = never-both ks ls name c d (I
 
 -- ---- the snapshots that clients make
 
-snaps-made : (list : List Command) (name : List ℕ) (c : ContId) → Has (command.Snap name c) list → Has (name, c) (snaps_of list)
+pub snaps-made : (list : List Command) (name : List ℕ) (c : ContId) → Has (command.Snap name c) list → Has (name, c) (snaps_of list)
 snaps-made [] name c i = absurd i
 snaps-made (d ∷ ds) name c (inl same) = has-left (snap_of d) (snaps_of ds) (name, c) (subst (λ z. Has (name, c) (snap_of z)) same (inl refl))
 snaps-made (d ∷ ds) name c (inr i) = has-right (snap_of d) (snaps_of ds) (name, c) (snaps-made ds name c i)
@@ -80,7 +80,7 @@ lists-make (l ∷ ls) list k (inl same) j = has-left (snaps_of l) (all_snaps ls)
 lists-make (l ∷ ls) list k (inr i) j = has-right (snaps_of l) (all_snaps ls) k (lists-make ls list k i j)
 
 -- the command of an attempt stands in the list of its client
-command-in : (s : Script) (x : AttemptId) (d : Command) → command_of s x ≡ Some d → (list : List Command) × (slice_get s.clients x.client ≡ Some list) × Has d list
+pub command-in : (s : Script) (x : AttemptId) (d : Command) → command_of s x ≡ Some d → (list : List Command) × (slice_get s.clients x.client ≡ Some list) × Has d list
 unfolding command_of
 command-in s x d is = by (slice_get s.clients x.client) refl is
   where
@@ -115,7 +115,7 @@ known-at s known (c ∷ cs) d are (inr i) old new =
     (λ k j. new k (has-right (snap_of c) (snaps_of cs) k j))
 
 -- the command of an attempt is in form, and knows names of the script
-command-knows : (s : Script) (x : AttemptId) (d : Command) → IsInForm s.targets s → command_of s x ≡ Some d
+pub command-knows : (s : Script) (x : AttemptId) (d : Command) → IsInForm s.targets s → command_of s x ≡ Some d
     → (more : List SnapName) × IsCommand s.conts s.objs more d × ((k : SnapName) → Has k more → Has k (script_snaps s))
 command-knows s x d form is =
     let z = command-in s x d is in

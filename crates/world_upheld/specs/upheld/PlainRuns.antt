@@ -24,7 +24,7 @@ with_held : TargetState → List Snap → TargetState
 with_held s snaps = record s { durable = record s.durable { snaps = snaps } }
 
 -- a target that holds no snapshot is the same without them
-none-held : (s : TargetState) → s.durable.snaps ≡ [] → s ≡ without_snaps s
+pub none-held : (s : TargetState) → s.durable.snaps ≡ [] → s ≡ without_snaps s
 unfolding with_held
 none-held s none = ap (with_held s) none
 
