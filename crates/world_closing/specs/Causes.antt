@@ -1,6 +1,6 @@
 -- When all attempts have their lines, every line shows its cause in the whole list of lines, in any run: targets may stop, snapshots are made and read,
 -- and containers aggregated.
-use Rattle.std.specs.Prelude.{ℕ, ◌≡◌, ◌≢◌, ◌⊎◌, ◌≤◌, ◌<◌, ◌+◌, ◌*◌, ◌^◌, ◌++◌, ◌==◌, ◌&&◌, Bool, true, false, not, max, nat_lt, Any, List, [], ◌∷◌, filter, length, Contains, is_some, slice_get, Option, Some, None, refl, if◌then◌else◌}
+use Rattle.std.specs.Prelude.{ℕ, ◌≡◌, ◌≢◌, ◌⊎◌, ◌≤◌, ◌<◌, ◌+◌, ◌*◌, ◌^◌, ◌++◌, ◌==◌, ◌&&◌, Bool, true, false, not, max, nat_lt, Any, List, [], ◌∷◌, filter, length, Contains, is_some, slice_get, Some, refl, if◌then◌else◌}
 use Rattle.std.proofs.Common.{append_assoc, sym, ◌∙◌, ap, subst, inl, inr, arith}
 use Rattle.std.proofs.lemmas.Bool.Decides.{nat_tests}
 use Rattle.std.proofs.lemmas.List.{length-append}

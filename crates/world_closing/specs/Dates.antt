@@ -1,7 +1,6 @@
 -- No attempt counts with two epochs, where none was issued two.
-use Rattle.std.specs.Prelude.{◌≡◌, Bool, true, false, not, List, [], ◌∷◌, filter, refl, if◌then◌else◌}
+use Rattle.std.specs.Prelude.{◌≡◌, Bool, true, false, not, [], ◌∷◌, filter, refl, if◌then◌else◌}
 use Rattle.std.proofs.Common.{sym, ap, subst}
-use Rattle.base_types.specs.declared.epoch.Epoch.{Epoch}
 use Rattle.base_types.specs.declared.id.AttemptId.{AttemptId}
 use Rattle.model_laws.specs.Members.{Has, has-filter, has-from_map, has-map}
 use Rattle.world_base.specs.declared.world.World.{World}

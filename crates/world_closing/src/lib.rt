@@ -1,9 +1,15 @@
 // What a run comes to where it has ended, also where snapshots are made and read, and containers aggregated.
 #![tactic(auto)]
 
+pub mod asked;
+pub mod forming;
+pub mod legal;
+pub mod stands;
+
 ghost use Rattle.world_closing.specs.Causes.{LastCausesShow};
 ghost use Rattle.world_closing.specs.Dates.{DatesAreApart};
 ghost use Rattle.world_closing.specs.Issued.{AllEventsIssueOnce};
+ghost use Rattle.world_closing.specs.Whole.{AllRunsEndLegal};
 
 /// Says that each line of an attempt shows its cause among all lines, as a legal report asks, in a run of any script:
 /// where each attempt of which an epoch counts has its line with that epoch, each that was stored at a target has one
@@ -20,4 +26,11 @@ pub fn laws_of_last_causes()
 /// what is heard of snapshots and aggregation, and turns that are cut, among them.
 pub fn laws_of_issuing()
     ensures events { AllEventsIssueOnce }
+{}
+
+/// Says that where a run of any script has ended, its report is legal, and the targets stand for it: where targets
+/// hold all that the opening stands for, its snapshots among it, and stops and given up targets were caused from
+/// outside.
+pub fn laws_of_ended_runs()
+    ensures legal { AllRunsEndLegal }
 {}

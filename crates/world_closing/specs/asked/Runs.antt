@@ -1,0 +1,160 @@
+-- From its beginning to where it has ended: who is waited for is asked, a run is over, and what became of attempts is known.
+use Rattle.std.specs.Prelude.{ℕ, ◌≡◌, ◌≤◌, List, length, slice_get, Option, Some, None, refl}
+use Rattle.std.proofs.Common.{sym, ◌∙◌, ap, subst}
+use Rattle.daos_model.specs.declared.durable.Version.{Version}
+use Rattle.daos_model.specs.FormLaws.{length-map}
+use Rattle.daos_model.specs.Opening.{Opening}
+use Rattle.dtx_base.specs.Leading.{undecided_attempt}
+use Rattle.dtx_base.specs.Rows.{row_of}
+use Rattle.model_laws.specs.Members.{Has}
+use Rattle.world_commit.specs.attempts.Attempts.{inc_at, leader_of, row_in}
+use Rattle.world_commit.specs.attempts.History.{History}
+use Rattle.world_base.specs.declared.target.TargetState.{TargetState}
+use Rattle.world_base.specs.declared.world.World.{World}
+use Rattle.world_base.specs.Ended.{HasEnded}
+use Rattle.world_base.specs.Events.{Rules}
+use Rattle.world_base.specs.Stops.{Begins, Goes, WorldEvent, WorldRun, swept}
+use Rattle.world_causes.specs.causes.Causes.{Stored}
+use Rattle.world_commit.specs.fates.Facts.{talking}
+use Rattle.world_commit.specs.requests.Rows.{commits-find}
+use Rattle.world_letters.specs.lives.Lives.{Lives}
+use Rattle.world_legal.specs.closing.Asking.{AreAsking}
+use Rattle.world_legal.specs.closing.Closing.{IsStill}
+use Rattle.world_legal.specs.closing.Gone.{NoneGoesToGivenUp, events-go_on}
+use Rattle.world_legal.specs.closing.Kept.{runs-as_many}
+use Rattle.world_legal.specs.closing.Waited.{WaitersAreAsked}
+use Rattle.world_legal.specs.reasons.Accounted.{stored_over}
+use Rattle.world_legal.specs.reasons.Knowing.{DownsAreKnown}
+use Rattle.world_plain.specs.whole.Begins.{held_at}
+use Rattle.world_plain.specs.whole.Everything.{AreBefore}
+use Rattle.world_upheld.specs.explained.Explanations.{Explanations, HoldNoMoreSnapshots}
+use Rattle.world_upheld.specs.explained.Runs.{runs-have_explanations}
+use Rattle.world_upheld.specs.reasons.Accounted.{AccountedFor}
+use Rattle.world_upheld.specs.reasons.Events.{accounted-then}
+use Rattle.world_upheld.specs.upheld.Begins.{AreRulesInForm, RunBeginsWith, client_begins}
+use Rattle.world_upheld.specs.upheld.Events as stands
+use Rattle.world_upheld.specs.upheld.Events.{event-many}
+use Rattle.world_upheld.specs.upheld.Runs.{held-first}
+use Rattle.world_closing.specs.asked.Asked.{AllEndedRunsAreOver, AllEndedRunsConclude, AllRunsAskForCollections, AllRunsAskForWaiters, AllRunsHaveAll, AllRunsSendNone, AllStillRunsAreOver, ExplainedConclude, ExplainedResolve}
+use Rattle.world_closing.specs.asked.CollectionEvents.{all-events-ask_others}
+use Rattle.world_closing.specs.asked.Collections.{CollectionsAreAsked, nothing-collected}
+use Rattle.world_closing.specs.asked.Concluding.{known-conclude, known-resolve, upheld-known}
+use Rattle.world_closing.specs.asked.Over.{IsUnderWay, is-all_over}
+use Rattle.world_closing.specs.asked.Waiters.{all-events-ask}
+
+-- ---- at each moment
+
+pub runs-have_all : AllRunsHaveAll
+runs-have_all r o w v B run =
+    let k = runs-as_many r w v run in
+    record { targets = k.targets ∙ B.targets; clients = k.clients ∙ ap length B.clients ∙ length-map (client_begins r o w) r.script.clients }
+
+pub runs-send_none : AllRunsSendNone
+runs-send_none r o w v B Begins = λ l t s i to here down. subst (Has l) B.messages i
+runs-send_none r o w v B (Goes u x run e) = events-go_on r u v e
+
+-- nothing is undecided when a run begins
+none-waited : (r : Rules) (o : Opening) (w : World) → RunBeginsWith r o w → WaitersAreAsked r w
+none-waited r o w B x m u c other row client off = by (slice_get w.targets (leader_of r x)) refl row
+  where
+    by : (y : Option TargetState) → slice_get w.targets (leader_of r x) ≡ y → row_in y x ≡ Some u → 1 ≤ talking r (inc_at w (leader_of r x)) w x m
+    by None gone at = let no : ⊥ = cc in absurd no
+    by (Some s) here at =
+        let none : row_of undecided_attempt x s.memory.leader.undecided ≡ None = ap (λ l. row_of undecided_attempt x l.undecided) (B.starts (leader_of r x) s here).leader in
+        let no : ⊥ = cc (at, none) in absurd no
+
+-- what lines tell of targets is so before what goes to given up ones is lost
+unswept : (u : World) → Lives (swept u) → Lives u
+unswept u k = record { told = k.told; bounded = k.bounded; stops = k.stops; restarts = k.restarts; aggregations = k.aggregations; drawn = k.drawn }
+
+-- who is waited for is asked
+record AreAllAsked (r : Rules) (w : World) : Type 0 where
+  waiters : WaitersAreAsked r w
+  collections : CollectionsAreAsked r w
+
+module _ (r : Rules) (o : Opening) (held : ℕ → List Version) (h : History) (stored : Stored) (w v : World) (A : AreRulesInForm r) (before : AreBefore o held) (gone : NoneGoesToGivenUp w) (k : AccountedFor r o held h stored w) (asked : AreAllAsked r w) (e : WorldEvent r w v) where
+  asking : AreAsking r h (stands.later r o held h w v A.some_attempt before k.upheld e) w e.u
+  asking =
+      let s = k.upheld in
+      let then' = accounted-then r o held h stored w v A before k e in
+      let right = stands.right r o held h w v A.some_attempt before s e in
+      record {
+        some = A.some_target;
+        targets = s.heard.many;
+        targets_then = ap (λ x. length x.targets) (sym e.after) ∙ (event-many r w v e ∙ s.heard.many);
+        attempts = s.heard.attempts;
+        attempts_then = stands.attempts-happened r o held h w v A.some_attempt before s e;
+        right = right;
+        senders = s.senders;
+        commits = commits-find r h w s.heard.attempts right;
+        gone = gone;
+        lives = s.lives;
+        lives_then = unswept e.u (subst Lives e.after then'.upheld.lives);
+        downs = k.knows;
+        downs_then = subst DownsAreKnown e.after then'.knows;
+        asked = asked.waiters;
+      }
+
+  asked-on : AreAllAsked r v
+  asked-on = record {
+    waiters = all-events-ask r h (stands.later r o held h w v A.some_attempt before k.upheld e) w v e asking;
+    collections = all-events-ask_others r h (stands.later r o held h w v A.some_attempt before k.upheld e) w v k.upheld.heard.attempts e asking.attempts_then asked.collections;
+  }
+
+runs-ask : (r : Rules) (o : Opening) (w v : World) → AreRulesInForm r → RunBeginsWith r o w → HoldNoMoreSnapshots o w → WorldRun r w v → AreAllAsked r v
+runs-ask r o w v A B few Begins = record { waiters = none-waited r o w B; collections = nothing-collected r w (λ t s here. (B.starts t s here).collecting) }
+runs-ask r o w v A B few (Goes u x run e) =
+    let k = runs-have_explanations r o w u A B few run in
+    asked-on r o (held_at w) k.0 (stored_over r run) u v A (held-first r o w A B) (runs-send_none r o w u B run) k.1.reasons.accounted (runs-ask r o w u A B few run) e
+
+pub runs-ask_for_waiters : AllRunsAskForWaiters
+runs-ask_for_waiters r o w v A B few run = (runs-ask r o w v A B few run).waiters
+
+pub runs-ask_for_collections : AllRunsAskForCollections
+runs-ask_for_collections r o w v A B few run = (runs-ask r o w v A B few run).collections
+
+-- ---- in the end
+
+pub still-all_over : AllStillRunsAreOver
+still-all_over r o w v A B few run still = is-all_over r k.0 v under_way still
+  where
+    k : (h : History) × Explanations r o (held_at w) h (stored_over r run) v
+    k = runs-have_explanations r o w v A B few run
+
+    under_way : IsUnderWay r k.0 v
+    under_way =
+        let s = k.1.reasons.accounted in
+        let asked = runs-ask r o w v A B few run in
+        record {
+          some = A.some_target;
+          all = runs-have_all r o w v B run;
+          attempts = s.upheld.heard.attempts;
+          questions = s.upheld.heard.questions;
+          talk = s.upheld.heard.talk;
+          rows = s.upheld.rows;
+          lines = s.upheld.lines;
+          knows = s.knows;
+          gone = runs-send_none r o w v B run;
+          asked = asked.waiters;
+          collected = asked.collections;
+        }
+
+-- where a run has ended, nobody goes on
+still-ended : (r : Rules) (v : World) → HasEnded r v → IsStill r v
+still-ended r v ended = record { to_clients = ended.to_clients; to_targets = ended.to_targets; clients = ended.clients; none_stopped = ended.none_stopped }
+
+pub ended-all_over : AllEndedRunsAreOver
+ended-all_over r o w v A B few run ended = still-all_over r o w v A B few run (still-ended r v ended)
+
+-- ---- what became of attempts
+
+pub explained-resolve : ExplainedResolve
+explained-resolve r o held h stored v A before k = known-resolve r o held h v (upheld-known r o held h v A before k.reasons.accounted.upheld)
+
+pub explained-conclude : ExplainedConclude
+explained-conclude r o held h stored v A before k done = known-conclude r o held h v (upheld-known r o held h v A before k.reasons.accounted.upheld) done
+
+pub ended-conclude : AllEndedRunsConclude
+ended-conclude r o w v A B few run ended =
+    let k = runs-have_explanations r o w v A B few run in
+    (k.0, k.1, explained-conclude r o (held_at w) k.0 (stored_over r run) v A (held-first r o w A B) k.1 (ended-all_over r o w v A B few run ended).over.done)
