@@ -18,6 +18,7 @@ use Rattle.daos_model.specs.Family.{all_hold_from, counts, created_snaps, holds,
 use Rattle.daos_model.specs.Sound.{IsOfEntry, Sound}
 use Rattle.daos_model.specs.Versions.{writes_in}
 use Rattle.dtx_base.specs.LeaderLaws.{same-is}
+use Rattle.run_opening.specs.FloorLaws.{fewer-floored}
 use Rattle.run_opening.specs.Left.{StaysCounted}
 use Rattle.run_opening.specs.LeftLaws.{Beside, FamilyKeeps, KeepsCounted, beside-as, beside-at, beside-many}
 use Rattle.run_opening.proofs.Settling.{EntryLeft, Stays, IsCommitted, IsGone, IsSettled}
@@ -187,6 +188,7 @@ module _ (F G : List Durable) (b : Beside (IsSettled (resolved F)) F G) where
         snaps = λ x i. subst (Has x) k.snaps i;
         floors = λ all. subst (All (λ r. r.floor.0 ≤ restart_floor d.lease)) (sym k.conts) all;
         aggregated = λ all. subst (All (λ r. r.aggregated.0 ≤ restart_floor d.lease)) (sym k.conts) all;
+        floored = fewer-floored d g (λ x i. subst (Has x) k.snaps i) k.conts;
         counted = k.counted;
       }
 
@@ -238,6 +240,7 @@ less-counted F G d g done single k = record {
   snaps = k.snaps;
   floors = λ all. subst (All (λ r. r.floor.0 ≤ restart_floor d.lease)) (sym k.conts) all;
   aggregated = λ all. subst (All (λ r. r.aggregated.0 ≤ restart_floor d.lease)) (sym k.conts) all;
+  floored = fewer-floored d g k.snaps k.conts;
   counted = k.counted;
 }
 

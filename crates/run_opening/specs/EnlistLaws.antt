@@ -1,25 +1,22 @@
 -- Containers that are enlisted leave sound targets sound, and what they stand for.
-use Rattle.std.specs.Prelude.{ℕ, ◌≡◌, ◌≤◌, ◌⊎◌, Bool, true, false, max, List, [], ◌∷◌, All, Contains, length, map, slice_get, Some, if◌then◌else◌, refl}
+use Rattle.std.specs.Prelude.{◌≡◌, ◌≤◌, ◌⊎◌, Bool, true, false, max, List, [], ◌∷◌, All, length, map, if◌then◌else◌, refl}
 use Rattle.std.specs.List.{list_any}
-use Rattle.std.proofs.Common.{inl, inr, sym, ◌∙◌, ap, subst, arith}
+use Rattle.std.proofs.Common.{inl, inr, sym, ap, subst, arith}
 use Rattle.base_types.specs.declared.id.ContId.{ContId}
 use Rattle.base_types.specs.declared.script.Script.{Script}
 use Rattle.base_types.specs.Epochs.{restart_floor}
-use Rattle.base_types.specs.Placement.{path_members}
 use Rattle.model_laws.specs.DecidedLaws.{all-from_has, has-all}
 use Rattle.model_laws.specs.EntryLaws.{has-put, put-has}
 use Rattle.model_laws.specs.Members.{Has, any-has, has-any, has-from_contains}
 use Rattle.model_laws.specs.TargetLaws.{same_number}
 use Rattle.daos_model.specs.declared.durable.ContRow.{ContRow}
 use Rattle.daos_model.specs.declared.durable.Durable.{Durable}
-use Rattle.daos_model.specs.declared.durable.Version.{Version}
-use Rattle.daos_model.specs.Cells.{value_at}
 use Rattle.daos_model.specs.Changes.{enlisted, with_cont, with_conts}
-use Rattle.daos_model.specs.Durables.{IsInForm, cont_key, entry_of, is_enlisted, is_frozen, is_row_of, new_row}
-use Rattle.daos_model.specs.Family.{Agree, AgreeOn, counts, counts_at, created_snaps, greatest_lease, map_where}
-use Rattle.daos_model.specs.FormLaws.{enlisted-in_form, length-map}
+use Rattle.daos_model.specs.Durables.{IsInForm, cont_key, is_enlisted, is_row_of, new_row}
+use Rattle.daos_model.specs.Family.{greatest_lease}
+use Rattle.daos_model.specs.FormLaws.{enlisted-in_form}
 use Rattle.daos_model.specs.Opening.{kept}
-use Rattle.daos_model.specs.Sound.{IsCovered, IsPlaced, IsSoundAt, SayTheSame, Sound}
+use Rattle.daos_model.specs.Sound.{IsCovered}
 use Rattle.daos_model.specs.Ordered.{put}
 use Rattle.run_opening.specs.Alike.{KeepsData, stand-alike}
 use Rattle.run_opening.specs.AlikeSound.{alike-sound}

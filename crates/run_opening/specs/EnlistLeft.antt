@@ -23,7 +23,8 @@ use Rattle.run_opening.specs.All.{AreKept, MayBeFound}
 use Rattle.run_opening.specs.EnlistLaws.{rows-hold}
 use Rattle.run_opening.specs.Left.{AreParts, IsLeftOf, LeavesAll, StaysCounted, or_not}
 use Rattle.run_opening.specs.LeftLaws.{Beside, FamilyKeeps, KeepsCounted, beside-as, beside-at, beside-from, keeps-left}
-use Rattle.run_opening.specs.Opened.{keeps}
+use Rattle.run_opening.specs.FloorLaws.{enlisted-floored}
+use Rattle.run_opening.specs.Opened.{IsFloored, keeps}
 use Rattle.run_opening.specs.Steps.{bare}
 
 -- ---- stores
@@ -47,17 +48,19 @@ record StaysAlike (d g : Durable) : Type 0 where
   versions : g.versions ≡ d.versions
   entries : g.entries ≡ d.entries
   snaps : g.snaps ≡ d.snaps
+  floored : IsFloored d → IsFloored g
   floors : All (λ r. r.floor.0 ≤ restart_floor d.lease) d.conts → All (λ r. r.floor.0 ≤ restart_floor d.lease) g.conts
   aggregated : All (λ r. r.aggregated.0 ≤ restart_floor d.lease) d.conts → All (λ r. r.aggregated.0 ≤ restart_floor d.lease) g.conts
   counted : StaysCounted d g
 
 enlisted-stays : (cs : List ContId) (n : ℕ) (d : Durable) → StaysAlike d (or_not (enlisted cs) n d)
 unfolding enlisted
-enlisted-stays cs zero d = record { versions = refl; entries = refl; snaps = refl; floors = λ all. all; aggregated = λ all. all; counted = record { lease = refl; incarnation = refl } }
+enlisted-stays cs zero d = record { versions = refl; entries = refl; snaps = refl; floored = λ low. low; floors = λ all. all; aggregated = λ all. all; counted = record { lease = refl; incarnation = refl } }
 enlisted-stays cs (suc n) d = record {
   versions = refl;
   entries = refl;
   snaps = refl;
+  floored = enlisted-floored cs d;
   floors = λ all. rows-hold (λ r. r.floor.0 ≤ restart_floor d.lease) (λ a. omega arith) cs d.conts all;
   aggregated = λ all. rows-hold (λ r. r.aggregated.0 ≤ restart_floor d.lease) (λ a. omega arith) cs d.conts all;
   counted = record { lease = refl; incarnation = refl };
@@ -110,6 +113,7 @@ module _ (F G : List Durable) (k : Sound F) (b : Beside StaysAlike F G) where
         snaps = λ x i. subst (Has x) s.snaps i;
         floors = s.floors;
         aggregated = s.aggregated;
+        floored = s.floored;
         counted = s.counted;
       }
 

@@ -12,7 +12,7 @@ use Rattle.daos_model.specs.Finals.{opening_of}
 use Rattle.daos_model.specs.Opening.{kept}
 use Rattle.daos_model.specs.Sound.{Sound}
 use Rattle.world_plain.specs.ends.Settled.{OpenTogether}
-use Rattle.run_opening.specs.Opened.{AreInForm, enlisted_family, lasting_snaps, opened_family}
+use Rattle.run_opening.specs.Opened.{AreFloored, AreInForm, enlisted_family, lasting_snaps, opened_family}
 
 -- ---- what an opening leaves
 
@@ -32,9 +32,12 @@ OpeningsKeepWhatStands = (s : Script) (F : List Durable) → stand (opened_famil
 abbrev pub OpeningsKeepLeases : Type 0
 OpeningsKeepLeases = (s : Script) (F : List Durable) → greatest_lease (opened_family s F) ≡ greatest_lease F
 
--- what was sound is sound after it, and what was in form is in form
+-- what was sound is sound after it, with each frozen snapshot at or below its floor; and what was in form is in form
 abbrev pub OpeningsKeepSound : Type 0
 OpeningsKeepSound = (s : Script) (F : List Durable) → Sound F → Sound (opened_family s F)
+
+abbrev pub OpeningsKeepFloors : Type 0
+OpeningsKeepFloors = (s : Script) (F : List Durable) → AreFloored F → AreFloored (opened_family s F)
 
 abbrev pub OpeningsKeepForm : Type 0
 OpeningsKeepForm = (s : Script) (F : List Durable) → AreInForm F → AreInForm (opened_family s F)
@@ -47,10 +50,13 @@ RunsBeginOpened =
 
 -- ---- the containers of a script
 
--- Containers that are enlisted first change nothing of this: what was sound is sound, what was in form is where none has more than 256
--- then, and the opening is the same.
+-- Containers that are enlisted first change nothing of this: what was sound is sound, with each frozen snapshot at or below its floor, what was
+-- in form is where none has more than 256 then, and the opening is the same.
 abbrev pub EnlistingKeepsSound : Type 0
 EnlistingKeepsSound = (cs : List ContId) (F : List Durable) → Sound F → Sound (enlisted_family cs F)
+
+abbrev pub EnlistingKeepsFloors : Type 0
+EnlistingKeepsFloors = (cs : List ContId) (F : List Durable) → AreFloored F → AreFloored (enlisted_family cs F)
 
 abbrev pub AreFew : List Durable → Type 0
 AreFew F = (t : ℕ) (d : Durable) → slice_get F t ≡ Some d → length d.conts ≤ 256
@@ -77,6 +83,10 @@ pub record StaysSound (F G : List Durable) : Type 0 where
 abbrev pub ReopeningKeepsSound : Type 0
 ReopeningKeepsSound = (F : List Durable) → Sound F → StaysSound F (map reopened F)
 
+-- and each frozen snapshot lies at or below its floor still
+abbrev pub ReopeningKeepsFloors : Type 0
+ReopeningKeepsFloors = (F : List Durable) → AreFloored F → AreFloored (map reopened F)
+
 -- ---- targets that were never used
 
 abbrev pub AreUnused : List Durable → Type 0
@@ -84,6 +94,10 @@ AreUnused F = (t : ℕ) (d : Durable) → slice_get F t ≡ Some d → (incarnat
 
 abbrev pub UnusedAreSound : Type 0
 UnusedAreSound = (F : List Durable) → AreUnused F → Sound F
+
+-- they hold no snapshot
+abbrev pub UnusedAreFloored : Type 0
+UnusedAreFloored = (F : List Durable) → AreUnused F → AreFloored F
 
 -- the opening leaves them as they are, once containers are enlisted, and they stand for nothing
 abbrev pub UnusedOpenAsTheyAre : Type 0

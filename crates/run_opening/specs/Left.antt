@@ -9,7 +9,7 @@ use Rattle.daos_model.specs.Family.{created_snaps, snap_map, stand}
 use Rattle.daos_model.specs.Sound.{Sound}
 use Rattle.model_laws.specs.Members.{Has}
 use Rattle.run_opening.specs.All.{AreCreated, AreEntries, FromTo, only}
-use Rattle.run_opening.specs.Opened.{lasting_snaps}
+use Rattle.run_opening.specs.Opened.{AreFloored, lasting_snaps}
 use Rattle.run_opening.specs.Steps.{all_ended, all_forgotten, all_thawed, dropped, ended, is_dropped, is_other_than, resolved_by}
 
 -- ---- what is left
@@ -19,10 +19,12 @@ pub record StaysCounted (d g : Durable) : Type 0 where
   pub lease : g.lease ≡ d.lease
   pub incarnation : g.incarnation ≡ d.incarnation
 
--- What an opening for a script leaves of what all targets keep, wherever it is cut. It is sound, and stands for the same now. Each snapshot that target
--- 0 holds as created then it held before, with the same map; and those that last over the whole opening it still holds. Leases and incarnations stay.
+-- What an opening for a script leaves of what all targets keep, wherever it is cut. It is sound, and stands for the same now; each frozen snapshot lies
+-- at or below its floor, where so it was before. Each snapshot that target 0 holds as created then it held before, with the same map; and those that
+-- last over the whole opening it still holds. Leases and incarnations stay.
 pub record IsLeftOf (s : Script) (F G : List Durable) : Type 0 where
   pub sound : Sound G
+  pub floored : AreFloored F → AreFloored G
   pub now : (stand G).now ≡ (stand F).now
   pub snaps : (x : Snap) → Has x (created_snaps G) → Has x (created_snaps F) × (snap_map G x ≡ snap_map F x)
   pub lasting : (x : Snap) → Has x (lasting_snaps s F) → Has x (created_snaps G)

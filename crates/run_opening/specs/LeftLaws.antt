@@ -20,7 +20,7 @@ use Rattle.daos_model.specs.Family.{Agree, AgreeOn, counts, counts_at, counts_be
 use Rattle.daos_model.specs.Sound.{IsCovered, IsOfEntry, IsPlaced, IsSoundAt, SayTheSame, Sound}
 use Rattle.daos_model.specs.Versions.{version_path, writes_in}
 use Rattle.run_opening.specs.Left.{IsLeftOf, StaysCounted}
-use Rattle.run_opening.specs.Opened.{keeps, lasting_snaps}
+use Rattle.run_opening.specs.Opened.{AreFloored, IsFloored, keeps, lasting_snaps}
 
 -- ---- one by one
 
@@ -64,7 +64,7 @@ abbrev pub IsBlind : (Version → Bool) → Type 0
 IsBlind p = (v : Version) (b : Bool) → p (record v { done = b }) ≡ p v
 
 -- Of the versions of one target that count the same writes are there, however they are chosen; each version was there, done or not; unsettled ones have
--- their entries; entries and snapshots were there, committed and created or not; and what the lease covered it covers.
+-- their entries; entries and snapshots were there, committed and created or not; what the lease covered it covers; and floors don't fall below snapshots.
 pub record KeepsCounted (F G : List Durable) (d g : Durable) : Type 0 where
   pub writes : (p : Version → Bool) → IsBlind p → writes_in (filter (λ v. counts G v && p v) g.versions) ≡ writes_in (filter (λ v. counts F v && p v) d.versions)
   pub versions : (v : Version) → Has v g.versions → (u : Version) × Has u d.versions × (v ≡ record u { done = v.done })
@@ -74,6 +74,7 @@ pub record KeepsCounted (F G : List Durable) (d g : Durable) : Type 0 where
   pub snaps : (x : Snap) → Has x g.snaps → Has x d.snaps
   pub floors : All (λ r. r.floor.0 ≤ restart_floor d.lease) d.conts → All (λ r. r.floor.0 ≤ restart_floor d.lease) g.conts
   pub aggregated : All (λ r. r.aggregated.0 ≤ restart_floor d.lease) d.conts → All (λ r. r.aggregated.0 ≤ restart_floor d.lease) g.conts
+  pub floored : IsFloored d → IsFloored g
   pub counted : StaysCounted d g
 
 -- Each target does; those that target 0 holds as created it held before, and each target holds them frozen.
@@ -196,9 +197,13 @@ module _ (F G : List Durable) where
 
       -- ---- what is left
 
+      keeps-floored : AreFloored F → AreFloored G
+      keeps-floored low t g at = let x = beside-at (KeepsCounted F G) F G t g k.beside at in x.2.floored (low t x.0 x.1)
+
       pub keeps-left : (script : Script) → ((x : Snap) → Has x (lasting_snaps script F) → Has x (created_snaps G)) → IsLeftOf script F G
       keeps-left script lasting = record {
         sound = keeps-sound;
+        floored = keeps-floored;
         now = now-kept;
         snaps = λ x i. (k.created x i, snap-kept x);
         lasting = lasting;
@@ -213,6 +218,7 @@ module _ (F G : List Durable) where
 pub left-itself : (s : Script) (F : List Durable) → Sound F → IsLeftOf s F F
 left-itself s F k = record {
   sound = k;
+  floored = λ low. low;
   now = refl;
   snaps = λ x i. (i, refl);
   lasting = λ x i. (has-from_filter (keeps s) (created_snaps F) x i).0;
@@ -223,6 +229,7 @@ left-itself s F k = record {
 pub left-then : (s : Script) (F E G : List Durable) → IsLeftOf s F E → IsLeftOf s E G → IsLeftOf s F G
 left-then s F E G a b = record {
   sound = b.sound;
+  floored = λ low. b.floored (a.floored low);
   now = b.now ∙ a.now;
   snaps = λ x i. let y = b.snaps x i in let z = a.snaps x y.0 in (z.0, y.1 ∙ z.1);
   lasting = λ x i. b.lasting x (has-filter (keeps s) (created_snaps E) x (a.lasting x i) (has-from_filter (keeps s) (created_snaps F) x i).1);

@@ -9,6 +9,7 @@ pub mod BeginLaws
 pub mod Alike
 pub mod AlikeSound
 pub mod EnlistLaws
+pub mod FloorLaws
 pub mod Left
 pub mod LeftLaws
 pub mod EnlistLeft

@@ -1,5 +1,5 @@
 -- What the opening of a run makes of what all targets keep.
-use Rattle.std.specs.Prelude.{ℕ, ◌≡◌, Bool, true, List, [], filter, map, slice_get, Some}
+use Rattle.std.specs.Prelude.{ℕ, ◌≡◌, ◌≤◌, Bool, true, Contains, List, [], filter, map, slice_get, Some}
 use Rattle.std.specs.List.{list_any}
 use Rattle.base_types.specs.declared.id.ContId.{ContId}
 use Rattle.base_types.specs.declared.script.Script.{Script}
@@ -8,7 +8,7 @@ use Rattle.daos_model.specs.declared.durable.Durable.{Durable}
 use Rattle.daos_model.specs.declared.durable.Version.{Version}
 use Rattle.daos_model.specs.declared.stand.SnapMap.{SnapMap}
 use Rattle.daos_model.specs.Changes.{enlisted}
-use Rattle.daos_model.specs.Durables.{IsInForm, is_snap_at}
+use Rattle.daos_model.specs.Durables.{IsInForm, is_snap_at, row_of}
 use Rattle.daos_model.specs.Family.{counts, created_snaps}
 use Rattle.daos_model.specs.Opening.{is_kept}
 
@@ -59,6 +59,14 @@ opened_family s F = map (opened s F) F
 -- each of them is in form, as what a store tells that runs
 abbrev pub AreInForm : List Durable → Type 0
 AreInForm F = (t : ℕ) (d : Durable) → slice_get F t ≡ Some d → IsInForm d
+
+-- each snapshot that is frozen at a target lies at or below the floor of its container, so that no write at or below it is stored any more
+abbrev pub IsFloored : Durable → Type 0
+IsFloored d = (x : Snap) → Contains d.snaps x → x.epoch.0 ≤ (row_of d x.cont).floor.0
+
+-- so it is at all targets
+abbrev pub AreFloored : List Durable → Type 0
+AreFloored F = (t : ℕ) (d : Durable) → slice_get F t ≡ Some d → IsFloored d
 
 -- what all targets keep once containers are enlisted at each
 abbrev pub enlisted_family : List ContId → List Durable → List Durable

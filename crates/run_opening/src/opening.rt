@@ -102,7 +102,8 @@ fn drop_all<S: Store>(alloc: Global, script: &Script, stores: &mut [S]) -> Resul
 /// entries of all targets, and the entries are forgotten; target 0 drops its created snapshots that the
 /// script drops; and all targets thaw those that target 0 doesn't hold as created. Of targets that are sound
 /// together this makes what the laws of openings say. Whatever the next openings of the stores find, also where
-/// this one is cut, is sound, and stands for the same.
+/// this one is cut, is sound, with each frozen snapshot at or below its floor where so it was before, and stands
+/// for the same.
 ///
 /// # Errors
 ///

@@ -1,10 +1,11 @@
 -- Stores that are opened together for a run of a script.
-use Rattle.std.specs.Prelude.{ℕ, ◌≡◌, ◌≤◌, ◌<◌, ◌^◌, false, List, [], ◌∷◌, filter, length, slice_get, Option, Some, Result, Ok, Err, refl}
-use Rattle.std.specs.Option.{option_map}
+use Rattle.std.specs.Prelude.{ℕ, ◌≡◌, ◌≤◌, ◌<◌, ◌-◌, ◌^◌, false, List, [], ◌∷◌, filter, length, slice_get, Option, Some, Result, Ok, Err, IfOk, refl}
+use Rattle.std.specs.Option.{ForSome, option_map}
 use Rattle.std.proofs.Common.{inl, sym, ◌∙◌, ap, subst, arith}
 use Rattle.base_types.specs.declared.epoch.Epoch.{Epoch}
 use Rattle.base_types.specs.declared.id.ContId.{ContId}
 use Rattle.base_types.specs.declared.script.Script.{Script}
+use Rattle.base_types.specs.declared.snapshot.Snap.{Snap}
 use Rattle.base_types.specs.Epochs.{restart_floor}
 use Rattle.daos_model.specs.declared.durable.Durable.{Durable}
 use Rattle.daos_model.specs.Changes.{enlisted}
@@ -22,21 +23,23 @@ use Rattle.run_opening.specs.Alike.{KeepsData, created-alike}
 use Rattle.run_opening.specs.BeginLaws.{runs-begin}
 use Rattle.run_opening.specs.EnlistLaws.{enlisting-form, enlisting-openings, enlisting-sound, opened-knows}
 use Rattle.run_opening.specs.EnlistLeft.{enlisting-left, found-parts}
+use Rattle.run_opening.specs.FloorLaws.{enlisting-floored}
 use Rattle.run_opening.specs.Laws.{AreFew}
 use Rattle.run_opening.specs.Left.{IsLeftOf, LeavesAll, or_not}
 use Rattle.run_opening.specs.LeftLaws.{left-then}
 use Rattle.run_opening.specs.Opened.{AreInForm, enlisted_family, keeps, lasting_snaps, opened, opened_family}
-use Rattle.run_opening.specs.SoundLaws.{at-mapped}
-use Rattle.run_opening.specs.StandLaws.{opened-leases}
+use Rattle.run_opening.specs.SoundLaws.{at-mapped, opened-sound}
+use Rattle.run_opening.specs.StandLaws.{opened-leases, opened-stands}
 use Rattle.target_parts.specs.Parts.{Runs}
 use Rattle.target_parts.specs.Running.{runs_as, runs_first, runs_on}
 use Rattle.vos_store.specs.Calls.{State}
 use Rattle.vos_store.specs.Refusals.{always_stop, says}
-use Rattle.world_plain.specs.ends.Settled.{OpenTogether}
-use Rattle.world_plain.specs.whole.Begins.{IsOpeningPlain, OpensWith, declared_conts}
+use Rattle.world_plain.specs.ends.Settled.{OpenTogether, leases-below}
+use Rattle.world_plain.specs.whole.Begins.{declared_conts}
 use Rattle.run_starts.specs.declared.stop.StartStop.{StartStop}
 use Rattle.run_starts.specs.Calls.{AreCovered, RunAll, WhyNotOpened, WithContainers}
-use Rattle.run_starts.specs.Starts.{AreOpened, BeginsAs, CanOpen, IsWhole, MayOpenAgain, begun_family}
+use Rattle.run_starts.specs.LastLaws.{opened-last}
+use Rattle.run_starts.specs.Starts.{AllBegin, AreHeldFirst, AreOpened, BeginPlainly, BeginsAs, CanOpen, IsWhole, MayOpenAgain, begun_family}
 use Rattle.run_starts.specs.Stops.{is_fault_of, not_opened, wanting}
 use Rattle.run_starts.proofs.Adding.{same-at, there}
 
@@ -83,6 +86,16 @@ module _ {S : Type 0} (durable : S → Option Durable) (state : S → State) whe
         (runs_as {T = Unit {0}} {U = T} always_stop (Ok (tt {0})) (is_fault_of t) (Err wanting) (state x) (state x) (durable x) (durable x) refl (runs_first (state x) (durable x) (run t x at)));
     free = λ t x y at to. subst (λ z. (state x).free ≤ (state z).free) (same-at stores t x y at to) (omega arith);
     still = λ t x y at to. tt;
+    own = λ t is. let no : ⊥ = cc in absurd no;
+  })
+
+  -- no memory for more, after calls that came to their end
+  pub run-wanting : {T U : Type 0} (x : T) (why : StartStop) (old new : List S) → why ≡ wanting → RunAll durable state (Ok x) old new → RunAll {T = U} durable state (Err why) old new
+  run-wanting {T} {U} x why old new is k = subst (λ w. RunAll {T = U} durable state (Err w) old new) (sym is) (record {
+    many = k.many;
+    each = λ t a b at to. runs_as {T = T} {U = U} (is_fault_of t) (Ok x) (is_fault_of t) (Err wanting) (state a) (state b) (durable a) (durable b) refl (k.each t a b at to);
+    free = k.free;
+    still = λ t a b at to. tt;
     own = λ t is. let no : ⊥ = cc in absurd no;
   })
 
@@ -175,11 +188,11 @@ none-of : {T : Type 0} (xs : List T) → ((x : T) → Has x xs → ⊥) → xs �
 none-of [] none = refl
 none-of (x ∷ xs) none = absurd (none x (inl refl))
 
--- no snapshot lasts of what is left where none lasted before
-pub left-again : (s : Script) (B G : List Durable) → IsLeftOf s B G → MayOpenAgain B G
-left-again s B G left other none = record {
-  sound = left.sound;
-  unsnapped = none-of (lasting_snaps other G) (λ x i.
+-- what is left can be opened too, and no snapshot lasts of it where none lasted before
+pub left-again : (s : Script) (B G : List Durable) → CanOpen B → IsLeftOf s B G → MayOpenAgain B G
+left-again s B G can left = record {
+  opens = record { sound = left.sound; floored = left.floored can.floored };
+  unsnapped = λ other none. none-of (lasting_snaps other G) (λ x i.
       let j = has-from_filter (keeps other) (created_snaps G) x i in
       let k : Has x (lasting_snaps other B) = has-filter (keeps other) (created_snaps B) x (left.snaps x j.0).0 j.1 in
       let no : Has x [] = subst (Has x) none k in no);
@@ -192,28 +205,28 @@ counted : (s : Script) (cs : List ContId) (F : List Durable) (b : Durable) → (
 unfolding opened enlisted
 counted s cs F b = refl
 
-module _ (s : Script) (B : List Durable) (some : 0 < length B) (forms : AreInForm B) (can : CanOpen s B) (few : AreFew (enlisted_family (declared_conts s) B)) where
+module _ (s : Script) (B : List Durable) (some : 0 < length B) (forms : AreInForm B) (can : CanOpen B) (few : AreFew (enlisted_family (declared_conts s) B)) where
   abbrev conts : List ContId
   conts = declared_conts s
 
   abbrev E : List Durable
   E = enlisted_family conts B
 
-  none-lasts : lasting_snaps s E ≡ []
-  none-lasts = ap (filter (keeps s)) (created-alike (enlisted conts) (keeps-data conts) B) ∙ can.unsnapped
-
-  together : (free : ℕ → ℕ) → OpenTogether (length E) (opened_family s E) (opening_of s E free)
-  together free = runs-begin s E free (subst (λ n. 0 < n) (sym (length-map (enlisted conts) B)) some) (enlisting-form conts B few forms) (enlisting-sound conts B can.sound) none-lasts
+  many : length E ≡ length B
+  many = length-map (enlisted conts) B
 
   same-opening : (free : ℕ → ℕ) → opening_of s E free ≡ opening_of s B free
   same-opening free = enlisting-openings s conts B free
 
-  pub is-plain : (free : ℕ → ℕ) → IsOpeningPlain (opening_of s B free)
-  is-plain free = subst IsOpeningPlain (same-opening free) (together free).plain
+  E-forms : AreInForm E
+  E-forms = enlisting-form conts B few forms
 
-  pub begins-as : (t : ℕ) (d : Durable) → slice_get (begun_family s B) t ≡ Some d → BeginsAs s B t d
+  E-sound : Sound E
+  E-sound = enlisting-sound conts B can.sound
+
+  begins-as : (t : ℕ) (d : Durable) → slice_get (begun_family s B) t ≡ Some d → BeginsAs s B t d
   begins-as t d at = record {
-    opens = λ free. subst (λ o. OpensWith (length B) t o d) (same-opening free) (subst (λ n. OpensWith n t (opening_of s E free) d) (length-map (enlisted conts) B) ((together free).each t d at));
+    lasts = opened-last s E E-forms (enlisting-floored conts B can.floored) t d at;
     enlisted = λ c i. opened-knows s conts B t d c at i;
     incarnation = λ b bt.
         let e = at-mapped (opened s E) E t d at in
@@ -221,29 +234,59 @@ module _ (s : Script) (B : List Durable) (some : 0 < length B) (forms : AreInFor
         ap (λ y. y.incarnation) (sym e.2) ∙ ap (λ y. (opened s E y).incarnation) (sym f.2) ∙ counted s conts E f.0 ∙ ap (λ y. y.incarnation) (same-at B t f.0 b f.1 bt);
   }
 
+  -- where no snapshot lasts
+  plainly : lasting_snaps s B ≡ [] → BeginPlainly s B
+  plainly none free =
+      subst (OpenTogether (length B) (opened_family s E)) (same-opening free)
+      (subst (λ n. OpenTogether n (opened_family s E) (opening_of s E free)) many
+      (runs-begin s E free (subst (λ n. 0 < n) (sym many) some) E-forms E-sound (ap (filter (keeps s)) (created-alike (enlisted conts) (keeps-data conts) B) ∙ none)))
+
   -- leases stay
-  pub same-leases : greatest_lease (begun_family s B) ≡ greatest_lease B
+  same-leases : greatest_lease (begun_family s B) ≡ greatest_lease B
   same-leases = opened-leases s E ∙ ap (λ o. o.lease) (same-opening (λ t. 0))
 
+  pub all-begin : AllBegin s B
+  all-begin = record {
+    sound = opened-sound s E E-sound;
+    stands = opened-stands s E ∙ ap (λ o. o.stand) (same-opening (λ t. 0));
+    leases = same-leases;
+    each = begins-as;
+    plain = plainly;
+  }
+
   pub low-leases : greatest_lease (begun_family s B) < 2 ^ 56
-  low-leases = subst (λ n. n < 2 ^ 56) (sym same-leases) (is-plain (λ t. 0)).lease
+  low-leases =
+      let low : greatest_lease (begun_family s B) ≤ 2 ^ 56 - 1 = leases-below (begun_family s B) (2 ^ 56 - 1) (λ t d at. let lt : d.lease < 2 ^ 56 = (begins-as t d at).lasts.form.lease in omega (arith, lt)) in
+      omega (arith, low)
 
 module _ {S : Type 0} (durable : S → Option Durable) (state : S → State) (s : Script) (B : List Durable) (old new : List S) (some : 0 < length old) (kept : AreKept durable old B)
-    (formed : (t : ℕ) (x : S) (d : Durable) → slice_get old t ≡ Some x → durable x ≡ Some d → IsInForm d) (can : CanOpen s B) (w : IsWhole durable s B new) where
+    (formed : (t : ℕ) (x : S) (d : Durable) → slice_get old t ≡ Some x → durable x ≡ Some d → IsInForm d) (can : CanOpen B) (w : IsWhole durable s B new) where
   some-kept : 0 < length B
   some-kept = subst (λ n. 0 < n) (sym kept.many) some
 
   in-form : AreInForm B
   in-form t d at = let x = there B old t d (sym kept.many) at in formed t x.0 d x.1 (kept.each t x.0 d x.1 at)
 
+  begin : AllBegin s B
+  begin = all-begin s B some-kept in-form can w.few
+
   pub low : greatest_lease (begun_family s B) < 2 ^ 56
   low = low-leases s B some-kept in-form can w.few
 
-  pub are-opened : (tracker : Epoch) → tracker ≡ record { 0 = restart_floor (greatest_lease (begun_family s B)) } → AreCovered state new (greatest_lease (begun_family s B)) → AreOpened durable state s B new tracker
-  are-opened tracker is covered = record {
-    tracker_is = is ∙ ap (λ n. record { 0 = restart_floor n }) (same-leases s B some-kept in-form can w.few);
-    plain = is-plain s B some-kept in-form can w.few;
+  pub are-opened : (tracker : Epoch) (held : List Snap) → tracker ≡ record { 0 = restart_floor (greatest_lease (begun_family s B)) } → AreHeldFirst (begun_family s B) held → AreCovered state new (greatest_lease (begun_family s B))
+      → AreOpened durable state s B new tracker held
+  are-opened tracker held is holds covered = record {
+    tracker_is = is ∙ ap (λ n. record { 0 = restart_floor n }) begin.leases;
+    held_is = holds;
     kept = w.kept;
-    each = begins-as s B some-kept in-form can w.few;
-    covered = subst (AreCovered state new) (same-leases s B some-kept in-form can w.few) covered;
+    begins = begin;
+    covered = subst (AreCovered state new) begin.leases covered;
   }
+
+-- ---- what target 0 holds
+
+-- where it tells what it keeps
+pub held-first : {S E : Type 0} (durable : S → Option Durable) (stores : List S) (x : S) (r : Result (List Snap) E) → slice_get stores 0 ≡ Some x → ForSome (durable x) (λ d. IfOk r (λ snaps. snaps ≡ d.snaps))
+    → IfOk r (λ held. (F : List Durable) → AreKept durable stores F → AreHeldFirst F held)
+held-first durable stores x (Ok held) here told = λ F kept d at. told d (kept.each 0 x d here at)
+held-first durable stores x (Err why) here told = tt

@@ -2,3 +2,6 @@
 pub mod Stops
 pub mod Calls
 pub mod Starts
+pub mod LastLaws
+pub mod Begins
+pub mod Runs

@@ -2,25 +2,30 @@
 use Rattle.std.specs.Prelude.{ℕ, ◌≡◌, ◌≤◌, List, [], length, slice_get, Option, Some}
 use Rattle.base_types.specs.declared.epoch.Epoch.{Epoch}
 use Rattle.base_types.specs.declared.script.Script.{Script}
+use Rattle.base_types.specs.declared.snapshot.Snap.{Snap}
 use Rattle.base_types.specs.Epochs.{restart_floor}
 use Rattle.daos_model.specs.declared.durable.Durable.{Durable}
-use Rattle.daos_model.specs.Family.{greatest_lease}
+use Rattle.daos_model.specs.Family.{greatest_lease, stand}
 use Rattle.daos_model.specs.Finals.{opening_of}
+use Rattle.daos_model.specs.Opening.{kept}
 use Rattle.daos_model.specs.Sound.{Sound}
 use Rattle.run_opening.specs.All.{AreKept}
 use Rattle.run_opening.specs.Laws.{AreFew}
-use Rattle.run_opening.specs.Opened.{enlisted_family, lasting_snaps, opened_family}
+use Rattle.run_opening.specs.Opened.{AreFloored, enlisted_family, lasting_snaps, opened_family}
 use Rattle.vos_store.specs.Calls.{State}
-use Rattle.world_plain.specs.whole.Begins.{AreEnlisted, IsOpeningPlain, OpensWith, declared_conts}
+use Rattle.world_closing.specs.stands.Lasting.{IsLasting}
+use Rattle.world_plain.specs.ends.Settled.{OpenTogether}
+use Rattle.world_plain.specs.whole.Begins.{AreEnlisted, declared_conts}
 
--- what stores keep that are sound together, of which no snapshot lasts after those that a script drops
-pub record CanOpen (s : Script) (B : List Durable) : Type 0 where
+-- what stores keep that are sound together, with each frozen snapshot at or below the floor of its container, as runs leave it
+pub record CanOpen (B : List Durable) : Type 0 where
   pub sound : Sound B
-  pub unsnapped : lasting_snaps s B ≡ []
+  pub floored : AreFloored B
 
--- what is left of this may be opened for each script for which this might have been
-abbrev pub MayOpenAgain : List Durable → List Durable → Type 0
-MayOpenAgain B G = (s : Script) → lasting_snaps s B ≡ [] → CanOpen s G
+-- What is left of this can be opened too; and no snapshot of it lasts over the opening for a script for which none of this would have lasted.
+pub record MayOpenAgain (B G : List Durable) : Type 0 where
+  pub opens : CanOpen G
+  pub unsnapped : (s : Script) → lasting_snaps s B ≡ [] → lasting_snaps s G ≡ []
 
 -- what all targets keep that kept this, once the script's containers are added and they are opened together
 abbrev pub begun_family : Script → List Durable → List Durable
@@ -31,17 +36,35 @@ pub record IsWhole {S : Type 0} (durable : S → Option Durable) (s : Script) (B
   pub kept : AreKept durable stores (begun_family s B)
   pub few : AreFew (enlisted_family (declared_conts s) B)
 
--- what a target keeps that kept b: what a run of the script may begin with, its containers among it; it was opened as often as before
+-- What a target keeps that kept b: nothing is left to settle, and its snapshots last over the run; the script's containers are among it; and it was
+-- opened as often as before.
 pub record BeginsAs (s : Script) (B : List Durable) (t : ℕ) (d : Durable) : Type 0 where
-  pub opens : (free : ℕ → ℕ) → OpensWith (length B) t (opening_of s B free) d
+  pub lasts : IsLasting (begun_family s B) d
   pub enlisted : AreEnlisted s d
   pub incarnation : (b : Durable) → slice_get B t ≡ Some b → d.incarnation ≡ b.incarnation
 
--- Stores that kept this were opened for a run of a script: each keeps what a run may begin with whose opening is what they stood for. No floor
--- of an opening is above the tracker, which is the greatest epoch that their leases cover.
-pub record AreOpened {S : Type 0} (durable : S → Option Durable) (state : S → State) (s : Script) (B : List Durable) (stores : List S) (tracker : Epoch) : Type 0 where
-  pub tracker_is : tracker ≡ record { 0 = restart_floor (greatest_lease B) }
-  pub plain : (free : ℕ → ℕ) → IsOpeningPlain (opening_of s B free)
-  pub kept : AreKept durable stores (begun_family s B)
+-- a run without snapshots may begin with what all targets keep that kept this, and its opening is what they stood for
+abbrev pub BeginPlainly : Script → List Durable → Type 0
+BeginPlainly s B = (free : ℕ → ℕ) → OpenTogether (length B) (begun_family s B) (opening_of s B free)
+
+-- A run of the script may begin with what all targets keep that kept this. It is sound, and stands for what they stood for, but for the snapshots that
+-- the script drops; the greatest lease stays; and each target keeps what lasts. Where no snapshot lasts, a run without snapshots may begin with it.
+pub record AllBegin (s : Script) (B : List Durable) : Type 0 where
+  pub sound : Sound (begun_family s B)
+  pub stands : stand (begun_family s B) ≡ kept s (stand B)
+  pub leases : greatest_lease (begun_family s B) ≡ greatest_lease B
   pub each : (t : ℕ) (d : Durable) → slice_get (begun_family s B) t ≡ Some d → BeginsAs s B t d
+  pub plain : lasting_snaps s B ≡ [] → BeginPlainly s B
+
+-- these are the snapshots that target 0 keeps
+abbrev pub AreHeldFirst : List Durable → List Snap → Type 0
+AreHeldFirst F held = (d : Durable) → slice_get F 0 ≡ Some d → held ≡ d.snaps
+
+-- Stores that kept this were opened for a run of a script, and it may begin with what they keep. No floor of an opening is above the tracker, which is
+-- the greatest epoch that their leases cover; and these are the snapshots that target 0 holds.
+pub record AreOpened {S : Type 0} (durable : S → Option Durable) (state : S → State) (s : Script) (B : List Durable) (stores : List S) (tracker : Epoch) (held : List Snap) : Type 0 where
+  pub tracker_is : tracker ≡ record { 0 = restart_floor (greatest_lease B) }
+  pub held_is : AreHeldFirst (begun_family s B) held
+  pub kept : AreKept durable stores (begun_family s B)
+  pub begins : AllBegin s B
   pub covered : (t : ℕ) (x : S) → slice_get stores t ≡ Some x → (state x).opening.0.0 ≤ restart_floor (greatest_lease B)

@@ -10,10 +10,12 @@ ghost use Rattle.run_starts.specs.Starts.{AreOpened, CanOpen, IsWhole, MayOpenAg
 ghost use Rattle.world_plain.specs.whole.Begins.{declared_conts};
 
 use crate::enlisting::{conts_of, enlist_all};
+use crate::held::held_at_first;
 use crate::leases::tracker_of;
 use crate::stop::{StartStop, opening_stop};
 use base_types::epoch::Epoch;
 use base_types::script::Script;
+use base_types::snapshot::Snaps;
 use run_opening::opening::open_all;
 use std::alloc::Global;
 use vos_store::store::Store;
@@ -41,9 +43,11 @@ fn open_together<S: Store>(
 }
 
 /// The stores of all targets are opened for a run of a script: each gets the script's containers; then they
-/// are opened together, by which nothing is left to settle. The epoch is the greatest that a lease of theirs
-/// covers. Whatever the next openings of the stores find, also where this one is cut, is sound, and stands for
-/// the same; and they may be opened for any script after which no snapshot would have lasted before.
+/// are opened together, by which nothing is left to settle, and each target holds, frozen, the snapshots that
+/// target 0 held as created and that the script doesn't drop. The epoch is the greatest that a lease of theirs
+/// covers; and the snapshots are those that target 0 holds. Whatever the next openings of the stores find, also
+/// where this one is cut, is sound, and stands for the same; it may be opened for any script, and no snapshot
+/// lasts then where none would have lasted before.
 ///
 /// # Errors
 ///
@@ -53,18 +57,19 @@ pub fn open_stores<S: Store>(
     alloc: Global,
     script: &Script,
     stores: &mut [S],
-) -> Result<Epoch, StartStop>
+) -> Result<(Epoch, Snaps), StartStop>
     requires some { 0 < length stores.old }
     requires few { length stores.old ≤ 64 }
     requires running { AllRun S.state stores.old }
-    requires sound { (B : List Durable) → AreKept S.durable stores.old B → CanOpen script.now B }
+    requires sound { (B : List Durable) → AreKept S.durable stores.old B → CanOpen B }
     ensures calls { RunAll S.durable S.state result stores.old stores.new }
     ensures why { IfErr result (WhyNotOpened S.durable (declared_conts script.now) stores.old) }
-    ensures bounded { IfOk result (λ tracker. (lease : ℕ) × (lease < 2 ^ 56) × (tracker ≡ record { 0 = restart_floor lease })) }
-    ensures opened { (B : List Durable) → AreKept S.durable stores.old B → IfOk result (AreOpened S.durable S.state script.now B stores.new) }
+    ensures bounded { IfOk result (λ opened. (lease : ℕ) × (lease < 2 ^ 56) × (opened.0 ≡ record { 0 = restart_floor lease })) }
+    ensures opened { (B : List Durable) → AreKept S.durable stores.old B → IfOk result (λ opened. AreOpened S.durable S.state script.now B stores.new opened.0 opened.1) }
     ensures left { (B : List Durable) → AreKept S.durable stores.old B → (lasts : List Durable) → MayBeFound S.may stores.new lasts → IsLeftOf script.now B lasts }
     ensures again { (B : List Durable) → AreKept S.durable stores.old B → (lasts : List Durable) → MayBeFound S.may stores.new lasts → MayOpenAgain B lasts }
 {
     open_together(alloc, script, stores)?;
-    Ok(tracker_of(stores))
+    let held = held_at_first(stores)?;
+    Ok((tracker_of(stores), held))
 }
