@@ -1,3 +1,5 @@
 mod Cutting
 mod Heard
 mod Posting
+mod Beside
+mod Freezing

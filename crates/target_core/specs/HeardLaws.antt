@@ -22,7 +22,7 @@ use Rattle.world_base.specs.Further.{CommitDown}
 use Rattle.world_base.specs.Statuses.{down_of}
 use Rattle.world_base.specs.TargetTurns.{Hears, commit_request}
 use Rattle.world_base.specs.Turns.{Reached}
-use Rattle.target_core.specs.Targets.{Further, HasForm, Heard, Plainly}
+use Rattle.target_core.specs.Targets.{Further, HasForm, Heard, Plainly, is_held, is_of_client}
 
 -- ---- where nothing stopped
 
@@ -89,3 +89,25 @@ module _ (number : ℕ) (p : TargetPlan) (opening : Epoch × FloorWhy) (m : Targ
   plainly-heard (message.Query x ask) form up (Further w) = absurd w
   plainly-heard (message.Verdict x ask inc v) form up (Further w) = absurd w
   plainly-heard q form up (Further w) = absurd form
+
+-- what tells that something is held comes of no client
+pub held-of_target : (m : Message) → is_held m ≡ true → is_of_client m ≡ false
+held-of_target (message.Held x refusal) held = refl
+held-of_target (message.Fetch x op group ep first tracker r snapshot) held = let no : ⊥ = cc in absurd no
+held-of_target (message.Fetched x op group ep reply) held = let no : ⊥ = cc in absurd no
+held-of_target (message.Commit x ep first tracker ws) held = let no : ⊥ = cc in absurd no
+held-of_target (message.Ask x) held = let no : ⊥ = cc in absurd no
+held-of_target (message.Snap x c name tracker) held = let no : ⊥ = cc in absurd no
+held-of_target (message.Prune x c tracker e) held = let no : ⊥ = cc in absurd no
+held-of_target (message.Ended x ep how) held = let no : ⊥ = cc in absurd no
+held-of_target (message.Tell tracker) held = let no : ⊥ = cc in absurd no
+held-of_target (message.Prepare e first ws inc) held = let no : ⊥ = cc in absurd no
+held-of_target (message.Ack x inc refusal) held = let no : ⊥ = cc in absurd no
+held-of_target (message.Mark inc marks) held = let no : ⊥ = cc in absurd no
+held-of_target (message.Marked inc ids) held = let no : ⊥ = cc in absurd no
+held-of_target (message.Query x ask) held = let no : ⊥ = cc in absurd no
+held-of_target (message.Verdict x ask inc v) held = let no : ⊥ = cc in absurd no
+held-of_target (message.Status x inc) held = let no : ⊥ = cc in absurd no
+held-of_target (message.StatusIs x inc how) held = let no : ⊥ = cc in absurd no
+held-of_target (message.Freeze x c s) held = let no : ⊥ = cc in absurd no
+held-of_target (message.Reset' by down place asked) held = let no : ⊥ = cc in absurd no

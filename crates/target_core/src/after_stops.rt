@@ -4,6 +4,7 @@ ghost use Rattle.world_ended.specs.Asking.{Asked, EndsAsked, GoesWith};
 ghost use Rattle.world_letters.specs.kinds.Loads.{AnswersOnce};
 ghost use Rattle.daos_model.specs.declared.durable.Durable.{Durable};
 ghost use Rattle.world_contents.specs.posts.Forms.{PostsInForm};
+ghost use Rattle.snap_core.specs.Snaps.{SnapOf, remembered};
 ghost use Rattle.target_parts.specs.Knowing.{memory_of};
 ghost use Rattle.target_parts.specs.Standing.{IsTarget, TurnRuns};
 ghost use Rattle.target_core.specs.Targets.{HasFormAfterStops, HearsOrStops, is_after_stops, is_of_client};
@@ -45,9 +46,9 @@ pub(crate) fn hear_after_stops<S: Store>(
     requires target { IsTarget plan (S.state store.old) (S.durable store.old) knows.old }
     requires running { (S.state store.old).stopped ≡ false }
     requires form { HasFormAfterStops message }
-    ensures turn { (d : Durable) → S.durable store.old ≡ Some d → (reading : ℕ)
-        → HearsOrStops plan (memory_of knows.old) reading from message d (S.state store.old)
-        (S.durable store.new) (S.state store.new) (S.may store.new) (memory_of knows.new) result }
+    ensures turn { (n : ℕ) (snaps : SnapOf) (d : Durable) → S.durable store.old ≡ Some d → (reading : ℕ)
+        → HearsOrStops n plan (remembered (memory_of knows.old) snaps) reading from message d (S.state store.old)
+        (S.durable store.new) (S.state store.new) (S.may store.new) (remembered (memory_of knows.new) snaps) result }
     ensures posts { is_of_client message ≡ from.client → IfOk result (λ did. PostsInForm plan.targets knows.old.leader knows.new.leader did.posts) }
     ensures reads { IfOk result (λ did. AnswersOnce [] knows.old.member.memory knows.new.member.memory did.posts) }
     ensures ends { (asked : Asked) → GoesWith asked message → IfOk result (λ did. EndsAsked asked knows.old.leader knows.new.leader did.posts) }

@@ -6,6 +6,7 @@ ghost use Rattle.std.specs.Option.{ForSome};
 ghost use Rattle.base_messages.specs.declared.message.Message.TheVariants as message;
 ghost use Rattle.daos_model.specs.declared.durable.Durable.{Durable};
 ghost use Rattle.world_contents.specs.posts.Forms.{AreWrites, PostsInForm};
+ghost use Rattle.snap_core.specs.Snaps.{SnapOf, remembered};
 ghost use Rattle.target_parts.specs.Knowing.{memory_of};
 ghost use Rattle.target_parts.specs.Readings.{IsReadUpTo, most_readings};
 ghost use Rattle.target_parts.specs.Standing.{IsTarget, TurnRuns};
@@ -40,9 +41,9 @@ pub(crate) fn hear_any_commit<S: Store, C: Clock>(
     requires running { (S.state store.old).stopped ≡ false }
     requires writes { AreWrites plan request.now.writes }
     requires here { ForSome (S.durable store.old) (CanCommit plan request.now.attempt request.now.ep request.now.writes) }
-    ensures turn { (reading : ℕ) × IfSome (C.next clock.old) (λ r. r ≡ reading) × ((d : Durable) → S.durable store.old ≡ Some d
-        → HearsOrStops plan (memory_of knows.old) reading from (message.Commit request.now.attempt request.now.ep request.now.first request.now.tracker request.now.writes) d (S.state store.old)
-        (S.durable store.new) (S.state store.new) (S.may store.new) (memory_of knows.new) result) }
+    ensures turn { (reading : ℕ) × IfSome (C.next clock.old) (λ r. r ≡ reading) × ((n : ℕ) (snaps : SnapOf) (d : Durable) → S.durable store.old ≡ Some d
+        → HearsOrStops n plan (remembered (memory_of knows.old) snaps) reading from (message.Commit request.now.attempt request.now.ep request.now.first request.now.tracker request.now.writes) d (S.state store.old)
+        (S.durable store.new) (S.state store.new) (S.may store.new) (remembered (memory_of knows.new) snaps) result) }
     ensures posts { from.client ≡ true → IfOk result (λ did. PostsInForm plan.targets knows.old.leader knows.new.leader did.posts) }
     ensures reads { IfOk result (λ did. AnswersOnce [] knows.old.member.memory knows.new.member.memory did.posts) }
     ensures ends { (asked : Asked) → asked request.now.attempt ≡ true → IfOk result (λ did. EndsAsked asked knows.old.leader knows.new.leader did.posts) }

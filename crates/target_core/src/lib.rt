@@ -4,4 +4,5 @@
 mod after_stops;
 mod commits;
 mod hearing;
+mod making;
 pub mod target;

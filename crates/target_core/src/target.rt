@@ -1,6 +1,7 @@
 // A target of a run.
-ghost use Rattle.std.specs.Prelude.{◌≡◌, ◌≤◌, ◌<◌, ◌+◌, ◌^◌, ℕ, [], IfOk, IfErr, IfSome, IsSome, Some, is_ok, true, false, ◌∷◌};
-ghost use Rattle.world_ended.specs.Asking.{Asked, EndsAsked, GoesWith, LeavesWith};
+ghost use Rattle.std.specs.Prelude.{◌≡◌, ◌≤◌, ◌<◌, ◌+◌, ◌^◌, ℕ, [], IfOk, IfErr, IfSome, IsSome, Some, is_ok, is_some, true, false, ◌∷◌};
+ghost use Rattle.world_ended.specs.Asking.{Asked, GoesWith, TurnLeavesWith, TurnsEndAsked};
+ghost use Rattle.world_base.specs.Stops.{is_prune_message};
 ghost use Rattle.world_letters.specs.kinds.PostLaws.{CarryNone};
 ghost use Rattle.world_letters.specs.kinds.Loads.{AnswersOnce};
 ghost use Rattle.std.specs.Option.{ForSome};
@@ -10,13 +11,14 @@ ghost use Rattle.dtx_base.specs.Joining.{first_member};
 ghost use Rattle.vos_store.specs.Calls.{SetsFuse};
 ghost use Rattle.vos_store.specs.Refusals.{says};
 ghost use Rattle.world_base.specs.Idle.{has_idle};
-ghost use Rattle.world_contents.specs.posts.Forms.{Follows, PostsInForm};
+ghost use Rattle.world_contents.specs.posts.Forms.{TurnFollows, TurnsPostInForm};
 ghost use Rattle.target_parts.specs.Knowing.{IsHeard};
 ghost use Rattle.target_parts.specs.Parts.{Runs};
 ghost use Rattle.target_parts.specs.Readings.{IsReadUpTo, most_readings};
 ghost use Rattle.target_parts.specs.Stops.{IsSilent, stop_foreign, stop_store};
+ghost use Rattle.target_snaps.specs.Following.{TellsNoAttempt};
 ghost use Rattle.target_resync.specs.Openings.{IsBare, Left, Reopens, TellsRestart};
-ghost use Rattle.target_core.specs.Targets.{CanHear, HearsOrStops, IdlesOrStops, IsInForm, OpensAs, has_epoch, is_of_client};
+ghost use Rattle.target_core.specs.Targets.{CanHear, HearsOrStops, IdlesOrStops, IsInForm, OpensAs, has_epoch, is_held, is_of_client};
 
 use crate::hearing::hear_message;
 use base_messages::actor::ActorId;
@@ -24,6 +26,7 @@ use base_messages::message::Message;
 use base_outside::clock::Clock;
 use base_types::epoch::TargetId;
 use base_types::items::Items;
+use snap_core::snaps::SnapCore;
 use std::alloc::Global;
 use std::marker::Model;
 use target_dtx::idle::{has_idle_work, idle_work};
@@ -37,7 +40,8 @@ use world_base::target::TargetPlan;
 
 /// A target: its store, its clock, and what it knows until it stops. Unless its store is stopped, the
 /// attempts that it has to decide or to settle are prepared there, no version there is later than its
-/// ticks, and the lease covers them. Where its last opening failed, it hears nothing until it has opened.
+/// ticks, the lease covers them, and each snapshot that it is making is frozen there. Where its last
+/// opening failed, it hears nothing until it has opened.
 #[derive(Drop)]
 pub struct Target<S: Store, C: Clock> {
     alloc: Global,
@@ -45,12 +49,14 @@ pub struct Target<S: Store, C: Clock> {
     store: S,
     clock: C,
     knows: Knows,
+    snaps: SnapCore,
     opened: bool,
 }
 
 impl<S: Store, C: Clock> Model for Target<S, C> {
     ghost use Rattle.base_messages.specs.contracts.message.Message as message;
     ghost use Rattle.std.specs.Coded.{codes};
+    ghost use Rattle.snap_core.specs.Snaps.{remembered};
     ghost use Rattle.target_core.specs.Targets.{StandsAs, TargetOf};
     ghost use Rattle.target_parts.specs.Knowing.{memory_of};
 
@@ -58,9 +64,9 @@ impl<S: Store, C: Clock> Model for Target<S, C> {
 
     ghost coded = { Prim.hlevel (codes, message.the_row.coded) };
 
-    ghost view = { λ t. record { plan = t.plan; store = t.store; clock = t.clock; memory = memory_of t.knows; opened = t.opened } };
+    ghost view = { λ t. record { plan = t.plan; store = t.store; clock = t.clock; memory = remembered (memory_of t.knows) t.snaps; opened = t.opened } };
 
-    ghost invariant = { λ t. StandsAs t.plan (S.state t.store) (S.durable t.store) t.knows t.opened };
+    ghost invariant = { λ t. StandsAs t.plan (S.state t.store) (S.durable t.store) t.knows t.snaps t.opened };
 }
 
 /// No target was made, for want of memory. Its parts are handed back.
@@ -68,6 +74,16 @@ impl<S: Store, C: Clock> Model for Target<S, C> {
 pub struct TargetNew<S, C> {
     pub store: S,
     pub clock: C,
+}
+
+// The number that was drawn, if one was.
+fn drawn(number: Option<u32>) -> u32
+    ensures { (n : ℕ) → number ≡ Some n → result ≡ n }
+{
+    match number {
+        Some(number) => number,
+        None => 0,
+    }
 }
 
 impl<S: Store, C: Clock> Target<S, C> {
@@ -108,6 +124,9 @@ impl<S: Store, C: Clock> Target<S, C> {
             targets,
             epsilon,
         };
+        let Ok(snaps) = SnapCore::new(alloc, me, targets) else {
+            return Err(TargetNew { store, clock });
+        };
         match first_knows(alloc, plan, store.lease(), Items::new(alloc)) {
             Ok(knows) => Ok(Target {
                 alloc,
@@ -115,6 +134,7 @@ impl<S: Store, C: Clock> Target<S, C> {
                 store,
                 clock,
                 knows,
+                snaps,
                 opened: true,
             }),
             Err(_memory) => Err(TargetNew { store, clock }),
@@ -122,8 +142,7 @@ impl<S: Store, C: Clock> Target<S, C> {
     }
 
     /// It hears a message, and tells what follows. Its clock is read once at most, and only where an
-    /// epoch is issued. The number is one drawn for this turn, which none of the messages so far uses.
-    /// What asks for a snapshot or an aggregation isn't heard yet.
+    /// epoch is issued. The number is one drawn for this turn, for an aggregation; a Prune uses it.
     ///
     /// # Errors
     ///
@@ -136,32 +155,37 @@ impl<S: Store, C: Clock> Target<S, C> {
     ) -> Result<Did, TargetStop>
         requires opened { self.old.opened ≡ true }
         requires running { (S.state self.old.store).stopped ≡ false }
+        requires drawn { is_prune_message message ≡ true → is_some number ≡ true }
+        requires sender { is_held message ≡ true → from.number < 64 }
         requires form { IsInForm self.old.plan message }
         requires here { ForSome (S.durable self.old.store) (CanHear self.old.plan message) }
         ensures plan { self.new.plan ≡ self.old.plan }
         ensures opened { self.new.opened ≡ true }
         ensures runs { Runs stop_store result (S.state self.old.store) (S.state self.new.store) (S.durable self.old.store) (S.durable self.new.store) }
-        ensures turn { (reading : ℕ) × IfSome (C.next self.old.clock) (λ r. r ≡ reading) × ((d : Durable) → S.durable self.old.store ≡ Some d
-            → HearsOrStops self.old.plan self.old.memory reading from message d (S.state self.old.store)
+        ensures turn { (reading : ℕ) × IfSome (C.next self.old.clock) (λ r. r ≡ reading) × ((n : ℕ) → (is_prune_message message ≡ true → number ≡ Some n) → (d : Durable) → S.durable self.old.store ≡ Some d
+            → HearsOrStops n self.old.plan self.old.memory reading from message d (S.state self.old.store)
             (S.durable self.new.store) (S.state self.new.store) (S.may self.new.store) self.new.memory result) }
         ensures native { says stop_foreign result ≡ false }
-        ensures silent { IsSilent result }
+        ensures told { TellsNoAttempt result }
         ensures clock { IsReadUpTo C.is_read (most_readings (has_epoch message)) self.old.clock self.new.clock }
         ensures unread { has_epoch message ≡ true → self.new.clock ≡ self.old.clock }
-        ensures posts { is_of_client message ≡ from.client → IfOk result (λ did. PostsInForm self.old.plan.targets self.old.memory.leader self.new.memory.leader did.posts) }
+        ensures posts { is_of_client message ≡ from.client → IfOk result (λ did. TurnsPostInForm self.old.plan.targets self.old.memory self.new.memory did.posts) }
         ensures reads { IfOk result (λ did. AnswersOnce (message ∷ []) self.old.memory.member self.new.memory.member did.posts) }
-        ensures ends { (asked : Asked) → GoesWith asked message → IfOk result (λ did. EndsAsked asked self.old.memory.leader self.new.memory.leader did.posts) }
+        ensures ends { (asked : Asked) → GoesWith asked message → IfOk result (λ did. TurnsEndAsked asked self.old.memory self.new.memory did.posts) }
     {
-        let _number = number;
+        let number = drawn(number);
         let Target {
             alloc,
             plan,
             store,
             clock,
             knows,
+            snaps,
             ..
         } = self;
-        hear_message(*alloc, *plan, store, clock, knows, from, message)
+        hear_message(
+            *alloc, *plan, store, clock, knows, snaps, from, message, number,
+        )
     }
 
     /// It does its idle work: it settles the attempts that it decided, tells the other members of what is
@@ -181,10 +205,11 @@ impl<S: Store, C: Clock> Target<S, C> {
             → IdlesOrStops settling self.old.plan self.old.memory d (S.state self.old.store)
             (S.durable self.new.store) (S.state self.new.store) (S.may self.new.store) self.new.memory result }
         ensures native { says stop_foreign result ≡ false }
+        ensures told { TellsNoAttempt result }
         ensures silent { IsSilent result }
-        ensures posts { IfOk result (λ did. PostsInForm self.old.plan.targets self.old.memory.leader self.new.memory.leader did.posts) }
+        ensures posts { IfOk result (λ did. TurnsPostInForm self.old.plan.targets self.old.memory self.new.memory did.posts) }
         ensures reads { IfOk result (λ did. AnswersOnce [] self.old.memory.member self.new.memory.member did.posts) }
-        ensures ends { (asked : Asked) → IfOk result (λ did. EndsAsked asked self.old.memory.leader self.new.memory.leader did.posts) }
+        ensures ends { (asked : Asked) → IfOk result (λ did. TurnsEndAsked asked self.old.memory self.new.memory did.posts) }
     {
         idle_work(
             self.alloc,
@@ -225,16 +250,21 @@ impl<S: Store, C: Clock> Target<S, C> {
         ensures left { Left (S.may self.old.store) (S.may self.new.store) }
         ensures bare { IfErr result IsBare }
         ensures native { IsSome (S.durable self.old.store) → says stop_foreign result ≡ false }
-        ensures posts { IfOk result (λ did. Follows self.old.plan.targets self.new.memory.leader did.posts) }
+        ensures posts { IfOk result (λ did. TurnFollows self.old.plan.targets self.new.memory did.posts) }
         ensures reads { IfOk result (λ did. CarryNone did.posts) }
-        ensures ends { (asked : Asked) → IfOk result (λ did. LeavesWith asked self.new.memory.leader did.posts) }
+        ensures ends { (asked : Asked) → IfOk result (λ did. TurnLeavesWith asked self.new.memory did.posts) }
         ensures fresh { is_ok result ≡ true → self.new.memory.member.parked ≡ [] }
         ensures line { IfOk result (TellsRestart number self.old.plan.me) }
         ensures opened { self.new.opened ≡ is_ok result }
     {
+        let Ok(snaps) = SnapCore::new(self.alloc, self.plan.me, self.plan.targets) else {
+            self.opened = false;
+            return Err(TargetStop::Memory);
+        };
         match restart(self.alloc, self.plan, &mut self.store, number) {
             Ok(Opened { knows, did }) => {
                 self.knows = knows;
+                self.snaps = snaps;
                 self.opened = true;
                 Ok(did)
             }
@@ -270,6 +300,7 @@ impl<S: Store, C: Clock> Target<S, C> {
             store,
             clock,
             knows: _knows,
+            snaps: _snaps,
             opened: _opened,
         } = self;
         (store, clock)

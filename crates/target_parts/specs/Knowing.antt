@@ -18,7 +18,7 @@ use Rattle.world_base.specs.declared.target.TargetPlan.{TargetPlan}
 pub use Rattle.world_contents.specs.posts.Forms.{IsReadAsked}
 use Rattle.target_parts.specs.declared.knows.Knows.{Knows}
 
--- what a target remembers; so far it makes no snapshot and no aggregation
+-- what a target remembers, beside the snapshots and aggregations that it makes with others
 abbrev pub memory_of : Knows → TargetMemory
 memory_of k = record { ticks = k.hlc.ticks; stamps = k.stamps.reads; leader = k.leader; member = k.member.memory; collecting = [] }
 

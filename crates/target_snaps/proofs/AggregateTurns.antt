@@ -101,10 +101,10 @@ module _ (p : TargetPlan) (m : TargetMemory) (reading : ℕ) (q : ContRequest) (
 -- ---- what is begun
 
 module _ (p : TargetPlan) (s t : SnapOf) (own : IsSnapsOf p s) (q : ContRequest) (g : Epoch) (asks : Message) (tracker : Epoch) (posts : List Post) (is : asks ≡ message.Prune q.attempt q.cont (Some tracker) None) (heard : step_of t posts ≡ begun q.from asks g s) where
-  abbrev begun_so : Bool → SnapStep
+  abbrev pub begun_so : Bool → SnapStep
   begun_so b = if b then step_of s (told q.from q.attempt g Committed) else begun_with (new_collection q.attempt q.from q.cont g None) (prune_to q.attempt q.cont g) s
 
-  begun-prune : step_of t posts ≡ begun_so (is_held_by_all p 0)
+  pub begun-prune : step_of t posts ≡ begun_so (is_held_by_all p 0)
   unfolding begun
   begun-prune = heard ∙ ap (λ x. begun q.from x g s) is ∙ ap begun_so (alone-same p s own)
 

@@ -14,3 +14,6 @@ pub mod Decided
 pub mod PruneParts
 pub mod PruneTurns
 pub mod AggregateTurns
+pub mod Following
+pub mod HeldFollowing
+pub mod Begun

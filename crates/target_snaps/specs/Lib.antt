@@ -9,3 +9,4 @@ pub mod Limits
 pub mod Settling
 pub mod PruneTurns
 pub mod AggregateTurns
+pub mod Following

@@ -6,6 +6,7 @@ use Rattle.base_types.specs.declared.id.ContId.{ContId}
 use Rattle.base_types.specs.declared.report.Line.{Line}
 use Rattle.base_types.specs.declared.report.Line.TheVariants as line
 use Rattle.daos_model.specs.declared.durable.Durable.{Durable}
+use Rattle.daos_model.specs.Attempts.{tries}
 use Rattle.vos_store.specs.Calls.{State}
 use Rattle.world_base.specs.declared.did.Did.{Did as DidOf}
 use Rattle.world_base.specs.declared.target.TargetMemory.{TargetMemory}
@@ -42,6 +43,13 @@ PrunesOrCut p c g n issued d h new k finds (Ok lines) = PrunesSo p c g n d h new
 PrunesOrCut p c g n issued d h new k finds (Err (stop.Store shown lines)) = (shown ≡ issued) × PruneCut p c g n d h k finds lines
 PrunesOrCut p c g n issued d h new k finds (Err (stop.Foreign at byte)) = ⊥
 PrunesOrCut p c g n issued d h new k finds (Err stop.Memory) = Stays d h new k
+
+-- no line of it tells of an attempt
+abbrev pub LinesNoAttempt : Result (List Line) TargetStop → Type 0
+LinesNoAttempt (Ok lines) = tries lines ≡ []
+LinesNoAttempt (Err (stop.Store issued lines)) = tries lines ≡ []
+LinesNoAttempt (Err (stop.Foreign at byte)) = Unit {0}
+LinesNoAttempt (Err stop.Memory) = Unit {0}
 
 -- a turn in which target 0's Prune is heard
 abbrev pub PruneTurn : TargetPlan → TargetMemory → ℕ → ContRequest → Epoch → ℕ → Durable → State → Option Durable → State → (Durable → Type 0) → TargetMemory → Result DidOf TargetStop → Type 0

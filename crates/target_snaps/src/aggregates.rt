@@ -1,5 +1,5 @@
 // Target 0 hears that a client wants a container aggregated.
-ghost use Rattle.std.specs.Prelude.{◌≡◌, ◌≤◌, ◌/◌, ℕ, [], IfSome, Some, None, true, false};
+ghost use Rattle.std.specs.Prelude.{◌≡◌, ◌≤◌, ◌/◌, ℕ, [], IfOk, IfSome, OnOk, OnErr, Some, None, true, false};
 ghost use Rattle.std.specs.Option.{ForSome};
 ghost use Rattle.base_messages.specs.declared.message.Message.TheVariants as asked;
 ghost use Rattle.daos_model.specs.declared.durable.Durable.{Durable};
@@ -16,7 +16,10 @@ ghost use Rattle.target_parts.specs.Readings.{IsReadUpTo, most_readings};
 ghost use Rattle.target_parts.specs.Standing.{IsTarget};
 ghost use Rattle.target_parts.specs.Stops.{stop_foreign, stop_store};
 ghost use Rattle.target_snaps.specs.AggregateTurns.{AggregateComes, AggregateTurn};
+ghost use Rattle.target_snaps.specs.Following.{IsWithin, MakesAsked, MakesInForm, RequestFollows, TellsNoAttempt};
 ghost use Rattle.target_snaps.specs.HeldTurns.{IsSnapsOf};
+ghost use Rattle.world_ended.specs.Asking.{Asked};
+ghost use Rattle.world_letters.specs.kinds.Loads.{AnswersOnce};
 
 use crate::prunes::prune_at;
 use crate::request::ContRequest;
@@ -65,6 +68,11 @@ fn aggregate_at<S: Store>(
     ensures target { IsTarget plan (S.state store.new) (S.durable store.new) knows.new }
     ensures stopped { Runs stop_store result (S.state store.old) (S.state store.new) (S.durable store.old) (S.durable store.new) }
     ensures native { says stop_foreign result ≡ false }
+    ensures waiting { OnOk result (knows.new.leader.undecided ≡ knows.old.leader.undecided) }
+    ensures member { OnOk result (knows.new.member ≡ knows.old.member) }
+    ensures follows { IfOk result (λ did. RequestFollows plan.targets request snaps.old.collecting snaps.new.collecting did.posts) }
+    ensures told { TellsNoAttempt result }
+    ensures stays { OnErr result (snaps.new ≡ snaps.old) }
 {
     let issued = Some((request.attempt, epoch));
     if let Err(Stopped) = settle_decisions(store, plan, knows) {
@@ -119,6 +127,12 @@ pub fn hear_aggregate<S: Store, C: Clock>(
     ensures target { IsTarget plan (S.state store.new) (S.durable store.new) knows.new }
     ensures stopped { Runs stop_store result (S.state store.old) (S.state store.new) (S.durable store.old) (S.durable store.new) }
     ensures native { says stop_foreign result ≡ false }
+    ensures waiting { OnOk result (knows.new.leader.undecided ≡ knows.old.leader.undecided) }
+    ensures reads { IfOk result (λ did. AnswersOnce [] knows.old.member.memory knows.new.member.memory did.posts) }
+    ensures posts { request.from.client ≡ true → IfOk result (λ did. MakesInForm plan.targets snaps.old.collecting snaps.new.collecting did.posts) }
+    ensures ends { (given : Asked) → given request.attempt ≡ true → IfOk result (λ did. MakesAsked given snaps.old.collecting snaps.new.collecting did.posts) }
+    ensures told { TellsNoAttempt result }
+    ensures within { OnErr result (IsWithin snaps.new.collecting snaps.old.collecting) }
     ensures clock { IsReadUpTo C.is_read (most_readings false) clock.old clock.new }
 {
     match ready(plan, store, clock, knows, tracker, None) {

@@ -1,5 +1,5 @@
 // A target hears target 0's Freeze.
-ghost use Rattle.std.specs.Prelude.{◌≡◌, ◌/◌, ℕ, IfOk, IfErr, Some, None, true, false};
+ghost use Rattle.std.specs.Prelude.{◌≡◌, ◌/◌, ℕ, [], IfOk, IfErr, Some, None, true, false};
 ghost use Rattle.std.specs.Option.{ForSome};
 ghost use Rattle.base_messages.specs.declared.message.Message.TheVariants as message;
 ghost use Rattle.daos_model.specs.declared.durable.Durable.{Durable};
@@ -11,7 +11,11 @@ ghost use Rattle.target_parts.specs.Knowing.{memory_of};
 ghost use Rattle.target_parts.specs.Parts.{Runs};
 ghost use Rattle.target_parts.specs.Standing.{IsTarget};
 ghost use Rattle.target_parts.specs.Stops.{stop_foreign, stop_memory, stop_store};
+ghost use Rattle.target_snaps.specs.Following.{TellsNoAttempt};
 ghost use Rattle.target_snaps.specs.FreezeTurns.{FreezeTurn, freeze_lines, refusal_by};
+ghost use Rattle.world_contents.specs.posts.Forms.{TargetPosts};
+ghost use Rattle.world_ended.specs.Asking.{Asked, PostsGoWith};
+ghost use Rattle.world_letters.specs.kinds.Loads.{AnswersOnce};
 
 use crate::freezing::{Froze, freeze_at};
 use crate::request::ContRequest;
@@ -71,6 +75,10 @@ pub fn hear_freeze<S: Store>(
     ensures target { IsTarget plan (S.state store.new) (S.durable store.new) knows.new }
     ensures stopped { Runs stop_store result (S.state store.old) (S.state store.new) (S.durable store.old) (S.durable store.new) }
     ensures native { says stop_foreign result ≡ false }
+    ensures reads { IfOk result (λ did. AnswersOnce [] knows.old.member.memory knows.new.member.memory did.posts) }
+    ensures posts { request.from.client ≡ false → IfOk result (λ did. TargetPosts plan.targets did.posts) }
+    ensures ends { (given : Asked) → IfOk result (λ did. PostsGoWith given did.posts) }
+    ensures told { TellsNoAttempt result }
 {
     if let Err(Stopped) = hear(plan, store, knows, epoch) {
         return Err(stop_of(alloc, Halt::Stopped, None));

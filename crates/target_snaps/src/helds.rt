@@ -16,7 +16,10 @@ ghost use Rattle.target_parts.specs.Knowing.{memory_of};
 ghost use Rattle.target_parts.specs.Parts.{Runs};
 ghost use Rattle.target_parts.specs.Standing.{IsTarget};
 ghost use Rattle.target_parts.specs.Stops.{stop_foreign, stop_memory, stop_store};
+ghost use Rattle.target_snaps.specs.Following.{IsWithin, MakesAsked, MakesInForm, TellsNoAttempt};
 ghost use Rattle.target_snaps.specs.HeldTurns.{AreFrozenHere, HeldTurn, IsSnapsOf, new_snapshot_of};
+ghost use Rattle.world_ended.specs.Asking.{Asked, GoesWith};
+ghost use Rattle.world_letters.specs.kinds.PostLaws.{CarryNone};
 
 use base_messages::message::Message;
 use base_types::epoch::{Epoch, TargetId};
@@ -137,6 +140,11 @@ pub fn hear_held<S: Store>(
     ensures target { IsTarget plan (S.state store.new) (S.durable store.new) knows.now }
     ensures stopped { Runs stop_store result (S.state store.old) (S.state store.new) (S.durable store.old) (S.durable store.new) }
     ensures native { says stop_foreign result ≡ false }
+    ensures reads { IfOk result (λ did. CarryNone did.posts) }
+    ensures posts { IfOk result (λ did. MakesInForm plan.targets snaps.old.collecting snaps.new.collecting did.posts) }
+    ensures ends { (given : Asked) → GoesWith given message.now → IfOk result (λ did. MakesAsked given snaps.old.collecting snaps.new.collecting did.posts) }
+    ensures told { TellsNoAttempt result }
+    ensures within { OnErr result (IsWithin snaps.new.collecting snaps.old.collecting) }
 {
     let _plan = plan;
     let _knows = knows;

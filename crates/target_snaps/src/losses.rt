@@ -1,12 +1,15 @@
 // Target 0 hears that what it asked of another target got no answer.
-ghost use Rattle.std.specs.Prelude.{◌≡◌, ◌<◌, Some, true, false};
+ghost use Rattle.std.specs.Prelude.{◌≡◌, ◌<◌, [], IfOk, OnOk, OnErr, Some, true, false};
 ghost use Rattle.daos_model.specs.declared.durable.Durable.{Durable};
 ghost use Rattle.snap_core.specs.Snaps.{remembered};
 ghost use Rattle.vos_store.specs.Refusals.{says};
-ghost use Rattle.world_contents.specs.posts.Forms.{is_collecting};
+ghost use Rattle.world_contents.specs.posts.Forms.{IsCollecting, is_collecting};
+ghost use Rattle.world_ended.specs.Asking.{Asked, AsksSo};
+ghost use Rattle.world_letters.specs.kinds.Loads.{AnswersOnce};
 ghost use Rattle.target_parts.specs.Knowing.{memory_of};
 ghost use Rattle.target_parts.specs.Standing.{IsTarget};
 ghost use Rattle.target_parts.specs.Stops.{stop_foreign, stop_store};
+ghost use Rattle.target_snaps.specs.Following.{IsWithin, MakesAsked, MakesInForm, TellsNoAttempt};
 ghost use Rattle.target_snaps.specs.HeldTurns.{IsSnapsOf};
 ghost use Rattle.target_snaps.specs.LossTurns.{LossTurn};
 
@@ -49,6 +52,12 @@ pub fn hear_collection_reset<S: Store>(
         (S.durable store.now) (S.state store.now) (S.may store.now) (remembered (memory_of knows.new) snaps.new) result }
     ensures whole { says stop_store result ≡ false }
     ensures native { says stop_foreign result ≡ false }
+    ensures waiting { OnOk result (knows.new.leader.undecided ≡ knows.old.leader.undecided) }
+    ensures reads { IfOk result (λ did. AnswersOnce [] knows.old.member.memory knows.new.member.memory did.posts) }
+    ensures posts { IsCollecting message.now → IfOk result (λ did. MakesInForm plan.targets snaps.old.collecting snaps.new.collecting did.posts) }
+    ensures ends { (given : Asked) → AsksSo given message.now → IfOk result (λ did. MakesAsked given snaps.old.collecting snaps.new.collecting did.posts) }
+    ensures told { TellsNoAttempt result }
+    ensures within { OnErr result (IsWithin snaps.new.collecting snaps.old.collecting) }
     ensures own { IsSnapsOf plan snaps.new }
     ensures target { IsTarget plan (S.state store.now) (S.durable store.now) knows.new }
 {

@@ -1,5 +1,5 @@
 // A target hears that a container is to be aggregated.
-ghost use Rattle.std.specs.Prelude.{◌≡◌, ◌≤◌, ◌/◌, ℕ, [], ◌∷◌, IfOk, IfErr, Option, Some, None, true, false};
+ghost use Rattle.std.specs.Prelude.{◌≡◌, ◌≤◌, ◌/◌, ℕ, List, [], ◌∷◌, IfOk, IfErr, OnOk, Option, Some, None, true, false};
 ghost use Rattle.std.specs.Option.{ForSome};
 ghost use Rattle.base_messages.specs.declared.message.Message.TheVariants as asked;
 ghost use Rattle.base_types.specs.declared.report.Line.TheVariants as line;
@@ -12,7 +12,11 @@ ghost use Rattle.target_parts.specs.Knowing.{memory_of};
 ghost use Rattle.target_parts.specs.Parts.{Runs, kept};
 ghost use Rattle.target_parts.specs.Standing.{IsTarget};
 ghost use Rattle.target_parts.specs.Stops.{stop_foreign, stop_memory, stop_store};
-ghost use Rattle.target_snaps.specs.PruneTurns.{PruneTurn, PrunesOrCut};
+ghost use Rattle.target_snaps.specs.Following.{TellsNoAttempt};
+ghost use Rattle.target_snaps.specs.PruneTurns.{LinesNoAttempt, PruneTurn, PrunesOrCut};
+ghost use Rattle.world_contents.specs.posts.Forms.{TargetPosts};
+ghost use Rattle.world_ended.specs.Asking.{Asked, PostsGoWith};
+ghost use Rattle.world_letters.specs.kinds.Loads.{AnswersOnce};
 
 use crate::limits::{limit_of, prune_to};
 use crate::request::ContRequest;
@@ -73,6 +77,7 @@ pub(crate) fn prune_at<S: Store>(
     ensures target { IsTarget plan (S.state store.new) (S.durable store.new) knows.now }
     ensures stopped { Runs stop_store result (S.state store.old) (S.state store.new) (S.durable store.old) (S.durable store.new) }
     ensures native { says stop_foreign result ≡ false }
+    ensures told { LinesNoAttempt result }
 {
     let _knows = knows;
     let limit = limit_of(store, cont, epoch);
@@ -111,6 +116,11 @@ pub fn hear_prune<S: Store>(
     ensures target { IsTarget plan (S.state store.new) (S.durable store.new) knows.new }
     ensures stopped { Runs stop_store result (S.state store.old) (S.state store.new) (S.durable store.old) (S.durable store.new) }
     ensures native { says stop_foreign result ≡ false }
+    ensures waiting { OnOk result (knows.new.leader.undecided ≡ knows.old.leader.undecided) }
+    ensures reads { IfOk result (λ did. AnswersOnce [] knows.old.member.memory knows.new.member.memory did.posts) }
+    ensures posts { request.from.client ≡ false → IfOk result (λ did. TargetPosts plan.targets did.posts) }
+    ensures ends { (given : Asked) → IfOk result (λ did. PostsGoWith given did.posts) }
+    ensures told { TellsNoAttempt result }
 {
     if let Err(Stopped) = hear(plan, store, knows, epoch) {
         return Err(stop_of(alloc, Halt::Stopped, None));

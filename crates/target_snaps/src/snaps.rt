@@ -1,22 +1,27 @@
 // Target 0 hears a client's Snap.
-ghost use Rattle.std.specs.Prelude.{◌≡◌, ℕ, [], IfOk, IfErr, IfSome, OnOk, Option, Some, None, true, false};
+ghost use Rattle.std.specs.Prelude.{◌≡◌, ℕ, List, [], IfOk, IfErr, IfSome, OnOk, OnErr, Option, Some, None, true, false};
 ghost use Rattle.std.specs.Option.{ForSome};
 ghost use Rattle.base_messages.specs.declared.message.Message.TheVariants as asked;
 ghost use Rattle.daos_model.specs.declared.durable.Durable.{Durable};
+ghost use Rattle.daos_model.specs.Attempts.{tries};
 ghost use Rattle.daos_model.specs.Durables.{is_enlisted, is_frozen};
 ghost use Rattle.snap_core.specs.Snaps.{remembered};
 ghost use Rattle.vos_store.specs.Conditions.{CanFreeze};
 ghost use Rattle.vos_store.specs.Refusals.{says};
+ghost use Rattle.world_base.specs.declared.target.Collection.{Collection};
 ghost use Rattle.world_base.specs.declared.target.TargetMemory.{TargetMemory};
 ghost use Rattle.world_base.specs.Changes.{Kept};
 ghost use Rattle.world_base.specs.Requests.{request_epoch, with_ticks};
 ghost use Rattle.world_base.specs.Snapshots.{FreezeStage, follows, is_held_by_all, to_actor};
+ghost use Rattle.world_ended.specs.Asking.{Asked};
+ghost use Rattle.world_letters.specs.kinds.Loads.{AnswersOnce};
 ghost use Rattle.target_parts.specs.Knowing.{memory_of};
 ghost use Rattle.target_parts.specs.Parts.{Runs, kept};
 ghost use Rattle.target_parts.specs.Readings.{IsReadUpTo, most_readings};
 ghost use Rattle.target_parts.specs.Standing.{IsTarget};
 ghost use Rattle.target_parts.specs.Stops.{stop_foreign, stop_memory, stop_store};
 ghost use Rattle.target_snaps.specs.FreezeTurns.{freeze_lines};
+ghost use Rattle.target_snaps.specs.Following.{IsWithin, MakesAsked, MakesInForm, RequestFollows, TellsNoAttempt};
 ghost use Rattle.target_snaps.specs.HeldTurns.{IsSnapsOf};
 ghost use Rattle.target_snaps.specs.SnapTurns.{SnapComes, SnapTurn};
 
@@ -79,6 +84,7 @@ fn snap_alone<S: Store>(
     requires target { IsTarget plan (S.state store.old) (S.durable store.old) knows.now }
     requires running { (S.state store.old).stopped ≡ false }
     requires alone { is_held_by_all plan 0 ≡ true }
+    requires lines { tries lines ≡ [] }
     requires frozen { ForSome (S.durable store.old) (λ d. is_frozen d request.cont epoch ≡ true) }
     ensures turn { (m : TargetMemory) (reading : ℕ) (tracker : Epoch) (old : Kept) (d : Durable) → S.durable store.old ≡ Some d
         → SnapComes plan m reading request tracker old (FreezeStage.Frozen epoch lines) (kept d (S.state store.old)) lines
@@ -86,6 +92,8 @@ fn snap_alone<S: Store>(
     ensures target { IsTarget plan (S.state store.new) (S.durable store.new) knows.now }
     ensures stopped { Runs stop_store result (S.state store.old) (S.state store.new) (S.durable store.old) (S.durable store.new) }
     ensures native { says stop_foreign result ≡ false }
+    ensures follows { (old : List Collection) → IfOk result (λ did. RequestFollows plan.targets request old old did.posts) }
+    ensures told { TellsNoAttempt result }
 {
     let _plan = plan;
     let _knows = knows;
@@ -134,6 +142,9 @@ fn snap_frozen<S: Store>(
     ensures target { IsTarget plan (S.state store.new) (S.durable store.new) knows.now }
     ensures stopped { Runs stop_store result (S.state store.old) (S.state store.new) (S.durable store.old) (S.durable store.new) }
     ensures native { says stop_foreign result ≡ false }
+    ensures follows { IfOk result (λ did. RequestFollows plan.targets request snaps.old.collecting snaps.new.collecting did.posts) }
+    ensures told { TellsNoAttempt result }
+    ensures stays { OnErr result (snaps.new ≡ snaps.old) }
 {
     let lines = freeze_lines(alloc, plan, request.cont, epoch, froze)?;
     if is_alone(plan) {
@@ -173,6 +184,9 @@ fn snap_at<S: Store>(
     ensures target { IsTarget plan (S.state store.new) (S.durable store.new) knows.now }
     ensures stopped { Runs stop_store result (S.state store.old) (S.state store.new) (S.durable store.old) (S.durable store.new) }
     ensures native { says stop_foreign result ≡ false }
+    ensures follows { IfOk result (λ did. RequestFollows plan.targets request snaps.old.collecting snaps.new.collecting did.posts) }
+    ensures told { TellsNoAttempt result }
+    ensures stays { OnErr result (snaps.new ≡ snaps.old) }
 {
     let issued = Some((request.attempt, epoch));
     let froze = match freeze_at(store, request.cont, epoch) {
@@ -226,6 +240,11 @@ pub fn hear_snap<S: Store, C: Clock>(
     ensures target { IsTarget plan (S.state store.new) (S.durable store.new) knows.new }
     ensures stopped { Runs stop_store result (S.state store.old) (S.state store.new) (S.durable store.old) (S.durable store.new) }
     ensures native { says stop_foreign result ≡ false }
+    ensures reads { IfOk result (λ did. AnswersOnce [] knows.old.member.memory knows.new.member.memory did.posts) }
+    ensures posts { request.from.client ≡ true → IfOk result (λ did. MakesInForm plan.targets snaps.old.collecting snaps.new.collecting did.posts) }
+    ensures ends { (given : Asked) → given request.attempt ≡ true → IfOk result (λ did. MakesAsked given snaps.old.collecting snaps.new.collecting did.posts) }
+    ensures told { TellsNoAttempt result }
+    ensures within { OnErr result (IsWithin snaps.new.collecting snaps.old.collecting) }
     ensures clock { IsReadUpTo C.is_read (most_readings false) clock.old clock.new }
 {
     match ready(plan, store, clock, knows, tracker, None) {

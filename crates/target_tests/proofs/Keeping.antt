@@ -139,16 +139,16 @@ mapped f (Some d) x is = (d, refl, (let same : f d ≡ x = cc in same))
 
 pub read_keeps : (P : Durable → Type 0) → ((lease : ℕ) (d : Durable) → P d → P (leased lease d)) → ((a : AttemptId) (d : Durable) → P d → P (settled a Commit d))
     → (t : TargetPlan) (m : TargetMemory) (reading : ℕ) (from : ActorId) (by : AttemptId) (key : List ℕ) (message : Message) (d : Durable) (h k : State) (new : Option Durable) (finds : Durable → Type 0) (left : TargetMemory) (did : Did)
-    → message ≡ fetch by key → HearsOrStops t m reading from message d h new k finds left (Ok did) → P d → (x : Durable) × (new ≡ Some x) × P x
+    → message ≡ fetch by key → HearsOrStops 0 t m reading from message d h new k finds left (Ok did) → P d → (x : Durable) × (new ≡ Some x) × P x
 read_keeps P leases settles t m reading from by key message d h k new finds left did is turn p =
-    let now = subst (λ x. HearsOrStops t m reading from x d h new k finds left (Ok did)) is turn in
-    let heard = heard-alike 0 t h.opening m reading from (kept d h) (kept now.durable k) (left, did) (fetch by key) refl (now.holds 0) in
+    let now = subst (λ x. HearsOrStops 0 t m reading from x d h new k finds left (Ok did)) is turn in
+    let heard = heard-alike 0 t h.opening m reading from (kept d h) (kept now.durable k) (left, did) (fetch by key) refl now.holds in
     (now.durable, now.kept_is, fetch_keeps P leases settles t m reading _ _ _ _ _ _ heard.reached.path p)
 
 pub write_keeps : (P : Durable → Type 0) (t : TargetPlan) (m : TargetMemory) (reading : ℕ) (from : ActorId) (by : AttemptId) (ep : Option Epoch) (key : List ℕ) (message : Message) (d : Durable) (h k : State) (new : Option Durable) (finds : Durable → Type 0)
     (left : TargetMemory) (did : Did) → ((lease : ℕ) (d : Durable) → P d → P (leased lease d)) → ((e : Entry) (ws : List MinorWrite) (d : Durable) → e.attempt ≡ by → P d → P (prepared e ws d))
-    → message ≡ commit by ep key → HearsOrStops t m reading from message d h new k finds left (Ok did) → P d → (x : Durable) × (new ≡ Some x) × P x
+    → message ≡ commit by ep key → HearsOrStops 0 t m reading from message d h new k finds left (Ok did) → P d → (x : Durable) × (new ≡ Some x) × P x
 write_keeps P t m reading from by ep key message d h k new finds left did leases stores is turn p =
-    let now = subst (λ x. HearsOrStops t m reading from x d h new k finds left (Ok did)) is turn in
-    let heard = commit-heard 0 t h.opening m reading from (kept d h) (kept now.durable k) (left, did) _ _ _ _ _ (now.holds 0) in
+    let now = subst (λ x. HearsOrStops 0 t m reading from x d h new k finds left (Ok did)) is turn in
+    let heard = commit-heard 0 t h.opening m reading from (kept d h) (kept now.durable k) (left, did) _ _ _ _ _ now.holds in
     (now.durable, now.kept_is, commit_keeps t h.opening m reading _ P leases stores _ _ _ _ _ heard.1.path p)

@@ -77,10 +77,10 @@ next_mark s k o u l (marks.SettlesMarked j a committed rest is) steps n = subst 
 next_mark s k o u l (marks.PassesBy j a committed rest is) steps n = subst (λ y. IsNew y.durable) (sym steps) n
 
 pub mark_turn : (t : TargetPlan) (m : TargetMemory) (reading : ℕ) (from : ActorId) (message : Message) (d : Durable) (h k : State) (new : Option Durable) (finds : Durable → Type 0) (left : TargetMemory) (did : Did)
-    → message ≡ mark → HearsOrStops t m reading from message d h new k finds left (Ok did) → IsNew d → (x : Durable) × (new ≡ Some x) × IsNew x
+    → message ≡ mark → HearsOrStops 0 t m reading from message d h new k finds left (Ok did) → IsNew d → (x : Durable) × (new ≡ Some x) × IsNew x
 mark_turn t m reading from message d h k new finds left did is turn n =
-    let now = subst (λ x. HearsOrStops t m reading from x d h new k finds left (Ok did)) is turn in
-    let heard = heard-alike 0 t h.opening m reading from (kept d h) (kept now.durable k) (left, did) mark refl (now.holds 0) in
+    let now = subst (λ x. HearsOrStops 0 t m reading from x d h new k finds left (Ok did)) is turn in
+    let heard = heard-alike 0 t h.opening m reading from (kept d h) (kept now.durable k) (left, did) mark refl now.holds in
     (now.durable, now.kept_is, reached-keeps (MarkNext is_prepared) (λ s y. IsNew y.durable) next_mark _ _ _ _ heard.reached n)
 
 -- ---- a Prepare
@@ -110,8 +110,8 @@ here_standing stage.Checking k n = n.here
 here_standing stage.Stored k n = n
 
 pub prepare_turn : (t : TargetPlan) (m : TargetMemory) (reading : ℕ) (from : ActorId) (message : Message) (d : Durable) (h k : State) (new : Option Durable) (finds : Durable → Type 0) (left : TargetMemory) (did : Did)
-    → message ≡ prepare → HearsOrStops t m reading from message d h new k finds left (Ok did) → IsNew d → (x : Durable) × (new ≡ Some x) × IsHere x
+    → message ≡ prepare → HearsOrStops 0 t m reading from message d h new k finds left (Ok did) → IsNew d → (x : Durable) × (new ≡ Some x) × IsHere x
 prepare_turn t m reading from message d h k new finds left did is turn n =
-    let now = subst (λ x. HearsOrStops t m reading from x d h new k finds left (Ok did)) is turn in
-    let heard = heard-alike 0 t h.opening m reading from (kept d h) (kept now.durable k) (left, did) prepare refl (now.holds 0) in
+    let now = subst (λ x. HearsOrStops 0 t m reading from x d h new k finds left (Ok did)) is turn in
+    let heard = heard-alike 0 t h.opening m reading from (kept d h) (kept now.durable k) (left, did) prepare refl now.holds in
     (now.durable, now.kept_is, here_standing heard.last (record { durable = now.durable; free = k.free }) (reached-keeps (PrepareNext t h.opening m the_request) Standing (next_prepare t h.opening m) _ _ _ _ heard.reached n))

@@ -10,7 +10,7 @@ use Rattle.base_messages.specs.declared.message.Message.TheVariants.{Ack, Mark, 
 use Rattle.daos_model.specs.declared.durable.Durable.{Durable}
 use Rattle.daos_model.specs.Durables.{is_enlisted}
 use Rattle.daos_model.specs.Forms.{is_write_in_form}
-use Rattle.target_core.specs.Targets.{CanHear, HasForm}
+use Rattle.target_core.specs.Targets.{CanHear, HasForm, is_held}
 use Rattle.target_tests.specs.Own.{IsOfBegun, first, led, request, write_shared}
 use Rattle.target_tests.specs.Overtaken.{IsNew}
 use Rattle.target_tests.proofs.Keeping.{blank_absent}
@@ -34,6 +34,14 @@ begun_heard t (Marked inc ids) d k = tt
 begun_heard t (Query x ask) d k = tt
 begun_heard t (Verdict x ask inc v) d k = tt
 begun_heard t m d k = absurd k
+
+pub begun_not_held : (m : Message) → IsOfBegun m → is_held m ≡ true → ⊥
+begun_not_held (Ack x inc refusal) k held = let no : ⊥ = cc in no
+begun_not_held (Mark inc marks) k held = let no : ⊥ = cc in no
+begun_not_held (Marked inc ids) k held = let no : ⊥ = cc in no
+begun_not_held (Query x ask) k held = let no : ⊥ = cc in no
+begun_not_held (Verdict x ask inc v) k held = let no : ⊥ = cc in no
+begun_not_held m k held = absurd k
 
 -- ---- the write
 

@@ -1,4 +1,4 @@
-use Rattle.std.proofs.Common.{◌≡◌, ◌∙◌, Err, None, Option, Some, ap, refl, rules, subst, sym, ℕ}
+use Rattle.std.proofs.Common.{◌≡◌, ◌∙◌, Err, None, Some, ap, refl, rules, subst, sym}
 use Rattle.base_messages.specs.declared.message.Message.TheVariants.{Commit}
 use Rattle.base_types.specs.declared.epoch.Epoch.{Epoch}
 use Rattle.base_types.specs.Placement.{writes_members}
@@ -8,6 +8,8 @@ use Rattle.target_parts.specs.Knowing.{memory_of}
 use Rattle.target_parts.specs.Readings.{not-read}
 use Rattle.target_parts.specs.Stops.{stop_memory}
 use Rattle.target_core.specs.Targets.{HearsOrStops}
+use Rattle.snap_core.specs.Snaps.{remembered}
+use Rattle.target_core.proofs.Beside.{commit-beside, down-beside}
 use Rattle.target_core.proofs.Heard.{commit-not_begun, hears-commit, hears-commit_down}
 use Rattle.world_base.specs.Commits.{bits_of}
 use Rattle.world_base.specs.Statuses.{down_of}
@@ -20,11 +22,9 @@ returns-in_err-members-clause-turn g c =
     let is : c.from_residual.result ≡ Err stop_memory = search rules in (
       r.0,
       r.1,
-      λ d at.
-          subst (λ x. HearsOrStops c.args.plan (memory_of c.args.knows.now) r.0 c.args.from (Commit q.attempt q.ep q.first q.tracker q.writes) d (g.S.Store.state c.args.store.now) (g.S.Store.durable c.args.store.now) (g.S.Store.state c.args.store.now)
-          (g.S.Store.may c.args.store.now) (memory_of c.args.knows.now) x) (sym is)
-          (commit-not_begun c.args.plan (memory_of c.args.knows.now) r.0 c.args.from d (g.S.Store.state c.args.store.now) (g.S.Store.durable c.args.store.now) (g.S.Store.state c.args.store.now) (g.S.Store.may c.args.store.now) (memory_of c.args.knows.now)
-          q.attempt q.ep q.first q.tracker q.writes (record { kept_is = at; free = refl })),
+      λ n snaps d at.
+          subst (λ x. HearsOrStops n c.args.plan (remembered (memory_of c.args.knows.now) snaps) r.0 c.args.from (Commit q.attempt q.ep q.first q.tracker q.writes) d (g.S.Store.state c.args.store.now) (g.S.Store.durable c.args.store.now) (g.S.Store.state c.args.store.now) (g.S.Store.may c.args.store.now) (remembered (memory_of c.args.knows.now) snaps) x) (sym is)
+          (commit-not_begun n c.args.plan (remembered (memory_of c.args.knows.now) snaps) r.0 c.args.from d (g.S.Store.state c.args.store.now) (g.S.Store.durable c.args.store.now) (g.S.Store.state c.args.store.now) (g.S.Store.may c.args.store.now) (remembered (memory_of c.args.knows.now) snaps) q.attempt q.ep q.first q.tracker q.writes (record { kept_is = at; free = refl })),
     )
 
 pub returns-in_err-members-clause-clock : goal.returns-in_err-members-clause-clock
@@ -41,9 +41,9 @@ returns-in-Some-clause-turn g c =
     ap (λ ms. first_down ms c.args.knows.now.leader.down) (sym (c.in_ok-members.ensures ∙ ap (λ ws. bits_of (writes_members ws c.args.plan.targets)) c.as_slice.ensures)) ∙ sym c.down_among.ensures ∙ c.in-Some.is in (
       c.hear_commit_down.ensures.turn.0,
       c.hear_commit_down.ensures.turn.1,
-      λ d at.
-          hears-commit_down c.args.plan (memory_of c.args.knows.now) c.hear_commit_down.ensures.turn.0 c.args.from d (g.S.Store.state c.args.store.now) _ _ _ _ q.attempt q.ep q.first q.tracker q.writes (record { 0 = 0 }) c.in-Some.down down
-          c.hear_commit_down.result (c.hear_commit_down.ensures.turn.2 d at),
+      λ n snaps d at.
+          hears-commit_down n c.args.plan (remembered (memory_of c.args.knows.now) snaps) c.hear_commit_down.ensures.turn.0 c.args.from d (g.S.Store.state c.args.store.now) (g.S.Store.durable c.hear_commit_down.new.store) (g.S.Store.state c.hear_commit_down.new.store) (g.S.Store.may c.hear_commit_down.new.store) (remembered (memory_of c.hear_commit_down.new.knows) snaps) q.attempt q.ep q.first q.tracker q.writes (record { 0 = 0 }) c.in-Some.down down c.hear_commit_down.result
+          (down-beside snaps c.args.plan (g.S.Store.state c.args.store.now).opening (memory_of c.args.knows.now) c.hear_commit_down.ensures.turn.0 q c.args.from d (g.S.Store.state c.args.store.now) (g.S.Store.durable c.hear_commit_down.new.store) (g.S.Store.state c.hear_commit_down.new.store) (g.S.Store.may c.hear_commit_down.new.store) (memory_of c.hear_commit_down.new.knows) c.hear_commit_down.result (c.hear_commit_down.ensures.turn.2 d at)),
     )
 
 pub returns-in-None-clause-turn : goal.returns-in-None-clause-turn
@@ -53,7 +53,7 @@ returns-in-None-clause-turn g c =
     λ e. ap (λ ms. first_down ms c.args.knows.now.leader.down) (sym (c.in_ok-members.ensures ∙ ap (λ ws. bits_of (writes_members ws c.args.plan.targets)) c.as_slice.ensures)) ∙ sym c.down_among.ensures ∙ c.in-None.is in (
       c.hear_commit.ensures.turn.0,
       c.hear_commit.ensures.turn.1,
-      λ d at.
-          hears-commit c.args.plan (memory_of c.args.knows.now) c.hear_commit.ensures.turn.0 c.args.from d (g.S.Store.state c.args.store.now) _ _ _ _ q.attempt q.ep q.first q.tracker q.writes up
-          c.hear_commit.result (c.hear_commit.ensures.turn.2 d at),
+      λ n snaps d at.
+          hears-commit n c.args.plan (remembered (memory_of c.args.knows.now) snaps) c.hear_commit.ensures.turn.0 c.args.from d (g.S.Store.state c.args.store.now) (g.S.Store.durable c.hear_commit.new.store) (g.S.Store.state c.hear_commit.new.store) (g.S.Store.may c.hear_commit.new.store) (remembered (memory_of c.hear_commit.new.knows) snaps) q.attempt q.ep q.first q.tracker q.writes up c.hear_commit.result
+          (commit-beside snaps c.args.plan (g.S.Store.state c.args.store.now).opening (memory_of c.args.knows.now) c.hear_commit.ensures.turn.0 q c.args.from d (g.S.Store.state c.args.store.now) (g.S.Store.durable c.hear_commit.new.store) (g.S.Store.state c.hear_commit.new.store) (g.S.Store.may c.hear_commit.new.store) (memory_of c.hear_commit.new.knows) c.hear_commit.result (c.hear_commit.ensures.turn.2 d at)),
     )

@@ -2,6 +2,9 @@ use Rattle.world_ended.specs.Asking.{GoesWith}
 use Rattle.std.proofs.Common.{subst, sym, ◌∷◌, []}
 use Rattle.target_parts.specs.Knowing.{memory_of}
 use Rattle.target_core.specs.Targets.{CanHear, HearsOrStops}
+use Rattle.snap_core.specs.Snaps.{remembered}
+use Rattle.world_base.specs.TargetTurns.{fetch_request}
+use Rattle.target_core.proofs.Beside.{fetch-beside}
 use Rattle.target_core.proofs.Heard.{hears-fetch}
 use Rattle.world_letters.specs.kinds.TurnLaws.{turn-heard}
 use Rattle.std.specs.Prelude.{IfOk}
@@ -18,20 +21,18 @@ pub returns-in-Fetch-clause-turn : goal.returns-in-Fetch-clause-turn
 returns-in-Fetch-clause-turn g c = (
   c.hear_fetch.ensures.turn.0,
   c.hear_fetch.ensures.turn.1,
-  λ d at.
-      subst (λ m. HearsOrStops c.args.plan (memory_of c.args.knows.now) c.hear_fetch.ensures.turn.0 c.args.from m d (g.S.Store.state c.args.store.now) (g.S.Store.durable c.hear_fetch.new.store) (g.S.Store.state c.hear_fetch.new.store)
-      (g.S.Store.may c.hear_fetch.new.store) (memory_of c.hear_fetch.new.knows) c.hear_fetch.result) (sym c.in-Fetch.is)
-      (hears-fetch c.args.plan (memory_of c.args.knows.now) c.hear_fetch.ensures.turn.0 c.args.from d (g.S.Store.state c.args.store.now) _ _ _ _ c.in-Fetch.attempt c.in-Fetch.op c.in-Fetch.group c.in-Fetch.ep c.in-Fetch.first c.in-Fetch.tracker c.in-Fetch.read c.in-Fetch.snapshot c.hear_fetch.result
-      (c.hear_fetch.ensures.turn.2 d at)),
+  λ n snaps d at.
+      subst (λ m. HearsOrStops n c.args.plan (remembered (memory_of c.args.knows.now) snaps) c.hear_fetch.ensures.turn.0 c.args.from m d (g.S.Store.state c.args.store.now) (g.S.Store.durable c.hear_fetch.new.store) (g.S.Store.state c.hear_fetch.new.store) (g.S.Store.may c.hear_fetch.new.store) (remembered (memory_of c.hear_fetch.new.knows) snaps) c.hear_fetch.result) (sym c.in-Fetch.is)
+      (hears-fetch n c.args.plan (remembered (memory_of c.args.knows.now) snaps) c.hear_fetch.ensures.turn.0 c.args.from d (g.S.Store.state c.args.store.now) (g.S.Store.durable c.hear_fetch.new.store) (g.S.Store.state c.hear_fetch.new.store) (g.S.Store.may c.hear_fetch.new.store) (remembered (memory_of c.hear_fetch.new.knows) snaps) c.in-Fetch.attempt c.in-Fetch.op c.in-Fetch.group c.in-Fetch.ep c.in-Fetch.first c.in-Fetch.tracker c.in-Fetch.read c.in-Fetch.snapshot c.hear_fetch.result
+      (fetch-beside snaps c.args.plan (memory_of c.args.knows.now) c.hear_fetch.ensures.turn.0 (fetch_request c.in-Fetch.attempt c.in-Fetch.op c.in-Fetch.group c.in-Fetch.ep c.in-Fetch.first c.in-Fetch.tracker c.in-Fetch.read c.in-Fetch.snapshot) c.args.from d (g.S.Store.state c.args.store.now) (g.S.Store.durable c.hear_fetch.new.store) (g.S.Store.state c.hear_fetch.new.store) (g.S.Store.may c.hear_fetch.new.store) (memory_of c.hear_fetch.new.knows) c.hear_fetch.result (c.hear_fetch.ensures.turn.2 d at))),
 )
 
 pub returns-in-Commit-clause-turn : goal.returns-in-Commit-clause-turn
 returns-in-Commit-clause-turn g c = (
   c.hear_any_commit.ensures.turn.0,
   c.hear_any_commit.ensures.turn.1,
-  λ d at.
-      subst (λ m. HearsOrStops c.args.plan (memory_of c.args.knows.now) c.hear_any_commit.ensures.turn.0 c.args.from m d (g.S.Store.state c.args.store.now) (g.S.Store.durable c.hear_any_commit.new.store) (g.S.Store.state c.hear_any_commit.new.store)
-      (g.S.Store.may c.hear_any_commit.new.store) (memory_of c.hear_any_commit.new.knows) c.hear_any_commit.result) (sym c.in-Commit.is) (c.hear_any_commit.ensures.turn.2 d at),
+  λ n snaps d at.
+      subst (λ m. HearsOrStops n c.args.plan (remembered (memory_of c.args.knows.now) snaps) c.hear_any_commit.ensures.turn.0 c.args.from m d (g.S.Store.state c.args.store.now) (g.S.Store.durable c.hear_any_commit.new.store) (g.S.Store.state c.hear_any_commit.new.store) (g.S.Store.may c.hear_any_commit.new.store) (remembered (memory_of c.hear_any_commit.new.knows) snaps) c.hear_any_commit.result) (sym c.in-Commit.is) (c.hear_any_commit.ensures.turn.2 n snaps d at),
 )
 
 pub returns-in-Fetch-clause-reads : goal.returns-in-Fetch-clause-reads

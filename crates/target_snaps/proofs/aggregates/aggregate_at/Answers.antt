@@ -1,4 +1,4 @@
-use Rattle.std.proofs.Common.{◌≡◌, [], Err, None, ap, rules, subst}
+use Rattle.std.proofs.Common.{◌≡◌, [], Err, None, ap, rules, subst, Some}
 use Rattle.snap_core.specs.Snaps.{remembered}
 use Rattle.vos_store.specs.Refusals.{always_stop}
 use Rattle.world_base.specs.Snapshots.{Settling}
@@ -9,6 +9,9 @@ use Rattle.target_parts.specs.Stops.{stop_memory}
 use Rattle.target_snaps.specs.AggregateTurns.{AggregateComes}
 use Rattle.target_snaps.proofs.AggregateTurns.{aggregate-halted, aggregate-unsettled, aggregate-wanting, aggregate-whole, begun-ends, begun-stays, settled-here, settled-known}
 use Rattle.target_snaps.proofs.PruneParts.{settled-comes}
+use Rattle.target_snaps.proofs.Following.{told-memory, told-stop}
+use Rattle.target_snaps.proofs.Begun.{prune-follows, told-prune}
+use Rattle.target_parts.specs.declared.halt.Halt.TheVariants as halt
 use Rattle.target_snaps.proofs.aggregates.aggregate_at.Goals as goal
 
 pub returns-in-Err-clause-turn : goal.returns-in-Err-clause-turn
@@ -66,3 +69,21 @@ returns-clause-turn g c m reading tracker old d at known came =
 
 pub returns-clause-own : goal.returns-clause-own
 returns-clause-own g c = begun-stays c.args.plan c.args.snaps.now c.begin.new.self c.requires.own c.args.request c.args.epoch c.args.message.now c.requires.asks.0 c.in_ok-posts.posts c.requires.asks.1 c.in_ok-posts.ensures.ok
+
+-- ---- what follows
+
+pub returns-in-Err-clause-told : goal.returns-in-Err-clause-told
+returns-in-Err-clause-told g c = told-stop halt.Stopped (Some (c.args.request.attempt, c.args.epoch)) (Err c.stop_of.result) (ap Err c.stop_of.ensures)
+
+pub returns-in_err-lines-clause-told : goal.returns-in_err-lines-clause-told
+returns-in_err-lines-clause-told g c =
+    let is : c.from_residual.result ≡ Err c.in_err-lines.field-0.0 = search rules in
+    told-prune c.in_err-lines.field-0.0 c.from_residual.result c.in_err-lines.ensures.told is
+
+pub returns-in_err-posts-clause-told : goal.returns-in_err-posts-clause-told
+returns-in_err-posts-clause-told g c =
+    let is : c.from_residual-in_err-posts.result ≡ Err stop_memory = search rules in
+    told-memory c.from_residual-in_err-posts.result is
+
+pub returns-clause-follows : goal.returns-clause-follows
+returns-clause-follows g c = prune-follows c.args.plan c.args.snaps.now c.begin.new.self c.requires.own c.args.request c.args.epoch c.args.message.now c.requires.asks.0 c.in_ok-posts.posts c.requires.asks.1 c.in_ok-posts.ensures.ok

@@ -10,6 +10,15 @@ use Rattle.target_parts.specs.Readying.{leases}
 use Rattle.target_snaps.specs.SnapTurns.{SnapTurn}
 use Rattle.target_snaps.proofs.SnapTurns.{readied-as, snap-ready, snap-spent, snap-unready}
 use Rattle.target_snaps.proofs.Standing.{can-freeze}
+use Rattle.target_snaps.proofs.Following.{holds-then, none-answered, none-tried, one-carries, told-follows, told-stop}
+use Rattle.std.proofs.lemmas.Result.{IfOk-weaker}
+use Rattle.daos_model.specs.Attempts.{tries}
+use Rattle.base_types.specs.declared.outcome.Outcome.TheVariants.{EpochsSpent}
+use Rattle.world_base.specs.Snapshots.{to_actor}
+use Rattle.world_letters.specs.kinds.PostLaws.{CarryNone}
+use Rattle.target_parts.specs.declared.knows.Knows.{Knows}
+use Rattle.target_parts.specs.declared.halt.Halt.TheVariants as halt
+use Rattle.base_messages.specs.declared.message.Message.TheVariants as message
 use Rattle.target_snaps.proofs.snaps.hear_snap.Goals as goal
 
 pub snap_at-requires-clause-can : goal.snap_at-requires-clause-can
@@ -56,3 +65,22 @@ returns-in-Err-clause-turn g c =
           snap-unready c.args.plan (remembered (memory_of c.args.knows.now) c.args.snaps.now) ready.0 c.args.request c.args.tracker c.args.name.now d (g.S.Store.state c.args.store.now) (g.S.Store.state c.ready.new.store) (g.S.Store.durable c.ready.new.store) (g.S.Store.may c.ready.new.store) (memory_of c.args.knows.now) said.0 _
           (epoch-known c.args.plan (remembered (memory_of c.args.knows.now) c.args.snaps.now) c.args.knows.now.hlc ready.0 c.args.tracker None c.requires.target.own.clock refl ∙ said.1) said.2 (ap Err c.stop_of.ensures),
     )
+
+-- ---- what follows
+
+pub returns-in-Ok-Some-clause-posts : goal.returns-in-Ok-Some-clause-posts
+returns-in-Ok-Some-clause-posts g c client = IfOk-weaker c.snap_at.result _ _ (λ did h. h.form client) c.snap_at.ensures.follows
+
+pub returns-in-Ok-Some-clause-ends : goal.returns-in-Ok-Some-clause-ends
+returns-in-Ok-Some-clause-ends g c given asked = IfOk-weaker c.snap_at.result _ _ (λ did h. h.goes given asked) c.snap_at.ensures.follows
+
+pub returns-in-Ok-None-clause-reads : goal.returns-in-Ok-None-clause-reads
+returns-in-Ok-None-clause-reads g c =
+    none-answered c.ended.result c.args.knows.now.member.memory c.ready.new.knows.member.memory (ap (λ (k : Knows). k.member.memory) c.in-Ok-None.ensures.heard)
+    (holds-then CarryNone (to_actor c.args.request.from (message.Ended c.args.request.attempt None EpochsSpent)) c.new.result None c.ended.result (one-carries c.args.request.from (message.Ended c.args.request.attempt None EpochsSpent) refl) c.ended.ensures.did)
+
+pub returns-in-Ok-None-clause-told : goal.returns-in-Ok-None-clause-told
+returns-in-Ok-None-clause-told g c = told-follows (to_actor c.args.request.from (message.Ended c.args.request.attempt None EpochsSpent)) c.new.result None c.ended.result (ap tries c.new.ensures ∙ none-tried) c.ended.ensures.did c.ended.ensures.wanting
+
+pub returns-in-Err-clause-told : goal.returns-in-Err-clause-told
+returns-in-Err-clause-told g c = told-stop halt.Stopped None (Err c.stop_of.result) (ap Err c.stop_of.ensures)

@@ -1,9 +1,15 @@
-use Rattle.std.proofs.Common.{◌≡◌, ◌∙◌, Err, ap, sym, true}
+use Rattle.std.proofs.Common.{◌≡◌, ◌∙◌, Err, ap, sym, true, Some}
 use Rattle.daos_model.specs.Durables.{is_frozen}
 use Rattle.snap_core.specs.Snaps.{remembered}
 use Rattle.target_parts.specs.Running.{for_some_on}
 use Rattle.target_snaps.proofs.SnapTurns.{froze-there, snap-frozen, snap-halted, snap-refused}
 use Rattle.target_snaps.proofs.Standing.{target-froze}
+use Rattle.target_snaps.proofs.Following.{end-follows, holds-then, none-tried, told-follows, told-stop}
+use Rattle.target_snaps.proofs.Begun.{refused-ends}
+use Rattle.daos_model.specs.Attempts.{tries}
+use Rattle.world_base.specs.Snapshots.{to_actor}
+use Rattle.target_snaps.specs.Following.{RequestFollows}
+use Rattle.base_messages.specs.declared.message.Message.TheVariants as message
 use Rattle.target_snaps.proofs.snaps.snap_at.Goals as goal
 
 pub returns-in-Err-clause-turn : goal.returns-in-Err-clause-turn
@@ -42,3 +48,16 @@ returns-in-None-clause-turn g c m reading tracker old d at is came =
     c.snap_frozen.ensures.turn m reading tracker old there.0 there.1
     (snap-frozen c.args.plan (remembered m c.args.snaps.now) reading c.args.request tracker c.args.name.now old c.args.epoch d (g.S.Store.state c.args.store.now) (g.S.Store.state c.freeze_at.new.store) (g.S.Store.durable c.freeze_at.new.store) (g.S.Store.may c.freeze_at.new.store)
     is came c.in-Ok.froze (sym c.refusal_by.ensures ∙ c.in-None.is) (c.in-Ok.ensures.froze d at) there.0 there.1)
+
+-- ---- what follows
+
+pub returns-in-Err-clause-told : goal.returns-in-Err-clause-told
+returns-in-Err-clause-told g c = told-stop c.in-Err.halt (Some (c.args.request.attempt, c.args.epoch)) (Err c.stop_of.result) (ap Err c.stop_of.ensures)
+
+pub returns-in-Some-clause-follows : goal.returns-in-Some-clause-follows
+returns-in-Some-clause-follows g c =
+    holds-then (RequestFollows c.args.plan.targets c.args.request c.args.snaps.now.collecting c.args.snaps.now.collecting) (to_actor c.args.request.from (message.Ended c.args.request.attempt (Some c.args.epoch) c.in-Some.outcome)) c.new.result (Some (c.args.request.attempt, c.args.epoch)) c.ended.result
+    (end-follows c.args.plan.targets c.args.request (Some c.args.epoch) c.in-Some.outcome c.args.snaps.now.collecting (refused-ends c.args.plan c.in-Ok.froze c.in-Some.outcome (sym c.refusal_by.ensures ∙ c.in-Some.is))) c.ended.ensures.did
+
+pub returns-in-Some-clause-told : goal.returns-in-Some-clause-told
+returns-in-Some-clause-told g c = told-follows (to_actor c.args.request.from (message.Ended c.args.request.attempt (Some c.args.epoch) c.in-Some.outcome)) c.new.result (Some (c.args.request.attempt, c.args.epoch)) c.ended.result (ap tries c.new.ensures ∙ none-tried) c.ended.ensures.did c.ended.ensures.wanting

@@ -1,3 +1,6 @@
+use Rattle.std.specs.Prelude.{◌≡◌, true}
+use Rattle.std.proofs.lemmas.Bool.{true≢false}
+use Rattle.world_base.specs.Stops.{is_prune_message}
 use Rattle.std.proofs.Common.{inl, subst, sym}
 use Rattle.std.specs.Option.{ForSome}
 use Rattle.target_core.specs.Targets.{CanHear, HasForm}
@@ -19,4 +22,4 @@ hear-requires-clause-here g c =
 pub returns-clause-here : goal.returns-clause-here
 returns-clause-here g c =
     for_some_on (g.S.Store.durable c.args.target.now.store) _ IsHere c.in_ok-hear.ensures.runs.told
-    (λ d at. prepare_turn _ _ _ _ _ d (g.S.Store.state c.args.target.now.store) (g.S.Store.state c.hear.new.self.store) (g.S.Store.durable c.hear.new.self.store) (g.S.Store.may c.hear.new.self.store) _ _ c.in_ok-message.ensures (c.in_ok-hear.ensures.turn.2 d at) (c.requires.new d at))
+    (λ d at. prepare_turn _ _ _ _ _ d (g.S.Store.state c.args.target.now.store) (g.S.Store.state c.hear.new.self.store) (g.S.Store.durable c.hear.new.self.store) (g.S.Store.may c.hear.new.self.store) _ _ c.in_ok-message.ensures (c.in_ok-hear.ensures.turn.2 0 (λ prune. absurd (true≢false (sym (subst (λ x. is_prune_message x ≡ true) c.in_ok-message.ensures prune)))) d at) (c.requires.new d at))

@@ -1,7 +1,10 @@
-use Rattle.std.proofs.Common.{◌≡◌, ◌<◌, ◌+◌, Some, subst, sym}
+use Rattle.std.proofs.Common.{◌≡◌, ◌<◌, ◌+◌, Some, ap, subst, sym}
 use Rattle.daos_model.specs.declared.durable.Durable.{Durable}
 use Rattle.target_parts.specs.Knowing.{IsHeard}
 use Rattle.target_resync.specs.Openings.{TellsRestart}
+use Rattle.target_parts.specs.Knowing.{memory_of}
+use Rattle.snap_core.specs.Snaps.{SnapOf}
+use Rattle.target_core.proofs.Posting.{opened-ends}
 use Rattle.target_core.proofs.target.Target.restart.Goals as goal
 
 pub restart-requires-clause-counted : goal.restart-requires-clause-counted
@@ -12,5 +15,9 @@ pub restart-requires-clause-covered : goal.restart-requires-clause-covered
 restart-requires-clause-covered g c =
     subst (λ y. (x : Durable) → g.S.Store.durable y.store ≡ Some x → (z : Durable) → g.S.Store.may y.store z → IsHeard z.lease z) (sym c.self.view_is) c.requires.covered
 
-pub returns-in-Ok-clause-line : goal.returns-in-Ok-clause-line
-returns-in-Ok-clause-line g c = subst (λ y. TellsRestart c.args.number y.plan.me c.in-Ok.field-0.did) c.self.view_is c.in-Ok.ensures.line
+pub returns-in-Ok-restart-clause-line : goal.returns-in-Ok-restart-clause-line
+returns-in-Ok-restart-clause-line g c = subst (λ y. TellsRestart c.args.number y.plan.me c.in-Ok-restart.field-0.did) c.self.view_is c.in-Ok-restart.ensures.line
+
+pub returns-in-Ok-restart-clause-ends : goal.returns-in-Ok-restart-clause-ends
+returns-in-Ok-restart-clause-ends g c asked =
+    opened-ends asked (memory_of c.in-Ok-restart.field-0.knows) c.in-Ok.snaps c.in-Ok-restart.field-0.did.posts (ap (λ (s : SnapOf). s.collecting) c.in-Ok.ensures) (c.in-Ok-restart.ensures.ends asked)
