@@ -6,5 +6,6 @@ pub mod between;
 mod cutting;
 pub mod lines;
 mod losing;
+mod numbers;
 pub mod schedule;
 pub mod sweeping;

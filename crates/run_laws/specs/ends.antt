@@ -2,6 +2,7 @@
 pub mod Turns
 pub mod Reports
 pub mod Starts
+pub mod Standing
 pub mod Arming
 pub mod FuseLaws
 pub mod Comes

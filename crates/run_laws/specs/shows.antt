@@ -1,6 +1,7 @@
 -- What the actors of a run show of a world, in which targets may stop; what turns lead to; and what goes on then.
 pub mod ListLaws
 pub mod Stages
+pub mod Beginning
 pub mod Shows
 pub mod CanGo
 pub mod Accounts

@@ -3,13 +3,15 @@
 ghost use Rattle.run_laws.specs.reports.Reports.{NoneUnknownWithoutGivenUp, OrdersAreLegal, OrdersIssueThere, OrdersLeaveInTheEnd, OrdersReportInForm, UnknownIsOfGivenUp, UnstoppedOrdersEndPlainly, UnstoppedOrdersOfLoneClients};
 
 /// Says what a run in the order that the job names comes to, where targets may stop, open again, or be given
-/// up, of a script in form without snapshots and aggregation, from its beginning. The report of its lines is
-/// legal in each part, whatever the outside is taken to have done, if only it caused the stops for which the
-/// script doesn't ask, and what was given up; the targets stand for what it tells, and replicas agree. The
-/// text of the report determines it, where names and keys are keys, and the numbers of stops and openings are
-/// as small as their types hold. Each epoch of which it tells bears the number of one of the targets. In the end each
-/// target runs or is given up; and each entry that a running one keeps is committed, or a member of its attempt
-/// was given up. Of what is committed at one all members hold an entry.
+/// up, snapshots be made and read, and containers aggregated, of a script in form, from its beginning. Each epoch of
+/// which the report of its lines tells bears the number of one of the targets, but for those of snapshots that
+/// earlier runs made. In the end each target runs or is given up; and each entry that a running one keeps is
+/// committed, or a member of its attempt was given up. Of what is committed at one all members hold an entry. Where
+/// the targets held at the beginning all that the opening stands for, the report is legal in each part, whatever the
+/// outside is taken to have done, if only it caused the stops for which the script doesn't ask, and what was given
+/// up; the targets stand for what it tells, and replicas agree. And its text determines it, where names and keys are
+/// keys, those of what the opening stands for and of the maps that it keeps among them, and the numbers of stops,
+/// openings and aggregations are as small as their types hold.
 pub fn laws_of_ordered_reports()
     ensures legal { OrdersAreLegal }
     ensures form { OrdersReportInForm }
@@ -17,10 +19,11 @@ pub fn laws_of_ordered_reports()
     ensures left { OrdersLeaveInTheEnd }
 {}
 
-/// Says that such a run of which no line tells of a stop ends as one in which nothing can stop: its report is
-/// legal though the outside failed no region, whichever attempts are taken as resolved; it names no target as
-/// given up; its lines tell of attempts alone, and of each what became of it; and nothing is left to settle at
-/// any target. So what holds of a client that is alone holds of it.
+/// Says that such a run of a script without snapshots and aggregation, over stores without snapshots, of which no
+/// line tells of a stop ends as one in which nothing can stop: its report is legal though the outside failed no
+/// region, whichever attempts are taken as resolved; it names no target as given up; its lines tell of attempts
+/// alone, and of each what became of it; and nothing is left to settle at any target. So what holds of a client that
+/// is alone holds of it.
 pub fn laws_of_unstopped_reports()
     ensures plainly { UnstoppedOrdersEndPlainly }
     ensures lone { UnstoppedOrdersOfLoneClients }

@@ -24,9 +24,9 @@ pub fn laws_of_actors()
     ensures orders { OrdersStay }
 {}
 
-/// Says that turns count the restarts: each number that was drawn has its line, and the lines have them in
-/// order; and that no number of an aggregation is drawn. So it is for a run in an order from a world with
-/// no lines.
+/// Says that turns count restarts and aggregations: each number of a restart that was drawn has its line, and
+/// the lines have the numbers in order; and so have those of aggregations. So it is for a run in an order from
+/// a world with no lines.
 pub fn laws_of_numbers()
     ensures turns { TurnsTellAll }
     ensures orders { OrdersTellAll }

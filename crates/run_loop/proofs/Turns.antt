@@ -29,7 +29,7 @@ target-number actor t message letters kind named few = subst (λ x. message < ma
 
 -- there are few targets
 pub few-targets : {S C : Type 0} (durable : S → Option Durable) (state : S → State) (may : S → Durable → Type 0) (a : StageNow S C) → CanGo durable state may a → length a.targets ≤ 64
-few-targets durable state may a can = let many = can.many in let most = can.simple.few_targets in omega (arith, many, most)
+few-targets durable state may a can = let many = can.many in let most = can.form.few_targets in omega (arith, many, most)
 
 module _ {S C : Type 0} (durable : S → Option Durable) (state : S → State) (may : S → Durable → Type 0) (is_read : C → C → Type 0) (findable : AreFindable durable may) (alike : AreAlike durable) (a b : StageNow S C) (can : CanGo durable state may a) where
   -- an actor's turn leads on, if it comes to its end

@@ -24,7 +24,8 @@ ghost use Rattle.run_laws.specs.turns.Turns.{heard_in};
 ghost use Rattle.vos_store.specs.Calls.{State};
 ghost use Rattle.world_base.specs.declared.world.World.{World};
 ghost use Rattle.world_base.specs.Events.{Rules};
-ghost use Rattle.world_plain.specs.whole.Begins.{IsBegun, IsSimple};
+ghost use Rattle.run_laws.specs.shows.Beginning.{RunBegins};
+ghost use Rattle.run_laws.specs.turns.Drawn.{AreDrawn};
 
 use base_messages::actor::ActorId;
 use base_outside::clock::Clock;
@@ -220,7 +221,7 @@ pub fn run_in_order<R: Wait, S: Fuse, C: Clock, G: Gate>(
 ) -> (Vec<Target<S, C>>, Watch, Result<Lines, Memory>)
     requires going { CanGo S.durable S.state S.may (stage_now stage) }
     requires few_clients { length stage.clients.items ≤ 65535 }
-    ensures run { (r : Rules) (w : World) (o : Opening) → IsSimple r → IsBegun r o w → ((found : ℕ → Durable) → Shows S.durable S.state r found (stage_now stage) w)
+    ensures run { (r : Rules) (w : World) (o : Opening) → RunBegins r o w → AreDrawn w → ((found : ℕ → Durable) → Shows S.durable S.state r found (stage_now stage) w)
         → IfOk result.2 (λ lines. HasRunWith S.durable S.state S.may r order w (left_of result.0.items result.1 lines)) }
     ensures broke { IfErr result.2 (λ error. Breaks S.durable S.state S.may (stage_now stage) result.0.items) }
     ensures served { AreServed S.durable S.state C.is_read stage.targets.items result.0.items }

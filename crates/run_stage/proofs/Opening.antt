@@ -20,9 +20,9 @@ use Rattle.vos_store.specs.Refusals.{says}
 use Rattle.world_base.specs.declared.did.Did.{Did}
 use Rattle.world_base.specs.declared.target.Life.TheVariants.{Stopped}
 use Rattle.world_base.specs.Letters.{target}
-use Rattle.world_ended.specs.Asking.{Asked, LeavesWith}
+use Rattle.world_ended.specs.Asking.{Asked, TurnLeavesWith}
 use Rattle.world_letters.specs.kinds.PostLaws.{CarryNone}
-use Rattle.world_contents.specs.posts.Forms.{Follows}
+use Rattle.world_contents.specs.posts.Forms.{TurnFollows}
 
 -- what holds where a call fails holds where it may fail
 pub on-err : {T E : Type 0} (P : Type 0) (result : Result T E) → P → OnErr result P
@@ -59,7 +59,7 @@ module _ {S C : Type 0} (durable : S → Option Durable) (state : S → State) (
 module _ {S C : Type 0} (durable : S → Option Durable) (state : S → State) (may : S → Durable → Type 0) (t number : ℕ) (x y : TargetOf S C) (said : Result Did TargetStop) (w : WatchNow) (a b : StageNow S C)
     (place : IsPlace a t x Stopped) (tried : w ≡ opening_tried a.watch) (few : w.openings < 2 ^ 32) (numbered : number ≡ w.restarts) (plan : y.plan ≡ x.plan) (clock : y.clock ≡ x.clock) (opens : Reopens said (state x.store) (state y.store) (durable x.store) (durable y.store))
     (turn : ForSome (durable x.store) (λ d. IfOk said (OpensAs x.plan number (may x.store) (durable y.store) (state y.store) y.memory))) (left : Left (may x.store) (may y.store)) (bare : IfErr said IsBare) (native : IsSome (durable x.store) → says stop_foreign said ≡ false)
-    (posts : IfOk said (λ did. Follows x.plan.targets y.memory.leader did.posts)) (line : IfOk said (TellsRestart number x.plan.me)) (reads : IfOk said (λ did. CarryNone did.posts)) (ends-so : (asked : Asked) → IfOk said (λ did. LeavesWith asked y.memory.leader did.posts)) (fresh : is_ok said ≡ true → y.memory.member.parked ≡ []) (opened : y.opened ≡ is_ok said) where
+    (posts : IfOk said (λ did. TurnFollows x.plan.targets y.memory did.posts)) (line : IfOk said (TellsRestart number x.plan.me)) (reads : IfOk said (λ did. CarryNone did.posts)) (ends-so : (asked : Asked) → IfOk said (λ did. TurnLeavesWith asked y.memory did.posts)) (fresh : is_ok said ≡ true → y.memory.member.parked ≡ []) (opened : y.opened ≡ is_ok said) where
   abbrev was-reopened : WasReopened durable state may t a
   was-reopened =
       let next = numbered ∙ ap (λ v. v.restarts) tried in

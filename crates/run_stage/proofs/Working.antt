@@ -10,14 +10,15 @@ use Rattle.daos_model.specs.declared.durable.Durable.{Durable}
 use Rattle.run_base.specs.Letters.{BetweenNow, IsPicked}
 use Rattle.run_laws.specs.shows.Ends.{LettersGoWith}
 use Rattle.run_laws.specs.shows.Kinds.{TurnsOnce}
-use Rattle.world_ended.specs.Asking.{Asked, EndsAsked}
+use Rattle.world_ended.specs.Asking.{Asked, TurnsEndAsked}
 use Rattle.run_laws.specs.shows.Stages.{IsPlace, StageNow}
 use Rattle.run_laws.specs.shows.Steps.{ClientWorks, Cut, HasWorked, HeardOne, InWork, TargetBroke, TargetWorked, Whole, WorkEnds}
 use Rattle.run_laws.specs.shows.Turned.{AfterCut, IsTurned, followed, swept_stage, with_between, with_target_at}
 use Rattle.target_core.specs.Targets.{TargetOf}
 use Rattle.target_parts.specs.Parts.{Runs}
+use Rattle.target_snaps.specs.Following.{TellsNoAttempt}
 use Rattle.target_parts.specs.Readings.{IsReadOn}
-use Rattle.target_parts.specs.Stops.{IsSilent, stop_store}
+use Rattle.target_parts.specs.Stops.{stop_store}
 use Rattle.target_parts.specs.declared.stop.TargetStop.{TargetStop}
 use Rattle.vos_store.specs.Calls.{State}
 use Rattle.world_base.specs.declared.did.Did.{Did}
@@ -25,7 +26,7 @@ use Rattle.world_base.specs.declared.letter.Letter.{Letter}
 use Rattle.world_base.specs.declared.target.Life.TheVariants.{Running}
 use Rattle.world_base.specs.ClientTurns.{HearTurn}
 use Rattle.world_base.specs.Letters.{client, target}
-use Rattle.world_contents.specs.posts.Forms.{PostsInForm}
+use Rattle.world_contents.specs.posts.Forms.{TurnsPostInForm}
 
 abbrev between : List Letter → List Letter → List (AttemptId × Epoch) → List Line → BetweenNow
 between messages asked issued lines = record { messages = messages; asked = asked; issued = issued; lines = lines }
@@ -44,11 +45,11 @@ heard-one (Ok did) n number c d b left l awake picked only turn = HeardOne l lef
 heard-one (Err e) n number c d b left l awake picked only turn = tt
 
 module _ {S C : Type 0} (durable : S → Option Durable) (state : S → State) (may : S → Durable → Type 0) (is_read : C → C → Type 0) (settling : Bool) (t number : ℕ) (x y : TargetOf S C) (left : BetweenNow) (said : Result Did TargetStop) (a b : StageNow S C)
-    (place : IsPlace a t x Running) (plan : y.plan ≡ x.plan) (opened : y.opened ≡ true) (runs : Runs stop_store said (state x.store) (state y.store) (durable x.store) (durable y.store)) (silent : IsSilent said) (clock : IsReadOn is_read x.clock y.clock)
-    (posts : IfOk said (λ did. PostsInForm x.plan.targets x.memory.leader y.memory.leader did.posts)) (once : IfOk said (TurnsOnce a.between left x.memory.member y.memory.member))
-    (ends-so : (asked : Asked) → LettersGoWith asked a.between.messages → IfOk said (λ did. EndsAsked asked x.memory.leader y.memory.leader did.posts)) (turned : IsTurned durable state may settling t number x y a.between left said) where
+    (place : IsPlace a t x Running) (plan : y.plan ≡ x.plan) (opened : y.opened ≡ true) (runs : Runs stop_store said (state x.store) (state y.store) (durable x.store) (durable y.store)) (told : TellsNoAttempt said) (clock : IsReadOn is_read x.clock y.clock)
+    (posts : IfOk said (λ did. TurnsPostInForm x.plan.targets x.memory y.memory did.posts)) (once : IfOk said (TurnsOnce a.between left x.memory.member y.memory.member))
+    (ends-so : (asked : Asked) → LettersGoWith asked a.between.messages → IfOk said (λ did. TurnsEndAsked asked x.memory y.memory did.posts)) (turned : IsTurned durable state may settling t number x y a.between left said) where
   abbrev has-worked : HasWorked durable state may is_read settling t number a
-  has-worked = record { before = x; now = y; left = left; result = said; place = place; plan = plan; opened = opened; runs = runs; silent = silent; clock = clock; posts = posts; once = once; ends = ends-so; turned = turned }
+  has-worked = record { before = x; now = y; left = left; result = said; place = place; plan = plan; opened = opened; runs = runs; told = told; clock = clock; posts = posts; once = once; ends = ends-so; turned = turned }
 
   worked : WorkEnds durable state may t x y left a b said → TargetWorked durable state may is_read settling t number a b
   worked ends = record { work = has-worked; ends = ends }

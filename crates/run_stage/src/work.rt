@@ -1,24 +1,25 @@
 // The turns of targets that run.
-ghost use Rattle.std.specs.Prelude.{◌≡◌, ◌<◌, ◌≤◌, Bool, List, max, true, false, length, slice_get, IfOk, OnErr, OnOk, Some};
+ghost use Rattle.std.specs.Prelude.{◌≡◌, ◌<◌, ◌≤◌, Bool, List, max, true, false, length, slice_get, IfErr, IfOk, OnErr, OnOk, Some};
 ghost use Rattle.run_base.specs.Letters.{IsPicked};
 ghost use Rattle.run_base.specs.Picks.{count_to};
 ghost use Rattle.run_laws.specs.shows.Accounts.{AreServed};
 ghost use Rattle.run_laws.specs.shows.CanGo.{CanTurn, IsHearable};
 ghost use Rattle.run_laws.specs.shows.Ends.{LettersGoWith};
 ghost use Rattle.run_laws.specs.shows.Kinds.{TurnsOnce};
-ghost use Rattle.world_ended.specs.Asking.{Asked, EndsAsked};
+ghost use Rattle.world_ended.specs.Asking.{Asked, TurnsEndAsked};
 ghost use Rattle.run_laws.specs.shows.Steps.{TargetBroke, TargetWorked};
 ghost use Rattle.run_laws.specs.shows.Turned.{IsTurned};
 ghost use Rattle.run_stage.specs.Now.{stage_now};
 ghost use Rattle.target_core.specs.Targets.{TargetOf};
 ghost use Rattle.target_parts.specs.Parts.{Runs};
 ghost use Rattle.target_parts.specs.Readings.{IsReadOn};
-ghost use Rattle.target_parts.specs.Stops.{IsSilent, stop_foreign, stop_store};
+ghost use Rattle.target_parts.specs.Stops.{stop_foreign, stop_store};
+ghost use Rattle.target_snaps.specs.Following.{TellsNoAttempt};
 ghost use Rattle.vos_store.specs.Refusals.{says};
 ghost use Rattle.world_base.specs.declared.letter.Letter.{Letter};
 ghost use Rattle.world_base.specs.declared.target.Life.{Life};
 ghost use Rattle.world_base.specs.Letters.{target};
-ghost use Rattle.world_contents.specs.posts.Forms.{PostsInForm};
+ghost use Rattle.world_contents.specs.posts.Forms.{TurnsPostInForm};
 
 use crate::stage::Stage;
 use crate::turns::target_id;
@@ -30,36 +31,38 @@ use target_parts::stop::TargetStop;
 use vos_store::store::{Fuse, Store};
 use world_base::did::Did;
 
-// A turn of a target that runs: where messages are in flight to it, it hears the one of this number; else it does its idle work.
+// A turn of a target that runs: where messages are in flight to it, it hears the one of this number; else it does its idle work. It isn't
+// begun where there are more aggregations than numbers, which is told as want of memory.
 fn hear_or_idle<S: Store, C: Clock>(
     host: &mut Target<S, C>,
     between: &mut Between,
     t: usize,
     number: usize,
     settling: bool,
-) -> Result<Did, TargetStop>
+) -> Result<Result<Did, TargetStop>, Memory>
     requires few { t < 65536 }
     requires number { number < max 1 (count_to (target t) between.old.messages) }
     requires opened { host.old.opened ≡ true }
     requires running { (S.state host.old.store).stopped ≡ false }
     requires letters { (l : Letter) (rest : List Letter) → IsPicked between.old.messages (target t) number l rest → IsHearable S.durable host.old l }
-    ensures turned { IsTurned S.durable S.state S.may settling t number host.old host.new between.old between.new result }
+    ensures turned { IfOk result (IsTurned S.durable S.state S.may settling t number host.old host.new between.old between.new) }
     ensures plan { host.new.plan ≡ host.old.plan }
     ensures opened { host.new.opened ≡ true }
-    ensures runs { Runs stop_store result (S.state host.old.store) (S.state host.new.store) (S.durable host.old.store) (S.durable host.new.store) }
+    ensures runs { IfOk result (λ said. Runs stop_store said (S.state host.old.store) (S.state host.new.store) (S.durable host.old.store) (S.durable host.new.store)) }
     ensures clock { IsReadOn C.is_read host.old.clock host.new.clock }
-    ensures native { says stop_foreign result ≡ false }
-    ensures silent { IsSilent result }
-    ensures posts { IfOk result (λ did. PostsInForm host.old.plan.targets host.old.memory.leader host.new.memory.leader did.posts) }
-    ensures once { IfOk result (TurnsOnce between.old between.new host.old.memory.member host.new.memory.member) }
-    ensures ends { (asked : Asked) → LettersGoWith asked between.old.messages → IfOk result (λ did. EndsAsked asked host.old.memory.leader host.new.memory.leader did.posts) }
+    ensures native { IfOk result (λ said. says stop_foreign said ≡ false) }
+    ensures told { IfOk result TellsNoAttempt }
+    ensures posts { IfOk result (λ said. IfOk said (λ did. TurnsPostInForm host.old.plan.targets host.old.memory host.new.memory did.posts)) }
+    ensures once { IfOk result (λ said. IfOk said (TurnsOnce between.old between.new host.old.memory.member host.new.memory.member)) }
+    ensures ends { (asked : Asked) → LettersGoWith asked between.old.messages → IfOk result (λ said. IfOk said (λ did. TurnsEndAsked asked host.old.memory host.new.memory did.posts)) }
+    ensures unbegun { IfErr result (λ e. host.new ≡ host.old) }
 {
-    if between.count_to(target_id(t)) > 0 {
-        let letter = between.take(target_id(t), number);
-        host.hear(letter.from, letter.message, None)
-    } else {
-        host.idle(settling)
+    if between.count_to(target_id(t)) == 0 {
+        return Ok(host.idle(settling));
     }
+    let letter = between.take(target_id(t), number);
+    let aggregation = between.number_for(&letter.message)?;
+    Ok(host.hear(letter.from, letter.message, aggregation))
 }
 
 impl<S: Fuse, C: Clock> Stage<S, C> {
@@ -76,7 +79,8 @@ impl<S: Fuse, C: Clock> Stage<S, C> {
         ensures served { AreServed S.durable S.state C.is_read self.old.targets.items self.new.targets.items }
     {
         let before = self.targets[t].faults();
-        match hear_or_idle(&mut self.targets[t], &mut self.between, t, number, settling) {
+        let said = hear_or_idle(&mut self.targets[t], &mut self.between, t, number, settling)?;
+        match said {
             Ok(did) => self.follow(target_id(t), did),
             Err(stop) => self.cut(t, before, stop),
         }

@@ -15,11 +15,11 @@ use Rattle.daos_model.specs.declared.durable.Durable.{Durable}
 use Rattle.run_base.specs.Letters.{BetweenNow}
 use Rattle.run_laws.specs.ends.Armed.{armed-accounted, armed-first, before-fuse, fuses-serve, fuses-started, fuses-tell, states_of, told-fuse}
 use Rattle.run_laws.specs.ends.Arming.{AreArmed, AreUnfused}
-use Rattle.run_laws.specs.ends.Begun.{IsFirstWatch, can-go, first_stage, first_world, is-begun, nothing, shows-first}
+use Rattle.run_laws.specs.ends.Begun.{IsFirstWatch, can-go, first-drawn, first_stage, nothing, run-begins, shows-first}
 use Rattle.run_laws.specs.ends.Comes.{BreaksOffSo, ComesTo, report_with}
 use Rattle.run_laws.specs.ends.Keeping.{all-tell, breaks-off}
 use Rattle.run_laws.specs.ends.Ending.{comes-to}
-use Rattle.run_laws.specs.ends.Starts.{AllTell, HaveStarted, given_by, stores_of}
+use Rattle.run_laws.specs.ends.Starts.{AllTell, HaveStarted, first_world, given_by, stores_of}
 use Rattle.run_laws.specs.ends.Reports.{AreTyped}
 use Rattle.run_laws.specs.shows.Ends.{EndsGoOn}
 use Rattle.run_laws.specs.shows.EndsLaws.{ends-first}
@@ -39,7 +39,8 @@ use Rattle.vos_store.specs.Calls.{State}
 use Rattle.world_base.specs.declared.world.World.{World}
 use Rattle.world_base.specs.Events.{Rules}
 use Rattle.world_plain.specs.ends.Ends.{rules_of}
-use Rattle.world_plain.specs.whole.Begins.{IsBegun, IsSimple}
+use Rattle.run_laws.specs.shows.Beginning.{RunBegins}
+use Rattle.run_laws.specs.turns.Drawn.{AreDrawn}
 
 nothing-is : (b : BetweenNow) → b.messages ≡ [] → b.asked ≡ [] → b.issued ≡ [] → b.lines ≡ [] → b ≡ nothing
 nothing-is b messages asked issued lines =
@@ -122,7 +123,7 @@ module _ {S C Z : Type 0} (durable : S → Option Durable) (state : S → State)
     pub ends-begin : EndsGoOn (rules_of g) stage
     ends-begin =
         ends-first (rules_of g) stage answers-begin (λ n c at. first durable state g stage v.items started n c at)
-        (λ t y at. ap (λ m. m.undecided) (begins.each t y (ap (λ zs. slice_get zs t) (sym put) ∙ at)).leader) messages asked none
+        (λ t y at. let s = begins.each t y (ap (λ zs. slice_get zs t) (sym put) ∙ at) in (ap (λ m. m.undecided) s.leader, s.makes)) messages asked none
 
     pub goes : AreAlike durable → CanGo durable state may stage
     goes alike = subst (CanGo durable state may) (sym stage-is) (can-go durable state g cs armed begins may now is-first alike)
@@ -145,11 +146,11 @@ module _ {S C Z : Type 0} (durable : S → Option Durable) (state : S → State)
       armed-told = fuses-tell durable state may v.items armed fuses.fuses told
 
       module _ {E : Type 0} (ran : Result (List Line) E) (found-lines : List Line) (is : ran ≡ Ok found-lines) where
-        has-run : ((r : Rules) (first : World) (p : Opening) → IsSimple r → IsBegun r p first → ((found : ℕ → Durable) → Shows durable state r found stage first) → IfOk ran (λ ls. HasRunWith durable state may r j.order first (left_of rest.items in_the_end ls)))
+        has-run : ((r : Rules) (first : World) (p : Opening) → RunBegins r p first → AreDrawn first → ((found : ℕ → Durable) → Shows durable state r found stage first) → IfOk ran (λ ls. HasRunWith durable state may r j.order first (left_of rest.items in_the_end ls)))
             → HasRunWith durable state may (rules_of (given_by s j o)) j.order (first_world durable state cs armed) (left_of rest.items in_the_end found-lines)
         has-run run =
             subst (λ z. IfOk z (λ ls. HasRunWith durable state may (rules_of (given_by s j o)) j.order (first_world durable state cs armed) (left_of rest.items in_the_end ls))) is
-            (run (rules_of (given_by s j o)) (first_world durable state cs armed) o started.simple (is-begun durable state (given_by s j o) cs armed (begins o started) armed-told)
+            (run (rules_of (given_by s j o)) (first_world durable state cs armed) o (run-begins durable state (given_by s j o) cs armed (begins o started) armed-told) (first-drawn durable state (given_by s j o) cs armed (begins o started))
             (λ found. subst (λ a. Shows durable state (rules_of (given_by s j o)) found a (first_world durable state cs armed)) (sym stage-is) (shows-first durable state (given_by s j o) cs armed (begins o started) armed-told now is-first found)))
 
         accounted : ((h : ℕ → State) (some : List StopDecl) → AreAccounted durable state h some stage → IfOk ran (λ ls. AreAccounted durable state h some (left_of rest.items in_the_end ls))) → AreAccounted durable state (states_of state v.items) s.stops (left_of rest.items in_the_end found-lines)
@@ -159,10 +160,10 @@ module _ {S C Z : Type 0} (durable : S → Option Durable) (state : S → State)
 
         -- the run came to that
         pub comes : AreSteady durable state may → AreFindable durable may → AreAlike durable
-            → ((r : Rules) (first : World) (p : Opening) → IsSimple r → IsBegun r p first → ((found : ℕ → Durable) → Shows durable state r found stage first) → IfOk ran (λ ls. HasRunWith durable state may r j.order first (left_of rest.items in_the_end ls)))
+            → ((r : Rules) (first : World) (p : Opening) → RunBegins r p first → AreDrawn first → ((found : ℕ → Durable) → Shows durable state r found stage first) → IfOk ran (λ ls. HasRunWith durable state may r j.order first (left_of rest.items in_the_end ls)))
             → ((h : ℕ → State) (some : List StopDecl) → AreAccounted durable state h some stage → IfOk ran (λ ls. AreAccounted durable state h some (left_of rest.items in_the_end ls)))
-            → IfOk ran (λ ls. AllCanReopen durable state may rest.items) → (q : Report) → q ≡ report_with s found-lines → AreTyped found-lines → j.attempts ≤ 256 → ComesTo durable state may (given_by s j o) (stores_of v.items) (stores_of (with_items rest ys).items) q
-        comes steady findable alike run accounts reopens q report typed byte =
+            → IfOk ran (λ ls. AllCanReopen durable state may rest.items) → (q : Report) → q ≡ report_with s found-lines → AreTyped found-lines → ComesTo durable state may (given_by s j o) (stores_of v.items) (stores_of (with_items rest ys).items) q
+        comes steady findable alike run accounts reopens q report typed =
             subst (ComesTo durable state may (given_by s j o) (stores_of v.items) (stores_of (with_items rest ys).items)) (sym report)
             (subst (λ zs. ComesTo durable state may (given_by s j o) (stores_of v.items) (stores_of zs) (report_with s found-lines)) (sym (put-is durable state may rest left ys those gone))
             (comes-to durable state may steady findable alike (given_by s j o) cs v.items ys found-lines started told
@@ -178,7 +179,7 @@ module _ {S C Z : Type 0} (durable : S → Option Durable) (state : S → State)
               reopens = subst (λ z. IfOk z (λ ls. AllCanReopen durable state may rest.items)) is reopens;
               unfused = subst (λ zs. AreUnfused durable state may zs ys) those gone;
             })
-            typed byte))
+            typed))
 
       -- memory was wanting in it
       pub breaks-late : {T E : Type 0} (ran : Result T E) (error : E) → ran ≡ Err error → AreSteady durable state may → AreAlike durable → IfErr ran (λ e. Breaks durable state may stage rest.items)

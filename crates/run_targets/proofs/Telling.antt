@@ -3,6 +3,7 @@ use Rattle.std.specs.Prelude.{ℕ, ◌≡◌, List, [], length, slice_get, Optio
 use Rattle.std.proofs.Common.{sym, ◌∙◌, ap, subst}
 use Rattle.base_types.specs.declared.report.Line.{Line}
 use Rattle.base_types.specs.declared.report.Report.{Report}
+use Rattle.base_types.specs.declared.script.Command.{Command}
 use Rattle.base_types.specs.declared.script.Script.{Script}
 use Rattle.client_core.specs.Clients.{ClientNow}
 use Rattle.daos_model.specs.FormLaws.{length-map}
@@ -21,18 +22,19 @@ use Rattle.vos_store.specs.Calls.{State}
 use Rattle.world_plain.specs.ends.Ends.{rules_of}
 use Rattle.world_ended.specs.Clients.{AllEndWell}
 use Rattle.world_letters.specs.kinds.Fitting.{AllAnswersFit}
-use Rattle.world_plain.specs.whole.Begins.{first_client}
+use Rattle.world_base.specs.ClientTurns.{at_first}
+use Rattle.world_plain.specs.whole.Begins.{first_tracker}
 
 module _ {S C : Type 0} (durable : S → Option Durable) (state : S → State) (g : Given) (a : StageNow S C) (xs : List (TargetOf S C)) (started : HaveStarted durable state g a.clients xs) where
   pub first : (n : ℕ) (c : ClientNow) → slice_get a.clients n ≡ Some c → (c.state.place ≡ 0) × (c.state.command ≡ 0) × (c.state.present ≡ None)
   first n c at =
-      let x = from-map (first_client g.script g.opening) g.script.clients n c.state (ap (λ cs. slice_get cs n) (sym started.those.states) ∙ map-get state_of a.clients n c at) in
+      let x = from-map (λ (list : List Command). at_first g.script started.those.held (first_tracker g.opening)) g.script.clients n c.state (ap (λ cs. slice_get cs n) (sym started.those.states) ∙ map-get state_of a.clients n c at) in
       (ap (λ z. z.place) x.is, ap (λ z. z.command) x.is, ap (λ z. z.present) x.is)
 
   -- nothing was told of clients before their first turns
   pub told-first : a.between.lines ≡ [] → TellInTurn (rules_of g) a
   told-first none =
-      tells-first (rules_of g) a started.simple.some_attempt (sym (length-map state_of a.clients) ∙ ap length started.those.states ∙ length-map (first_client g.script g.opening) g.script.clients) started.those.plans first none
+      tells-first (rules_of g) a started.form.some_attempt (sym (length-map state_of a.clients) ∙ ap length started.those.states ∙ length-map (λ (list : List Command). at_first g.script started.those.held (first_tracker g.opening)) g.script.clients) started.those.plans first none
 
   -- and the report of a run tells of them in turn
   pub told-last : {E : Type 0} (ran : Result (List Line) E) (lines : List Line) (report : Report) → a.between.lines ≡ [] → (TellInTurn (rules_of g) a → IfOk ran (AllBeginInTurn g.job.attempts g.script)) → ran ≡ Ok lines → report ≡ report_with g.script lines

@@ -24,6 +24,9 @@ fn read_numbers(line: &Line)
             let _number = *number;
             let _incarnation = *incarnation;
         }
+        Line::Aggregate { number, .. } => {
+            let _number = *number;
+        }
         _ => {}
     }
 }

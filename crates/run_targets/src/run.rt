@@ -46,7 +46,6 @@ pub fn run_targets<R: Wait, S: Fuse, C: Clock, G: Gate>(
     gate: &G,
 ) -> (Vec<Target<S, C>>, Result<Report, Memory>)
     requires started { (o : Opening) × HaveStarted S.durable S.state (given_by script.now job.now o) clients.items targets.items }
-    requires most { job.now.attempts ≤ 256 }
     ensures comes { (o : Opening) → HaveStarted S.durable S.state (given_by script.now job.now o) clients.items targets.items → AllTell S.durable (stores_of targets.items)
         → IfOk result.1 (ComesTo S.durable S.state S.may (given_by script.now job.now o) (stores_of targets.items) (stores_of result.0.items)) }
     ensures broke { (o : Opening) → HaveStarted S.durable S.state (given_by script.now job.now o) clients.items targets.items → AllTell S.durable (stores_of targets.items)

@@ -1,11 +1,12 @@
 -- Targets before their first turns, whose fuses were set.
-use Rattle.std.specs.Prelude.{ℕ, ◌≡◌, ◌≤◌, ◌+◌, true, false, nat_lt, List, [], length, slice_get, Option, Some, None, is_some}
+use Rattle.std.specs.Prelude.{ℕ, ◌≡◌, ◌≤◌, ◌+◌, true, false, nat_lt, List, [], length, map, slice_get, Option, Some, None, is_some}
 use Rattle.std.proofs.Common.{inr, sym, ◌∙◌, ap, subst, arith}
 use Rattle.std.proofs.lemmas.Option.{slice_get_within}
 use Rattle.base_types.specs.declared.outcome.FloorWhy.TheVariants as floor
 use Rattle.base_types.specs.declared.script.StopDecl.{StopDecl}
 use Rattle.client_core.specs.Clients.{ClientNow}
 use Rattle.daos_model.specs.declared.durable.Durable.{Durable}
+use Rattle.daos_model.specs.FormLaws.{length-map}
 use Rattle.daos_model.specs.Opening.{Given}
 use Rattle.model_laws.specs.Members.{has-from_contains}
 use Rattle.run_laws.specs.shows.Accounts.{AreAccounted, AreServed, one_if, stop_lines_of}
@@ -21,8 +22,8 @@ use Rattle.world_plain.specs.whole.Begins.{StartsWith}
 use Rattle.run_laws.specs.ends.Arming.{AreArmed, HaveFuses, lines_left}
 use Rattle.run_laws.specs.ends.Begun.{IsFirstWatch, first_stage, told-there}
 use Rattle.run_laws.specs.ends.FuseLaws.{taken-left}
-use Rattle.run_laws.specs.ends.Places.{from-map, replicate-at}
-use Rattle.run_laws.specs.ends.Starts.{AllTell, HasStarted, HaveStarted, KeepsAtFirst, stores_of, target_state}
+use Rattle.run_laws.specs.ends.Places.{from-map, replicate-at, same-lists}
+use Rattle.run_laws.specs.ends.Starts.{AllTell, BeginsSo, HasStarted, HaveStarted, first_world, or_empty, state_now, stores_of, target_state}
 
 -- ---- what stores say of themselves
 
@@ -55,9 +56,6 @@ module _ {S C : Type 0} (durable : S → Option Durable) (state : S → State) (
         ap (λ h. record { durable = d; free = h.free; opening = h.opening; life = Running; memory = y.memory }) f.state_is.rest
         ∙ ap (λ m. record { durable = d; free = (state x.store).free; opening = (state x.store).opening; life = Running; memory = m }) f.memory
 
-    fuse-kept : (g : Given) (t : ℕ) (d : Durable) → KeepsAtFirst durable state g t x d → KeepsAtFirst durable state g t y d
-    fuse-kept g t d k = record { starts = subst (StartsWith g.script.targets t g.opening) (sym (state-stays d)) k.starts; enlisted = k.enlisted; seldom = k.seldom }
-
     fuse-started : (g : Given) (t : ℕ) → HasStarted durable state g t x → HasStarted durable state g t y
     fuse-started g t k = record {
       plan = f.plan ∙ k.plan;
@@ -65,7 +63,8 @@ module _ {S C : Type 0} (durable : S → Option Durable) (state : S → State) (
       running = ap (λ h. h.stopped) f.state_is.rest ∙ k.running;
       leader = ap (λ m. m.leader) f.memory ∙ k.leader;
       waits = ap (λ m. m.member.parked) f.memory ∙ k.waits;
-      kept = λ d is. fuse-kept g t d (k.kept d (sym f.kept ∙ is));
+      makes = ap (λ m. m.collecting) f.memory ∙ k.makes;
+      seldom = λ d is. k.seldom d (sym f.kept ∙ is);
     }
 
   -- ---- all targets
@@ -75,13 +74,35 @@ module _ {S C : Type 0} (durable : S → Option Durable) (state : S → State) (
     pub before-fuse : (t : ℕ) (y : TargetOf S C) → slice_get ys t ≡ Some y → (x : TargetOf S C) × (slice_get xs t ≡ Some x)
     before-fuse t y at = at-both ys xs t y (sym fuses.many) at
 
+    -- and so is the first world
+    same-now : (t : ℕ) (x y : TargetOf S C) → slice_get xs t ≡ Some x → slice_get ys t ≡ Some y → state_now durable state y ≡ state_now durable state x
+    same-now t x y here there =
+        let f = fuses.each t x y here there in
+        ap (λ o. target_state durable state y (or_empty o)) f.kept ∙ state-stays (write t) x y f (or_empty (durable x.store))
+
+    pub same-first : (cs : List ClientNow) → first_world durable state cs xs ≡ first_world durable state cs ys
+    same-first cs =
+        ap (λ ts. record (first_world durable state cs xs) { targets = ts })
+        (same-lists (map (state_now durable state) xs) (map (state_now durable state) ys) (length-map (state_now durable state) xs ∙ sym fuses.many ∙ sym (length-map (state_now durable state) ys))
+        (λ t a b at there.
+        let x = from-map (state_now durable state) xs t a at in
+        let y = from-map (state_now durable state) ys t b there in
+        x.is ∙ sym (same-now t x.of_it y.of_it x.at y.at) ∙ sym y.is))
+
+    -- what is told once fuses were set was told before
+    untell : AllTell durable (stores_of ys) → AllTell durable (stores_of xs)
+    untell told t s there =
+        let x = from-map (λ z. z.store) xs t s there in
+        let y = at-both xs ys t x.of_it fuses.many x.at in
+        ap (λ z. is_some (durable z)) x.is ∙ sym (ap is_some (fuses.each t x.of_it y.0 x.at y.1).kept) ∙ told-there durable ys told t y.0 y.1
+
     pub fuses-started : (g : Given) (cs : List ClientNow) → HaveStarted durable state g cs xs → HaveStarted durable state g cs ys
     fuses-started g cs k = record {
-      simple = k.simple;
-      plain = k.plain;
+      form = k.form;
       those = k.those;
       many = fuses.many ∙ k.many;
       each = λ t y there. let x = before-fuse t y there in let f = fuses.each t x.0 y x.1 there in fuse-started (write t) x.0 y f g t (k.each t x.0 x.1);
+      so = λ told. subst (BeginsSo g) (same-first cs) (k.so (untell told));
     }
 
     pub fuses-tell : AllTell durable (stores_of xs) → AllTell durable (stores_of ys)

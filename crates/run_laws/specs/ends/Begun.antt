@@ -2,13 +2,14 @@
 use Rattle.std.specs.Prelude.{ℕ, ◌≡◌, ◌≤◌, ◌+◌, ◌^◌, true, List, [], length, map, replicate, slice_get, Option, Some, None, is_some, refl}
 use Rattle.std.proofs.Common.{sym, ◌∙◌, ap, subst, arith}
 use Rattle.std.proofs.lemmas.Bool.{true≢false}
+use Rattle.base_types.specs.declared.script.Command.{Command}
 use Rattle.client_core.specs.Clients.{ClientNow}
 use Rattle.daos_model.specs.declared.durable.Durable.{Durable}
 use Rattle.daos_model.specs.Durables.{empty_durable}
 use Rattle.daos_model.specs.FormLaws.{length-map}
 use Rattle.daos_model.specs.Opening.{Given}
 use Rattle.model_laws.specs.Lists.{length-replicate}
-use Rattle.model_laws.specs.Members.{has-from_contains}
+use Rattle.model_laws.specs.Members.{Has, has-from_contains}
 use Rattle.run_base.specs.Letters.{BetweenNow}
 use Rattle.run_base.specs.Sweeps.{lives_of}
 use Rattle.run_laws.specs.shows.CanGo.{CanGo}
@@ -21,22 +22,23 @@ use Rattle.target_core.specs.Targets.{TargetOf}
 use Rattle.vos_store.specs.Calls.{State}
 use Rattle.world_base.specs.declared.target.Life.{Life}
 use Rattle.world_base.specs.declared.target.Life.TheVariants.{Running}
+use Rattle.world_base.specs.declared.client.ClientState.{ClientState}
+use Rattle.world_base.specs.declared.target.TargetMemory.{TargetMemory}
 use Rattle.world_base.specs.declared.target.TargetState.{TargetState}
 use Rattle.world_base.specs.declared.world.World.{World}
 use Rattle.world_base.specs.Events.{target_plan}
 use Rattle.world_base.specs.Stops.{Begins}
 use Rattle.world_plain.specs.ends.Ends.{rules_of}
-use Rattle.world_contents.specs.posts.Forms.{ClientsWait}
-use Rattle.world_plain.specs.whole.Begins.{AreEnlisted, IsBegun, StartsWith, no_leading}
+use Rattle.world_contents.specs.posts.Forms.{ClientsAwait, ClientsWait}
+use Rattle.world_plain.specs.whole.Begins.{first_tracker, no_leading}
+use Rattle.world_plain.specs.whole.KnownSnapshots.{ReadsKnown, reads-known-begin}
+use Rattle.world_base.specs.ClientTurns.{at_first}
 use Rattle.run_laws.specs.ends.Places.{from-map, maps-replicate, one-there, replicate-at}
-use Rattle.run_laws.specs.ends.Starts.{AllTell, HaveStarted, KeepsAtFirst, stores_of, target_state}
+use Rattle.run_laws.specs.shows.Beginning.{RunBegins}
+use Rattle.run_laws.specs.turns.Drawn.{AreDrawn}
+use Rattle.run_laws.specs.ends.Starts.{AllTell, AreFirst, HaveStarted, first_world, or_empty, state_now, stores_of}
 
 -- ---- what stores tell
-
--- what a store tells that it keeps; where it tells nothing, nothing is kept
-abbrev pub or_empty : Option Durable → Durable
-or_empty None = empty_durable 1
-or_empty (Some d) = d
 
 pub told-is : (o : Option Durable) → is_some o ≡ true → o ≡ Some (or_empty o)
 told-is None h = absurd (true≢false (sym h))
@@ -59,21 +61,25 @@ first_stage cs xs watch = record { clients = cs; targets = xs; watch = watch; be
 abbrev pub IsFirstWatch : ℕ → WatchNow → Type 0
 IsFirstWatch targets watch = watch ≡ first_watch targets watch.stops
 
-none-waits : ClientsWait no_leading
-none-waits u c i is = absurd i
+-- a client that is before its first turn is at no attempt
+first-state : (g : Given) (cs : List ClientNow) → AreFirst g cs → (n : ℕ) (c : ClientNow) → slice_get cs n ≡ Some c → c.state.present ≡ None
+first-state g cs those n c at =
+    let x = from-map (λ (list : List Command). at_first g.script those.held (first_tracker g.opening)) g.script.clients n c.state (ap (λ ss. slice_get ss n) (sym those.states) ∙ map-get state_of cs n c at) in
+    ap (λ (s : ClientState). s.present) x.is
+
+none-waits : (m : TargetMemory) → m.leader ≡ no_leading → m.collecting ≡ [] → ClientsAwait m
+none-waits m idle nothing = record { attempts = subst ClientsWait (sym idle) (λ u c i is. absurd i); collections = λ n i. absurd (subst (Has n) nothing i) }
 
 module _ {S C : Type 0} (durable : S → Option Durable) (state : S → State) where
-  -- a target, as it is in a world
-  abbrev pub state_now : TargetOf S C → TargetState
-  state_now x = target_state durable state x (or_empty (durable x.store))
-
-  -- the world of clients and targets, before its first event
-  abbrev pub first_world : List ClientNow → List (TargetOf S C) → World
-  first_world cs xs = record { targets = map state_now xs; clients = map state_of cs; messages = []; asked = []; issued = []; numbers = record { restarts = 0; aggregates = 0 }; lines = [] }
-
   module _ (g : Given) (cs : List ClientNow) (xs : List (TargetOf S C)) (k : HaveStarted durable state g cs xs) where
     made : (t : ℕ) (x : TargetOf S C) → slice_get xs t ≡ Some x → x.plan ≡ target_plan (rules_of g) t
     made t x at = (k.each t x at).plan
+
+    known : (n : ℕ) (c : ClientNow) → slice_get cs n ≡ Some c → ReadsKnown c.plan c.state
+    known n c at = reads-known-begin c.plan c.state (first-state g cs k.those n c at)
+
+    pub first-drawn : AreDrawn (first_world durable state cs xs)
+    first-drawn = record { drawn = omega arith; counted = tt }
 
     -- ---- where stores tell what they keep
 
@@ -81,38 +87,25 @@ module _ {S C : Type 0} (durable : S → Option Durable) (state : S → State) w
       its : (t : ℕ) (x : TargetOf S C) → slice_get xs t ≡ Some x → durable x.store ≡ Some (or_empty (durable x.store))
       its t x at = told-is (durable x.store) (told-there durable xs told t x at)
 
-      keeps : (t : ℕ) (x : TargetOf S C) → slice_get xs t ≡ Some x → KeepsAtFirst durable state g t x (or_empty (durable x.store))
-      keeps t x at = (k.each t x at).kept (or_empty (durable x.store)) (its t x at)
-
       -- a run begins so
-      pub is-begun : IsBegun (rules_of g) g.opening (first_world cs xs)
-      is-begun = record {
-        plain = k.plain;
-        targets = length-map state_now xs ∙ k.many;
-        starts = λ t z here. let x = from-map state_now xs t z here in subst (StartsWith g.script.targets t g.opening) (sym x.is) (keeps t x.of_it x.at).starts;
-        enlisted = λ t z here. let x = from-map state_now xs t z here in subst (λ y. AreEnlisted g.script y.durable) (sym x.is) (keeps t x.of_it x.at).enlisted;
-        clients = k.those.states;
-        messages = refl;
-        asked = refl;
-        issued = refl;
-        lines = refl;
-      }
+      pub run-begins : RunBegins (rules_of g) g.opening (first_world durable state cs xs)
+      run-begins = (k.so told).begins
 
-      now : (found : Durable) (t : ℕ) (x : TargetOf S C) → slice_get xs t ≡ Some x → IsTargetOf durable state (target_plan (rules_of g) t) Running found x (state_now x)
+      now : (found : Durable) (t : ℕ) (x : TargetOf S C) → slice_get xs t ≡ Some x → IsTargetOf durable state (target_plan (rules_of g) t) Running found x (state_now durable state x)
       now found t x at = record { made = made t x at; lives = refl; so = record { told = its t x at; free = refl; opening = refl; opened = (k.each t x at).opened; running = (k.each t x at).running; knows = refl } }
 
       -- and this is what the actors show
-      pub shows-first : (watch : WatchNow) → IsFirstWatch g.script.targets watch → (found : ℕ → Durable) → Shows durable state (rules_of g) found (first_stage cs xs watch) (first_world cs xs)
+      pub shows-first : (watch : WatchNow) → IsFirstWatch g.script.targets watch → (found : ℕ → Durable) → Shows durable state (rules_of g) found (first_stage cs xs watch) (first_world durable state cs xs)
       shows-first watch first found = record {
         clients = refl;
         plans = k.those.plans;
-        many = length-map state_now xs;
+        many = length-map (state_now durable state) xs;
         lives = lives;
         targets = λ t x life s place here.
-            let y = from-map state_now xs t s here in
+            let y = from-map (state_now durable state) xs t s here in
             let runs : life ≡ Running = replicate-at g.script.targets t Running life (ap (λ w. slice_get w.lives t) (sym first) ∙ place.stands) in
             subst (λ l. IsTargetOf durable state (target_plan (rules_of g) t) l (found t) x s) (sym runs)
-            (subst (IsTargetOf durable state (target_plan (rules_of g) t) Running (found t) x) (ap state_now (one-there xs t x y.of_it place.there y.at) ∙ sym y.is) (now (found t) t x place.there));
+            (subst (IsTargetOf durable state (target_plan (rules_of g) t) Running (found t) x) (ap (state_now durable state) (one-there xs t x y.of_it place.there y.at) ∙ sym y.is) (now (found t) t x place.there));
         messages = refl;
         asked = refl;
         issued = refl;
@@ -120,8 +113,8 @@ module _ {S C : Type 0} (durable : S → Option Durable) (state : S → State) w
         restarts = ap (λ w. w.restarts) (sym first);
       }
         where
-          lives : lives_of (first_world cs xs) ≡ watch.lives
-          lives = maps-replicate state_now (λ s. s.life) Running xs (λ x. refl) ∙ ap (λ n. replicate n Running) k.many ∙ ap (λ w. w.lives) (sym first)
+          lives : lives_of (first_world durable state cs xs) ≡ watch.lives
+          lives = maps-replicate (state_now durable state) (λ s. s.life) Running xs (λ x. refl) ∙ ap (λ n. replicate n Running) k.many ∙ ap (λ w. w.lives) (sym first)
 
     -- ---- whether or not they do
 
@@ -130,10 +123,9 @@ module _ {S C : Type 0} (durable : S → Option Durable) (state : S → State) w
       going told = record {
         rules = rules_of g;
         opening = g.opening;
-        first = first_world cs xs;
-        simple = k.simple;
-        begun = is-begun told;
-        reached = λ found are. record { now = first_world cs xs; run = Begins; shows = shows-first told watch first found };
+        first = first_world durable state cs xs;
+        begins = run-begins told;
+        reached = λ found are. record { now = first_world durable state cs xs; run = Begins; drawn = first-drawn; shows = shows-first told watch first found };
         counted = λ t x life place. subst (IsCounted durable state may (2 ^ 63 + 1 + watch.openings) x) (sym (runs t life place.stands)) (seldom t x place.there);
       }
         where
@@ -141,19 +133,20 @@ module _ {S C : Type 0} (durable : S → Option Durable) (state : S → State) w
           runs t life stands = replicate-at g.script.targets t Running life (ap (λ w. slice_get w.lives t) (sym first) ∙ stands)
 
           seldom : (t : ℕ) (x : TargetOf S C) → slice_get xs t ≡ Some x → (d : Durable) → durable x.store ≡ Some d → d.incarnation ≤ 2 ^ 63 + 1 + watch.openings
-          seldom t x at d is = let low = ((k.each t x at).kept d is).seldom in omega (arith, low)
+          seldom t x at d is = let low = (k.each t x at).seldom d is in omega (arith, low)
 
       -- the actors can have their turns
       pub can-go : AreAlike durable → CanGo durable state may (first_stage cs xs watch)
       can-go alike = record {
         rules = rules_of g;
-        simple = k.simple;
+        form = k.form;
         plans = k.those.plans;
+        known = known;
         made = made;
         many = k.many;
         standing = ap (λ w. length w.lives) first ∙ length-replicate g.script.targets Running ∙ sym k.many;
         openings = let none = ap (λ w. w.openings) first in omega (arith, none);
-        work = λ t x place. record { opened = (k.each t x place.there).opened; running = (k.each t x place.there).running; waiting = subst ClientsWait (sym (k.each t x place.there).leader) none-waits };
+        work = λ t x place. record { opened = (k.each t x place.there).opened; running = (k.each t x place.there).running; waiting = none-waits x.memory (k.each t x place.there).leader (k.each t x place.there).makes };
         messages = λ l i. absurd (has-from_contains [] l i);
         asked = λ l i. absurd (has-from_contains [] l i);
         told = λ t x d at is. going (λ u s to. alike x.store s (ap is_some is));

@@ -10,7 +10,7 @@ use Rattle.daos_model.specs.Durables.{entry_of}
 use Rattle.daos_model.specs.Family.{created_snaps}
 use Rattle.daos_model.specs.Finals.{HeadlineOver}
 use Rattle.daos_model.specs.Headline.{Headline}
-use Rattle.daos_model.specs.Opening.{Given, Outside, undisturbed}
+use Rattle.daos_model.specs.Opening.{Given, Outside, top, undisturbed}
 use Rattle.daos_model.specs.Sound.{Sound}
 use Rattle.daos_model.specs.Stops.{down_targets, least, stop_numbers}
 use Rattle.dtx_base.specs.Members.{has_target}
@@ -18,7 +18,6 @@ use Rattle.report_writer.specs.Forms.{IsReportOf}
 pub use Rattle.run_opening.specs.All.{AreKept, MayBeFound}
 use Rattle.run_laws.specs.steps.Ended.{CanReopen}
 use Rattle.run_laws.specs.turns.Orders.{InOrder}
-use Rattle.script_runnable.specs.Keyed.{MapHasKeys, ScriptHasKeys}
 use Rattle.vos_store.specs.Calls.{State}
 use Rattle.world_commit.specs.attempts.Attempts.{IsOther}
 use Rattle.world_base.specs.declared.target.TargetState.{TargetState}
@@ -26,9 +25,11 @@ use Rattle.world_base.specs.declared.world.World.{World}
 use Rattle.world_plain.specs.ends.Ends.{durables_of, rules_of}
 use Rattle.world_standing.specs.external.Order.{AreExternallyConsistent, KeepsTheBound}
 use Rattle.world_plain.specs.facts.Facts.{IsMember}
-pub use Rattle.run_laws.specs.reports.Closings.{StandsForResolved}
-pub use Rattle.world_plain.specs.lone.LoneRuns.{AreIssuedThere}
-use Rattle.world_plain.specs.whole.Begins.{IsBegun}
+pub use Rattle.run_laws.specs.ends.Standing.{StandsForAttempts}
+pub use Rattle.run_laws.specs.reports.Reports.{AreIssuedSince, IsKeyed}
+use Rattle.run_laws.specs.shows.Beginning.{RunBegins}
+use Rattle.run_opening.specs.Opened.{AreFloored}
+use Rattle.world_plain.specs.whole.Begins.{IsOpeningPlain, IsSimple}
 
 -- ---- the report
 
@@ -76,6 +77,14 @@ pub record LeavesSettled {S : Type 0} (durable : S → Option Durable) (may : S 
 abbrev pub LeavesRunning : {S : Type 0} → (S → State) → Report → List S → Type 0
 LeavesRunning {S} state q ys = (t : ℕ) (y : S) → slice_get ys t ≡ Some y → (Contains (down_targets q.lines) t → ⊥) → (state y).stopped ≡ false
 
+-- ---- where no snapshot is made
+
+-- a run of a script without snapshots and aggregation, over stores that keep no snapshot
+pub record RunsPlainly {S : Type 0} (durable : S → Option Durable) (g : Given) (xs : List S) : Type 0 where
+  pub simple : IsSimple (rules_of g)
+  pub opening : IsOpeningPlain g.opening
+  pub unsnapped : (t : ℕ) (x : S) (d : Durable) → slice_get xs t ≡ Some x → durable x ≡ Some d → d.snaps ≡ []
+
 -- ---- where nothing stopped
 
 -- In the end the stores stand for what the report tells, by the headline, where replicas agree; and nothing is left to settle: each entry is
@@ -88,7 +97,7 @@ pub record StandPlainly {S : Type 0} (durable : S → Option Durable) (g : Given
   pub everywhere : (t : ℕ) (d : Durable) (e : Entry) → slice_get lasts t ≡ Some d → Contains d.entries e → (m : ℕ) (f : Durable) → has_target e.members m ≡ true → slice_get lasts m ≡ Some f → IsCommittedIn f e.attempt
   pub confirmed : (t : ℕ) (d : Durable) (e : Entry) → slice_get lasts t ≡ Some d → Contains d.entries e → e.leader ≡ t → (m : ℕ) → IsOther (rules_of g) e.attempt m → has_target e.confirmed m ≡ true
 
--- Where no line tells of a stop, the run ended as one in which nothing can stop.
+-- Where no line tells of a stop, and no snapshot is made, the run ended as one in which nothing can stop.
 pub record EndsUnstopped {S : Type 0} (durable : S → Option Durable) (g : Given) (q : Report) (ys : List S) : Type 0 where
   pub stand : StandPlainly durable g q ys
   pub legal : IsLegal g q
@@ -100,7 +109,7 @@ pub record EndsUnstopped {S : Type 0} (durable : S → Option Durable) (g : Give
 -- actor and the message that it picks. It begins where no client had a turn, with as many blocks free at each target as the opening says.
 pub record FollowsOrder (g : Given) (q : Report) : Type 0 where
   pub first : World
-  pub begun : IsBegun (rules_of g) g.opening first
+  pub begins : RunBegins (rules_of g) g.opening first
   pub free : (t : ℕ) (s : TargetState) → slice_get first.targets t ≡ Some s → s.free ≡ g.opening.free t
   pub restarts : first.numbers.restarts ≡ 0
   pub last : World
@@ -120,10 +129,10 @@ pub record IsOrdered {S : Type 0} (durable : S → Option Durable) (state : S �
 
 -- ---- a run after this one
 
--- What was kept is sound together, and target 0 holds no snapshot as created.
+-- What was kept is sound together, and each frozen snapshot lies at or below the floor of its container.
 pub record IsSoundAgain (lasts : List Durable) : Type 0 where
   pub sound : Sound lasts
-  pub unsnapped : created_snaps lasts ≡ []
+  pub floored : AreFloored lasts
 
 -- Where the stores kept what is sound together, so is whatever their next openings find.
 abbrev pub LeavesSound : {S : Type 0} → (S → Option Durable) → (S → Durable → Type 0) → List S → List S → Type 0
@@ -135,11 +144,12 @@ LeavesReopenable {S} durable may ys = (t : ℕ) (y : S) → slice_get ys t ≡ S
 
 -- ---- where memory was wanting
 
--- Whatever the next openings find stands for the opening and the attempts that are resolved there; and it is sound where the stores kept what is
--- sound together.
+-- Whatever the next openings find stands for the opening and the attempts that are resolved there; it is sound where the stores kept what is
+-- sound together; and target 0 holds no snapshot where none is there and none is made.
 pub record BreaksOffSo {S : Type 0} (durable : S → Option Durable) (may : S → Durable → Type 0) (g : Given) (xs ys : List S) : Type 0 where
-  pub stand : (lasts : List Durable) → MayBeFound may ys lasts → StandsForResolved g.script g.opening lasts
+  pub stand : (lasts : List Durable) → MayBeFound may ys lasts → StandsForAttempts (rules_of g) g.opening lasts
   pub sound : LeavesSound durable may xs ys
+  pub unsnapped : RunsPlainly durable g xs → (lasts : List Durable) → MayBeFound may ys lasts → created_snaps lasts ≡ []
 
 -- ---- all of it
 
@@ -149,17 +159,18 @@ IsInRealTime g q = KeepsTheBound g.script g.job.epsilon q.lines → AreExternall
 
 -- What a run of these targets, which begins so, comes to. Whatever the next openings of their stores find, these stand for what the report
 -- tells, which is legal, by the headline, for each outside that may have failed them so. The report is in form where names and keys are keys;
--- one of the targets issued each epoch of which it tells, and conflicting committed attempts have epochs in the order of real time where clocks
+-- one of the targets issued each epoch of which it tells, but for those of snapshots of earlier runs, and conflicting committed attempts have epochs in the order of real time where clocks
 -- keep the bound; stores of targets that weren't given up run, and nothing is left to settle there; what is kept is sound again, and may be opened
 -- again; and the report tells of the turns in the order asked, where just so many blocks were free at the beginning.
 pub record ComesTo {S : Type 0} (durable : S → Option Durable) (state : S → State) (may : S → Durable → Type 0) (g : Given) (xs ys : List S) (q : Report) : Type 0 where
   pub stand : (lasts : List Durable) (o : Outside) → MayBeFound may ys lasts → IsOutside state o xs ys → HeadlineOver g o lasts q
-  pub form : ScriptHasKeys g.script → MapHasKeys g.opening.stand.now → IsReportOf g.script q
-  pub issued : AreIssuedThere q
-  pub in_real_time : IsInRealTime g q
+  pub form : IsKeyed g → IsReportOf g.script q
+  pub issued : AreIssuedSince (top g.opening) q
+  pub in_real_time : RunsPlainly durable g xs → IsInRealTime g q
   pub running : LeavesRunning state q ys
   pub settled : LeavesSettled durable may g q ys
-  pub unstopped : stop_numbers q.lines ≡ [] → EndsUnstopped durable g q ys
+  pub unstopped : RunsPlainly durable g xs → stop_numbers q.lines ≡ [] → EndsUnstopped durable g q ys
   pub sound : LeavesSound durable may xs ys
+  pub unsnapped : RunsPlainly durable g xs → (lasts : List Durable) → MayBeFound may ys lasts → created_snaps lasts ≡ []
   pub reopens : LeavesReopenable durable may ys
   pub ordered : ((t : ℕ) (x : S) → slice_get xs t ≡ Some x → (state x).free ≡ g.opening.free t) → IsOrdered durable state may g q xs ys

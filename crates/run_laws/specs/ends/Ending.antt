@@ -12,7 +12,7 @@ use Rattle.daos_model.specs.Durables.{entry_of}
 use Rattle.daos_model.specs.FormLaws.{length-map}
 use Rattle.daos_model.specs.Finals.{HeadlineOver}
 use Rattle.daos_model.specs.Headline.{Headline}
-use Rattle.daos_model.specs.Opening.{Given, Outside, undisturbed}
+use Rattle.daos_model.specs.Opening.{Given, Outside, top, undisturbed}
 use Rattle.daos_model.specs.Sound.{Sound}
 use Rattle.daos_model.specs.Stops.{AtMostWith, HasTarget, down_targets, is_stop_at, least, lines_at, stop_numbers}
 use Rattle.dtx_base.specs.Members.{has_target}
@@ -23,7 +23,7 @@ use Rattle.run_laws.specs.reports.Forms.{orders-report_in_form}
 use Rattle.run_laws.specs.reports.Issued.{orders-issue}
 use Rattle.run_laws.specs.reports.Kept.{downs-have_lines, orders-leave}
 use Rattle.run_laws.specs.reports.Legal.{orders-are-legal}
-use Rattle.run_laws.specs.reports.Reports.{AreTyped, EndsPlainlyIn, GoesInOrder, IsSettledOrLeft, LeavesInTheEnd}
+use Rattle.run_laws.specs.reports.Reports.{AreIssuedSince, AreTyped, EndsPlainlyIn, GoesInOrder, IsKeyed, IsSettledOrLeft, LeavesInTheEnd}
 use Rattle.run_laws.specs.reports.Unknown.{down-among}
 use Rattle.run_laws.specs.reports.Unstopped.{unstopped-end-plainly}
 use Rattle.run_laws.specs.shows.Accounts.{AreAccounted}
@@ -35,7 +35,6 @@ use Rattle.run_laws.specs.shows.Stages.{StageNow}
 use Rattle.run_laws.specs.steps.Ended.{AllCanReopen, HasRun, HasRunWith, left_of}
 use Rattle.run_laws.specs.turns.OrderLaws.{orders-are-runs}
 use Rattle.run_watch.specs.Watches.{WatchNow, first_watch}
-use Rattle.script_runnable.specs.Keyed.{MapHasKeys, ScriptHasKeys}
 use Rattle.target_core.specs.Targets.{TargetOf}
 use Rattle.vos_store.specs.Calls.{State}
 use Rattle.world_commit.specs.attempts.Attempts.{entry_in}
@@ -50,17 +49,16 @@ use Rattle.world_standing.specs.external.Order.{AreExternallyConsistent, KeepsTh
 use Rattle.world_standing.specs.external.Runs.{runs-are-consistent}
 use Rattle.world_plain.specs.facts.Facts.{IsMember}
 use Rattle.world_letters.specs.lives.Legal.{AreCaused}
-use Rattle.world_plain.specs.lone.LoneRuns.{AreIssuedThere}
 use Rattle.world_plain.specs.whole.Begins.{IsBegun}
 use Rattle.run_laws.specs.ends.Armed.{before-fuse, fuses-started, fuses-tell, states_of}
 use Rattle.run_laws.specs.ends.Arming.{AreArmed, AreUnfused}
-use Rattle.run_laws.specs.ends.Begun.{first_world, is-begun, state_now, told-is}
+use Rattle.run_laws.specs.ends.Begun.{told-is}
 use Rattle.run_laws.specs.ends.Caused.{end-caused, stops-caused}
-use Rattle.run_laws.specs.ends.Comes.{AreKept, ComesTo, EndsUnstopped, IsAsStored, IsCommittedIn, IsOrdered, IsOutside, IsSoundAgain, LacksMember, LeavesReopenable, MayBeFound, StandPlainly, report_with}
-use Rattle.run_laws.specs.ends.Keeping.{all-tell, first-keeps, sound-again}
+use Rattle.run_laws.specs.ends.Comes.{AreKept, ComesTo, EndsUnstopped, IsAsStored, IsCommittedIn, IsOrdered, IsOutside, IsSoundAgain, LacksMember, LeavesReopenable, MayBeFound, RunsPlainly, StandPlainly, report_with}
+use Rattle.run_laws.specs.ends.Keeping.{all-tell, begins-plainly, first-keeps, none-created, sound-again}
 use Rattle.run_laws.specs.ends.Lasts.{are-found, found_at, its-target, keeps-lasts, some-may_be, some_lasts}
 use Rattle.run_laws.specs.ends.Places.{IsMapped, from-map}
-use Rattle.run_laws.specs.ends.Starts.{AllTell, HaveStarted, stores_of}
+use Rattle.run_laws.specs.ends.Starts.{AllTell, BeginsSo, HaveStarted, first_world, state_now, stores_of}
 
 -- an outside that may have caused whatever stopped and was given up
 abbrev anything : Outside
@@ -99,8 +97,12 @@ module _ {S C : Type 0} (durable : S → Option Durable) (state : S → State) (
     all : (s : S) → is_some (durable s) ≡ true
     all = all-tell durable state may alike g cs xs k told
 
-    begun : IsBegun r g.opening first
-    begun = is-begun durable state g cs e.armed (fuses-started durable state may xs e.armed e.fuses.fuses g cs k) (fuses-tell durable state may xs e.armed e.fuses.fuses told)
+    begins : BeginsSo g first
+    begins = (fuses-started durable state may xs e.armed e.fuses.fuses g cs k).so (fuses-tell durable state may xs e.armed e.fuses.fuses told)
+
+    -- where no snapshot is there and none is made, it begins as a run of such a script
+    begun : RunsPlainly durable g (stores_of xs) → IsBegun r g.opening first
+    begun plain = begins-plainly durable state may cs xs e.armed e.fuses.fuses.many (λ t x y at there. (e.fuses.fuses.each t x y at there).kept) all g begins.begins plain
 
     -- ---- whatever the next openings of the stores find
 
@@ -113,7 +115,7 @@ module _ {S C : Type 0} (durable : S → Option Durable) (state : S → State) (
       last = run.last
 
       goes : GoesInOrder g first last
-      goes = record { simple = k.simple; begun = begun; restarts = refl; aggregates = refl; run = run.run }
+      goes = record { begins = begins.begins; restarts = refl; run = run.run }
 
       keeps : durables_of last ≡ lasts
       keeps = keeps-lasts durable state may steady e.rest ys e.in_the_end lines e.unfused lasts m r g.job.order first run
@@ -143,7 +145,7 @@ module _ {S C : Type 0} (durable : S → Option Durable) (state : S → State) (
       -- ---- the headline
 
       by-outside : (o : Outside) → AreCaused g.script o last → HeadlineOver g o lasts report
-      by-outside o caused = subst (HeadlineOver g o lasts) same-report (subst (λ ds. HeadlineOver g o ds (report_over r last)) keeps (orders-are-legal g first last goes o caused))
+      by-outside o caused = subst (HeadlineOver g o lasts) same-report (subst (λ ds. HeadlineOver g o ds (report_over r last)) keeps (orders-are-legal g first last begins.holds goes o caused))
 
       -- each line tells of a target that is there
       bounded : All (HasTarget g.script.targets) lines
@@ -179,9 +181,9 @@ module _ {S C : Type 0} (durable : S → Option Durable) (state : S → State) (
 
       -- ---- where no line tells of a stop
 
-      module _ (none : stop_numbers lines ≡ []) where
+      module _ (plain : RunsPlainly durable g (stores_of xs)) (none : stop_numbers lines ≡ []) where
         plainly : EndsPlainlyIn g last
-        plainly = unstopped-end-plainly g first last goes (ap stop_numbers (sym run.told) ∙ none)
+        plainly = unstopped-end-plainly g first last plain.simple (begun plain) goes (ap stop_numbers (sym run.told) ∙ none)
 
         runs : (t : ℕ) (s : TargetState) → slice_get last.targets t ≡ Some s → s.life ≡ Running
         runs t s here = elim (leaves.targets t s here) [
@@ -218,17 +220,17 @@ module _ {S C : Type 0} (durable : S → Option Durable) (state : S → State) (
 
       -- ---- what the report tells
 
-      in-form : AreTyped lines → g.job.attempts ≤ 256 → ScriptHasKeys g.script → MapHasKeys g.opening.stand.now → IsReportOf g.script report
-      in-form typed byte script opening = subst (IsReportOf g.script) same-report (orders-report_in_form g first last goes (record { script = script; opening = opening; byte = byte }) (subst AreTyped run.told typed))
+      in-form : AreTyped lines → IsKeyed g → IsReportOf g.script report
+      in-form typed keyed = subst (IsReportOf g.script) same-report (orders-report_in_form g first last begins.holds goes keyed (subst AreTyped run.told typed))
 
-      issued : AreIssuedThere report
-      issued = subst AreIssuedThere same-report (orders-issue g first last goes)
+      issued : AreIssuedSince (top g.opening) report
+      issued = subst (AreIssuedSince (top g.opening)) same-report (orders-issue g first last goes)
 
       -- where the clocks keep the bound, the order of its epochs is that of real time
-      in-real-time : KeepsTheBound g.script g.job.epsilon lines → AreExternallyConsistent g.script lines
-      in-real-time bound =
+      in-real-time : RunsPlainly durable g (stores_of xs) → KeepsTheBound g.script g.job.epsilon lines → AreExternallyConsistent g.script lines
+      in-real-time plain bound =
           subst (AreExternallyConsistent g.script) (sym run.told)
-          (runs-are-consistent r g.opening first last k.simple begun (orders-are-runs r g.job.order first last run.run) (subst (KeepsTheBound g.script g.job.epsilon) run.told bound))
+          (runs-are-consistent r g.opening first last plain.simple (begun plain) (orders-are-runs r g.job.order first last run.run) (subst (KeepsTheBound g.script g.job.epsilon) run.told bound))
 
       -- a target that wasn't given up runs there
       runs-there : (t : ℕ) (z : S) (s : TargetState) → slice_get (stores_of ys) t ≡ Some z → slice_get last.targets t ≡ Some s → (Contains (down_targets lines) t → ⊥) → s.life ≡ Running
@@ -282,12 +284,12 @@ module _ {S C : Type 0} (durable : S → Option Durable) (state : S → State) (
 
       leaves-sound : (F : List Durable) → AreKept durable (stores_of xs) F → Sound F → IsSoundAgain lasts
       leaves-sound F f sound =
-          sound-again r g first last F lasts k.simple begun (orders-are-runs r g.job.order first last run.run)
+          sound-again r g.opening first last F lasts begins.begins (orders-are-runs r g.job.order first last run.run)
           (first-keeps durable state may cs xs e.armed e.fuses.fuses.many (λ t x y at there. (e.fuses.fuses.each t x y at there).kept) all F f) keeps sound
 
       is-ordered : ((t : ℕ) (x : S) → slice_get (stores_of xs) t ≡ Some x → (state x).free ≡ g.opening.free t) → IsOrdered durable state may g report (stores_of xs) (stores_of ys)
       is-ordered free = record {
-        follows = record { first = first; begun = begun; free = free-first free; restarts = refl; last = last; run = run.run; lines = run.told };
+        follows = record { first = first; begins = begins.begins; free = free-first free; restarts = refl; last = last; run = run.run; lines = run.told };
         begins = as-stored;
         kept = subst (MayBeFound may (stores_of ys)) (sym keeps) m;
       }
@@ -308,16 +310,17 @@ module _ {S C : Type 0} (durable : S → Option Durable) (state : S → State) (
     so : MayBeFound may (stores_of ys) some
     so = some-may_be durable may findable all (stores_of ys)
 
-    pub comes-to : AreTyped lines → g.job.attempts ≤ 256 → ComesTo durable state may g (stores_of xs) (stores_of ys) report
-    comes-to typed byte = record {
+    pub comes-to : AreTyped lines → ComesTo durable state may g (stores_of xs) (stores_of ys) report
+    comes-to typed = record {
       stand = λ lasts o m outside. stand lasts m o outside;
-      form = in-form some so typed byte;
+      form = in-form some so typed;
       issued = issued some so;
       in_real_time = in-real-time some so;
       running = store-runs some so;
       settled = record { entries = entries some so; held = held };
       unstopped = ends-unstopped some so;
       sound = λ F f sound lasts m. leaves-sound lasts m F f sound;
+      unsnapped = λ plain lasts m. none-created r g.opening first (last lasts m) lasts plain.simple (begun plain) (orders-are-runs r g.job.order first (last lasts m) (run lasts m).run) (keeps lasts m);
       reopens = reopenable;
       ordered = is-ordered some so;
     }

@@ -5,7 +5,7 @@ use Rattle.client_core.specs.Clients.{ClientNow}
 use Rattle.daos_model.specs.declared.durable.Durable.{Durable}
 use Rattle.daos_model.specs.Family.{created_snaps}
 use Rattle.daos_model.specs.FormLaws.{length-map}
-use Rattle.daos_model.specs.Opening.{Given}
+use Rattle.daos_model.specs.Opening.{Given, Opening}
 use Rattle.daos_model.specs.Sound.{Sound}
 use Rattle.model_laws.specs.Lists.{at-within}
 use Rattle.run_laws.specs.shows.Going.{AreAlike}
@@ -21,23 +21,33 @@ use Rattle.world_base.specs.declared.world.World.{World}
 use Rattle.world_base.specs.Events.{Rules}
 use Rattle.world_base.specs.Stops.{Begins, WorldRun}
 use Rattle.world_plain.specs.ends.Ends.{durable_of, durables_of, rules_of}
-use Rattle.run_laws.specs.reports.Closings.{StandsForResolved, runs-keep_sound, runs-stand_for_resolved}
+use Rattle.run_laws.specs.reports.Closings.{runs-stand_for_resolved}
+use Rattle.run_laws.specs.ends.Standing.{StandsForAttempts, stands-for_attempts}
+use Rattle.run_laws.specs.shows.Beginning.{RunBegins, plain-begun}
+use Rattle.run_opening.specs.Opened.{IsFloored}
+use Rattle.world_closing.specs.stands.Runs.{all-runs-keep_floors, all-runs-keep_sound, all-runs-stand}
 use Rattle.world_plain.specs.whole.Begins.{IsBegun, IsSimple}
 use Rattle.run_laws.specs.ends.Arming.{HaveFuses}
-use Rattle.run_laws.specs.ends.Begun.{IsFirstWatch, first_stage, first_world, is-begun, or_empty, shows-first, state_now, told-is, told-there}
-use Rattle.run_laws.specs.ends.Comes.{AreKept, BreaksOffSo, IsSoundAgain, MayBeFound}
+use Rattle.run_laws.specs.ends.Begun.{IsFirstWatch, first-drawn, first_stage, shows-first, told-is, told-there}
+use Rattle.run_laws.specs.ends.Comes.{AreKept, BreaksOffSo, IsSoundAgain, MayBeFound, RunsPlainly}
 use Rattle.run_laws.specs.ends.Lasts.{found_at, one-may_be}
 use Rattle.run_laws.specs.ends.Places.{from-map, same-lists}
-use Rattle.run_laws.specs.ends.Starts.{AllTell, HaveStarted, stores_of}
+use Rattle.run_laws.specs.ends.Starts.{AllTell, HaveStarted, first_world, or_empty, state_now, stores_of}
 
 -- ---- soundness
 
 -- what a run from a world has come to is sound again, where that world kept what is sound together
-pub sound-again : (r : Rules) (g : Given) (first last : World) (F lasts : List Durable) → IsSimple r → IsBegun r g.opening first → WorldRun r first last → durables_of first ≡ F → durables_of last ≡ lasts → Sound F → IsSoundAgain lasts
-sound-again r g first last F lasts simple begun run kept keeps sound = record {
-  sound = subst Sound keeps (runs-keep_sound r g.opening first last simple begun (subst Sound (sym kept) sound) run);
-  unsnapped = subst (λ ds. created_snaps ds ≡ []) keeps (runs-stand_for_resolved r g.opening first last simple begun run).snaps;
+pub sound-again : (r : Rules) (o : Opening) (first last : World) (F lasts : List Durable) → RunBegins r o first → WorldRun r first last → durables_of first ≡ F → durables_of last ≡ lasts → Sound F → IsSoundAgain lasts
+sound-again r o first last F lasts b run kept keeps sound = record {
+  sound = subst Sound keeps (all-runs-keep_sound r o first last b.form b.begins (subst Sound (sym kept) sound) run);
+  floored = λ t d at.
+      let s = from-map durable_of last.targets t d (ap (λ ds. slice_get ds t) keeps ∙ at) in
+      subst IsFloored (sym s.is) (all-runs-keep_floors r o first last b.form b.begins run t s.of_it s.at);
 }
+
+-- where no snapshot is there and none is made, target 0 holds none
+pub none-created : (r : Rules) (o : Opening) (first last : World) (lasts : List Durable) → IsSimple r → IsBegun r o first → WorldRun r first last → durables_of last ≡ lasts → created_snaps lasts ≡ []
+none-created r o first last lasts simple begun run keeps = subst (λ ds. created_snaps ds ≡ []) keeps (runs-stand_for_resolved r o first last simple begun run).snaps
 
 module _ {S C : Type 0} (durable : S → Option Durable) (state : S → State) (may : S → Durable → Type 0) where
   -- each of these targets keeps what that one kept
@@ -47,7 +57,7 @@ module _ {S C : Type 0} (durable : S → Option Durable) (state : S → State) (
   -- where the stores of a run's targets tell what they keep, all stores do
   pub all-tell : AreAlike durable → (g : Given) (cs : List ClientNow) (xs : List (TargetOf S C)) → HaveStarted durable state g cs xs → AllTell durable (stores_of xs) → AllStoresTell durable
   all-tell alike g cs xs k told s =
-      let some : 0 < g.script.targets = k.simple.some_target in
+      let some : 0 < g.script.targets = k.form.some_target in
       let many : length xs ≡ g.script.targets = k.many in
       let x = at-within xs 0 (omega (arith, some, many)) in
       alike x.0.store s (told-there durable xs told 0 x.0 x.1)
@@ -66,6 +76,15 @@ module _ {S C : Type 0} (durable : S → Option Durable) (state : S → State) (
       many-first : length (durables_of (first_world durable state cs armed)) ≡ length F
       many-first = length-map durable_of (first_world durable state cs armed).targets ∙ length-map (state_now durable state) armed ∙ many ∙ sym (length-map (λ p. p.store) xs) ∙ sym f.many
 
+  -- where no snapshot is there and none is made, the run begins as one of such a script
+  pub begins-plainly : (cs : List ClientNow) (xs armed : List (TargetOf S C)) → length armed ≡ length xs → KeepAlike xs armed → AllStoresTell durable → (g : Given) → RunBegins (rules_of g) g.opening (first_world durable state cs armed) → RunsPlainly durable g (stores_of xs)
+      → IsBegun (rules_of g) g.opening (first_world durable state cs armed)
+  begins-plainly cs xs armed many alike all g b plain = plain-begun (rules_of g) g.opening (first_world durable state cs armed) plain.opening b.begins (λ t s here.
+      let y = from-map (state_now durable state) armed t s here in
+      let x = at-both armed xs t y.of_it (sym many) y.at in
+      ap (λ q. q.durable.snaps) y.is
+      ∙ plain.unsnapped t x.0.store (or_empty (durable y.of_it.store)) (map-get (λ p. p.store) xs t x.0 x.1) (sym (alike t x.0 y.of_it x.1 y.at) ∙ told-is (durable y.of_it.store) (all y.of_it.store)))
+
   -- ---- where a run broke off
 
   module _ (g : Given) (cs : List ClientNow) (xs armed rest ys : List (TargetOf S C)) (now : WatchNow) (begins : HaveStarted durable state g cs armed) (told : AllTell durable (stores_of armed)) (all : AllStoresTell durable) (first : IsFirstWatch g.script.targets now)
@@ -76,8 +95,8 @@ module _ {S C : Type 0} (durable : S → Option Durable) (state : S → State) (
     abbrev first_one : World
     first_one = first_world durable state cs armed
 
-    begun : IsBegun r g.opening first_one
-    begun = is-begun durable state g cs armed begins told
+    b : RunBegins r g.opening first_one
+    b = (begins.so told).begins
 
     module _ (lasts : List Durable) (m : MayBeFound may (stores_of ys) lasts) where
       may-be : MayBeFoundOf durable state may rest (found_at lasts)
@@ -87,7 +106,7 @@ module _ {S C : Type 0} (durable : S → Option Durable) (state : S → State) (
       from = broke all r (found_at lasts) may-be
 
       came : HasBrokenOff r first_one (length rest) (found_at lasts)
-      came = from.led first_one (record { opening = g.opening; first = first_one; simple = begins.simple; begun = begun; run = Begins }) (shows-first durable state g cs armed begins told now first from.before)
+      came = from.led first_one (record { opening = g.opening; first = first_one; begins = b; run = Begins; drawn = first-drawn durable state g cs armed begins }) (shows-first durable state g cs armed begins told now first from.before)
 
       run : WorldRun r first_one came.last
       run = came.run first_one Begins
@@ -98,11 +117,12 @@ module _ {S C : Type 0} (durable : S → Option Durable) (state : S → State) (
           many-last : length (durables_of came.last) ≡ length lasts
           many-last = length-map durable_of came.last.targets ∙ came.many ∙ sym unfused.many ∙ sym (length-map (λ z. z.store) ys) ∙ sym m.many
 
-      stands : StandsForResolved g.script g.opening lasts
-      stands = subst (StandsForResolved g.script g.opening) keeps (runs-stand_for_resolved r g.opening first_one came.last begins.simple begun run)
+      stands : StandsForAttempts r g.opening lasts
+      stands = subst (StandsForAttempts r g.opening) keeps (stands-for_attempts r g.opening came.last (all-runs-stand r g.opening first_one came.last b.form b.begins (begins.so told).holds run))
 
     pub breaks-off : BreaksOffSo durable may g (stores_of xs) (stores_of ys)
     breaks-off = record {
       stand = stands;
-      sound = λ F f sound lasts m. sound-again r g first_one (came lasts m).last F lasts begins.simple begun (run lasts m) (first-keeps cs xs armed many alike all F f) (keeps lasts m) sound;
+      sound = λ F f sound lasts m. sound-again r g.opening first_one (came lasts m).last F lasts b (run lasts m) (first-keeps cs xs armed many alike all F f) (keeps lasts m) sound;
+      unsnapped = λ plain lasts m. none-created r g.opening first_one (came lasts m).last lasts plain.simple (begins-plainly cs xs armed many alike all g b plain) (run lasts m) (keeps lasts m);
     }

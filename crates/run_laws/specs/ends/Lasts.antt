@@ -20,10 +20,9 @@ use Rattle.world_base.specs.declared.world.World.{World}
 use Rattle.world_base.specs.Events.{Rules, target_plan}
 use Rattle.world_plain.specs.ends.Ends.{durable_of, durables_of}
 use Rattle.run_laws.specs.ends.Arming.{HaveFuses}
-use Rattle.run_laws.specs.ends.Begun.{or_empty}
 use Rattle.run_laws.specs.ends.Comes.{MayBeFound}
 use Rattle.run_laws.specs.ends.Places.{from-map, same-lists}
-use Rattle.run_laws.specs.ends.Starts.{stores_of}
+use Rattle.run_laws.specs.ends.Starts.{or_empty, stores_of}
 
 -- of these one is at a place
 abbrev pub found_at : List Durable → ℕ → Durable

@@ -46,7 +46,6 @@ use Rattle.world_base.specs.Roles.{leader_at}
 use Rattle.world_base.specs.Stops.{Draws, Fails, Further, GivenUp, Happening, HearsMore, IsCut, Opens, Plainly, TargetCut, is_not_to, is_to, reset_letter, resets, swept}
 use Rattle.world_commit.specs.fates.Facts.{Attempts}
 use Rattle.world_commit.specs.fates.Rightly.{letters-tell}
-use Rattle.world_commit.specs.questions.Flying.{IsWithoutCollections}
 use Rattle.world_commit.specs.questions.Hearing.{is_of_stops}
 use Rattle.world_commit.specs.questions.Inquiring.{is_news}
 use Rattle.world_commit.specs.questions.Known.{knows-fates}
@@ -54,6 +53,12 @@ use Rattle.world_commit.specs.questions.Leaving.{drawing-leaves, failing-leaves,
 use Rattle.world_commit.specs.questions.Sending.{MoreInquired, NowDown, StillThere, more-inquired, more-sends}
 use Rattle.world_commit.specs.questions.Stopping.{IsLoss, cut_loss, drawing_loss, failing_loss, given_up_loss, opening_loss, sweeping_loss}
 use Rattle.world_commit.specs.stops.Happenings.{rightly}
+use Rattle.world_making.specs.fates.Sends.{is_sent_in_making, making-sent}
+use Rattle.world_making.specs.losses.Events.{of-attempts}
+use Rattle.world_making.specs.making.Making.{IsOfMaking, MakingLeaves, tells_of_snapshots}
+use Rattle.world_making.specs.making.Turns.{hearings-leave}
+use Rattle.world_making.specs.questions.Sends.{query-unsent}
+use Rattle.world_standing.specs.standing.Events.{no-collections}
 
 -- ---- what comes
 
@@ -274,6 +279,45 @@ module _ (r : Rules) (w u : World) where
       letters = λ m x l i q. elim (more-moves.comes l i) [ inl old ↦ WasFlying old | inr new ↦ absurd (unsent m x l new.0 new.1 new.2 q) ];
     }
 
+  -- a target hears of a snapshot or an aggregation: what it inquires stays, and it asks nothing
+  module _ (f : HearsMore r w u) (is : IsOfMaking f.hears.l.message) where
+    abbrev making : TargetHearsBy (HearsFurther f.number) r w u
+    making = f.hears
+
+    abbrev made : TargetState
+    made = target_after making.s making.new making.memory
+
+    left : MakingLeaves f.number (target_plan r making.t) making.s.memory making.reading making.l.from making.l.message (kept making.s) making.new (making.memory, making.did)
+    left =
+        hearings-leave f.number (target_plan r making.t) making.s.opening making.s.memory making.reading making.l.from making.l.message (kept making.s) making.new
+        (making.memory, making.did) making.turn is
+
+    making-moves : TargetMoves w u making.t making.s made (Some making.l) making.did.posts
+    making-moves = heard-moves r w u making
+
+    making-asks_none : (m : ℕ) (x : AttemptId) (l : Letter) (p : Post) → Has p making.did.posts → l ≡ letter_of (target making.t) p → IsQueryOf m x None l → ⊥
+    making-asks_none m x l p i same =
+        query-unsent m x None l
+        (subst (λ n. is_sent_in_making n.message ≡ true) (sym same)
+        (making-sent (target_plan r making.t) making.s.memory making.l.from making.l.message making.new.durable making.did.posts left.ends.sends p i))
+
+    making-comes : InquiriesCome ⊥ r w u
+    making-comes = record {
+      rows = λ m y q here i. elim (one-or_another m making.t) [
+        | inl same ↦
+            let is' : Some made ≡ Some y = sym (now-here w u making.t making.s made (Some making.l) making.did.posts making-moves) ∙ ap (slice_get u.targets) (sym same) ∙ here in
+            subst (λ n. InquiryComes ⊥ w n q) (sym same)
+            (Stays making.s making.here (subst (λ n. Has q n.inquiries) left.ends.knows.member (subst (λ x. Has q x.memory.member.inquiries) (let one : y ≡ made = cc in one) i)))
+        | inr other ↦ Stays y (sym (same-there w u making.t making.s made (Some making.l) making.did.posts making-moves m other) ∙ here) i
+      ];
+      letters = λ m x l i q. elim (making-moves.comes l i) [ inl old ↦ WasFlying old | inr new ↦ absurd (making-asks_none m x l new.0 new.1 new.2 q) ];
+    }
+
+  -- what is heard besides is of attempts
+  further-comes : (g : HearsMore r w u) (b : Bool) → tells_of_snapshots g.hears.l.message ≡ b → InquiriesCome ⊥ r w u
+  further-comes g true is = making-comes g is
+  further-comes g false off = more-comes g (no-collections r w u (Further g) (of-attempts g.hears.l.message off))
+
   -- targets stop, open, or are given up
   no-query : (m : ℕ) (x : AttemptId) (l : Letter) → is_news l.message ≡ true → IsQueryOf m x None l → ⊥
   no-query m x l news (IsQuery leader is from to) = let bad : false ≡ true = sym (ap is_news is) ∙ news in let no : ⊥ = cc in no
@@ -295,17 +339,17 @@ module _ (r : Rules) (w u : World) where
   ]
 
   -- whatever happens
-  pub inquiries-come : (h later : History) → Attempts r h w → Attempts r later u → (e : Happening r w u) → IsWithoutCollections e → InquiriesCome (IsSettling e) r w u
-  inquiries-come h later A B (Plainly (ByClient g) up) ours = client-comes ⊥ later (knows-fates r later u B) (goes-moves r w u g)
-  inquiries-come h later A B (Plainly (ToClient g) up) ours = client-comes ⊥ later (knows-fates r later u B) (hears-moves r w u g)
-  inquiries-come h later A B (Plainly (ToTarget g) up) ours = heard-comes h (knows-fates r h w A) (rightly r w u g (letters-tell r h w A g.l g.t g.s (has-taken w.messages g.l g.rest g.takes) g.to_it g.here))
-  inquiries-come h later A B (Plainly (ByTarget g) up) ours = idle-comes g
-  inquiries-come h later A B (Further g) ours = more-comes g ours
-  inquiries-come h later A B (IsCut g) ours = loss-comes (cut_loss w u g.t g.s g.cut g.here g.after) (cut-came g)
-  inquiries-come h later A B (Opens g) ours = loss-comes (opening_loss r w u g) (λ l i. elim ((opening-leaves r h h w u (λ x a. a) A.on.quiet g).came l i) [ inl old ↦ inl old.0 | inr news ↦ inr news ])
-  inquiries-come h later A B (Fails g) ours = loss-comes (failing_loss r w u A.on.quiet g) (λ l i. elim ((failing-leaves r h h w u (λ x a. a) A.on.quiet g).came l i) [ inl old ↦ inl old.0 | inr news ↦ inr news ])
-  inquiries-come h later A B (GivenUp g) ours = loss-comes (given_up_loss r w u A.on.quiet g) (λ l i. elim ((given_up-leaves r h h w u (λ x a. a) A.on.quiet g).came l i) [ inl old ↦ inl old.0 | inr news ↦ inr news ])
-  inquiries-come h later A B (Draws g) ours = loss-comes (drawing_loss w u g) (λ l i. elim ((drawing-leaves r h h w u (λ x a. a) g).came l i) [ inl old ↦ inl old.0 | inr news ↦ inr news ])
+  pub inquiries-come : (h later : History) → Attempts r h w → Attempts r later u → (e : Happening r w u) → InquiriesCome (IsSettling e) r w u
+  inquiries-come h later A B (Plainly (ByClient g) up) = client-comes ⊥ later (knows-fates r later u B) (goes-moves r w u g)
+  inquiries-come h later A B (Plainly (ToClient g) up) = client-comes ⊥ later (knows-fates r later u B) (hears-moves r w u g)
+  inquiries-come h later A B (Plainly (ToTarget g) up) = heard-comes h (knows-fates r h w A) (rightly r w u g (letters-tell r h w A g.l g.t g.s (has-taken w.messages g.l g.rest g.takes) g.to_it g.here))
+  inquiries-come h later A B (Plainly (ByTarget g) up) = idle-comes g
+  inquiries-come h later A B (Further g) = further-comes g (tells_of_snapshots g.hears.l.message) refl
+  inquiries-come h later A B (IsCut g) = loss-comes (cut_loss w u g.t g.s g.cut g.here g.after) (cut-came g)
+  inquiries-come h later A B (Opens g) = loss-comes (opening_loss r w u g) (λ l i. elim ((opening-leaves r h h w u (λ x a. a) A.on.quiet g).came l i) [ inl old ↦ inl old.0 | inr news ↦ inr news ])
+  inquiries-come h later A B (Fails g) = loss-comes (failing_loss r w u A.on.quiet g) (λ l i. elim ((failing-leaves r h h w u (λ x a. a) A.on.quiet g).came l i) [ inl old ↦ inl old.0 | inr news ↦ inr news ])
+  inquiries-come h later A B (GivenUp g) = loss-comes (given_up_loss r w u A.on.quiet g) (λ l i. elim ((given_up-leaves r h h w u (λ x a. a) A.on.quiet g).came l i) [ inl old ↦ inl old.0 | inr news ↦ inr news ])
+  inquiries-come h later A B (Draws g) = loss-comes (drawing_loss w u g) (λ l i. elim ((drawing-leaves r h h w u (λ x a. a) g).came l i) [ inl old ↦ inl old.0 | inr news ↦ inr news ])
 
 -- what goes to targets that are given up is lost
 pub swept-come : (r : Rules) (h : History) (u : World) → Attempts r h u → InquiriesCome ⊥ r u (swept u)

@@ -52,13 +52,15 @@ use Rattle.world_commit.specs.fates.Facts.{IsSaidSo, down_in}
 use Rattle.world_letters.specs.lives.Lives.{standing_of}
 use Rattle.world_commit.specs.questions.Facts.{IsAsked, IsNamed, IsOnNaming, IsOnQuery, IsTold, IsToldOrStopped, LeaderStopped}
 use Rattle.world_commit.specs.questions.Facts as fact
-use Rattle.world_legal.specs.reasons.Accounted.{Accounted, stored_over}
-use Rattle.world_plain.specs.whole.Begins.{IsSimple, held_at}
-use Rattle.world_plain.specs.whole.Whole.{held-before}
-use Rattle.world_legal.specs.closing.Kept.{AreAll, all-there}
-use Rattle.world_legal.specs.closing.Runs.{ended-over, still-over}
+use Rattle.world_legal.specs.reasons.Accounted.{stored_over}
+use Rattle.world_plain.specs.whole.Begins.{held_at}
+use Rattle.world_legal.specs.closing.Kept.{AreAll}
+use Rattle.world_closing.specs.asked.Runs.{ended-all_over, runs-have_all, still-all_over}
 use Rattle.world_plain.specs.ends.Ends.{rules_of}
-use Rattle.world_legal.specs.reasons.Runs.{runs-accounted}
+use Rattle.world_upheld.specs.reasons.Accounted.{AccountedFor}
+use Rattle.world_upheld.specs.reasons.Runs.{runs-are_accounted}
+use Rattle.world_upheld.specs.upheld.Begins.{AreRulesInForm, RunBeginsWith}
+use Rattle.world_upheld.specs.upheld.Runs.{held-first}
 use Rattle.run_laws.specs.reports.Legal as legal
 use Rattle.run_laws.specs.reports.Middle.{HasMiddle, middle-settled, middle-still, orders-have-middle}
 use Rattle.run_laws.specs.reports.Reports.{GoesInOrder, IsSettledOrLeft, LacksMember, LeavesInTheEnd, OrdersLeaveInTheEnd}
@@ -124,7 +126,7 @@ ends-down x (l ∷ ls) up e = on (λ y still k. ends-down y ls still k) (after x
 abbrev NoneIsUnsettled : World → Type 0
 NoneIsUnsettled v = (t : ℕ) (s : TargetState) → slice_get v.targets t ≡ Some s → s.life ≡ Running → s.memory.leader.decided ≡ []
 
-module _ (r : Rules) (o : Opening) (held : ℕ → List Version) (h : History) (stored : Stored) (v : World) (A : IsSimple r) (k : Accounted r o held h stored v) (settled : NoneIsUnsettled v) (over : IsOver r v) (many : length v.targets ≡ r.script.targets) where
+module _ (r : Rules) (o : Opening) (held : ℕ → List Version) (h : History) (stored : Stored) (v : World) (A : AreRulesInForm r) (k : AccountedFor r o held h stored v) (settled : NoneIsUnsettled v) (over : IsOver r v) (many : length v.targets ≡ r.script.targets) where
   within : (t : ℕ) (s : TargetState) → slice_get v.targets t ≡ Some s → t < r.script.targets
   within t s here = let low : t < length v.targets = slice_get_within v.targets t s here in omega (arith, low, many)
 
@@ -136,7 +138,7 @@ module _ (r : Rules) (o : Opening) (held : ℕ → List Version) (h : History) (
   none-to_leader l x i to = none-to l (leader_of r x) i (leader-there r x A.some_target) to
 
   said : (l : Letter) → Has l v.messages → IsSaidSo r h v l.from l.to l.message
-  said l i = k.standing.heard.attempts.on.letters l i
+  said l i = k.upheld.heard.attempts.on.letters l i
 
   -- so no question is on its way
   none-asked : (t : ℕ) (s : TargetState) (x : AttemptId) (ask : Option AttemptId) → slice_get v.targets t ≡ Some s → IsOnQuery v t x ask → ⊥
@@ -152,15 +154,15 @@ module _ (r : Rules) (o : Opening) (held : ℕ → List Version) (h : History) (
   module _ (t : ℕ) (s : TargetState) (here : slice_get v.targets t ≡ Some s) where
     found : (e : Entry) → Has e s.durable.entries → entry_at v t e.attempt ≡ Some e
     unfolding entry_of
-    found e i = ap (λ z. entry_in z e.attempt) here ∙ row-found entry_attempt s.durable.entries e (k.standing.heard.attempts.on.ordered t s here).entries i
+    found e i = ap (λ z. entry_in z e.attempt) here ∙ row-found entry_attempt s.durable.entries e (k.upheld.heard.attempts.on.ordered t s here).entries i
 
     its : (e : Entry) → Has e s.durable.entries → IsItsEntry r v e.attempt t e
-    its e i = (k.standing.heard.attempts.on.each e.attempt).entries.one t e (found e i)
+    its e i = (k.upheld.heard.attempts.on.each e.attempt).entries.one t e (found e i)
 
     -- a target that is given up has its line
     gone : s.life ≡ Down → Has (line.Down t) v.lines
     gone down =
-        let u = ends-down lived.Running (lines_at t v.lines) (λ e. let no : ⊥ = cc (e) in no) ((k.standing.lives.told t s here).stands ∙ ap (λ l. Some (standing_of l)) down) in
+        let u = ends-down lived.Running (lines_at t v.lines) (λ e. let no : ⊥ = cc (e) in no) ((k.upheld.lives.told t s here).stands ∙ ap (λ l. Some (standing_of l)) down) in
         let z = has-from_filter (is_at t) v.lines (line.Down u.0) u.1 in
         subst (λ n. Has (line.Down n) v.lines) (number_same u.0 t z.1) z.0
 
@@ -168,7 +170,7 @@ module _ (r : Rules) (o : Opening) (held : ℕ → List Version) (h : History) (
 
     -- it named no attempt to a member of which it awaits the answer
     none-named : s.memory.leader.named ≡ []
-    none-named = empty-of s.memory.leader.named (λ n i. on n (k.standing.heard.questions.named t s n here i))
+    none-named = empty-of s.memory.leader.named (λ n i. on n (k.upheld.heard.questions.named t s n here i))
       where
         on : (n : Naming) → IsOnNaming v t n → ⊥
         on n (fact.IsReset f) = none-to f.0 t f.1 (within t s here) f.2.to
@@ -196,7 +198,7 @@ module _ (r : Rules) (o : Opening) (held : ℕ → List Version) (h : History) (
         record { member = z.0; its = inr (subst (λ y. IsOther r y z.0) same z.1); down = z.2 }
 
     led-open : (e : Entry) → entry_at v (leader_of r x) x ≡ Some e → e.committed ≡ false → LacksMember r v x
-    led-open e at open' = elim ((k.standing.heard.attempts.on.each x).rows.either e running at open') [
+    led-open e at open' = elim ((k.upheld.heard.attempts.on.each x).rows.either e running at open') [
       | inl known ↦ absurd (not-known known)
       | inr row ↦ row-lacks row.0 row.1
     ]
@@ -217,7 +219,7 @@ module _ (r : Rules) (o : Opening) (held : ℕ → List Version) (h : History) (
           ]
 
       by : (b : Bool) → k2.entry.committed ≡ b → IsKnown r h v x
-      by true is = inr (k2.entry.epoch, (k.standing.heard.attempts.on.each x).entries.committed (leader_of r x) k2.entry k2.found is)
+      by true is = inr (k2.entry.epoch, (k.upheld.heard.attempts.on.each x).entries.committed (leader_of r x) k2.entry k2.found is)
       by false is = inl (open-lacks is)
 
   -- ---- where the run has ended, and it is known of what a member was told isn't decided
@@ -228,7 +230,7 @@ module _ (r : Rules) (o : Opening) (held : ℕ → List Version) (h : History) (
       unknown-down : has_target s.memory.leader.down t ≡ true → ⊥
       unknown-down known =
           let line = k.knows (leader_of r x) t s here known in
-          let down : z.life ≡ Down = told-down v k.standing.lives t z there line in
+          let down : z.life ≡ Down = told-down v k.upheld.lives t z there line in
           let bad : Running ≡ Down = sym up ∙ down in
           let no : ⊥ = cc in no
 
@@ -243,7 +245,7 @@ module _ (r : Rules) (o : Opening) (held : ℕ → List Version) (h : History) (
           among = found-has (is_entry_of x) s.durable.entries e kept
 
           one : IsItsEntry r v x (leader_of r x) e
-          one = (k.standing.heard.attempts.on.each x).entries.one (leader_of r x) e at
+          one = (k.upheld.heard.attempts.on.each x).entries.one (leader_of r x) e at
 
           led : is_led (leader_of r x) e ≡ true
           led = ap (λ n. n == leader_of r x) one.leader ∙ (let same : (leader_of r x == leader_of r x) ≡ true = grind (arith, nat_tests) in same)
@@ -269,8 +271,8 @@ module _ (r : Rules) (o : Opening) (held : ℕ → List Version) (h : History) (
 
     not-both : (x : AttemptId) (f : Epoch) → Aborted h x → Decided h x f → ⊥
     not-both x f aborted decided =
-        let none = (k.standing.heard.attempts.on.each x).entries.aborted aborted in
-        let held2 = ((k.standing.heard.attempts.on.each x).entries.held_by_leader f decided).found in
+        let none = (k.upheld.heard.attempts.on.each x).entries.aborted aborted in
+        let held2 = ((k.upheld.heard.attempts.on.each x).entries.held_by_leader f decided).found in
         (let no : ⊥ = cc (none, held2) in no)
 
     module _ (t : ℕ) (s : TargetState) (here : slice_get v.targets t ≡ Some s) (runs : s.life ≡ Running) (e : Entry) (i : Has e s.durable.entries) (open' : e.committed ≡ false) where
@@ -320,10 +322,10 @@ module _ (r : Rules) (o : Opening) (held : ℕ → List Version) (h : History) (
               downs n is = k.knows t n s here is
 
               by : (c : QueryState) → row.0.state ≡ c → Left
-              by state.Unanswered is = absurd (none-asked t s row.0.attempt None here ((k.standing.heard.questions.inquiries.rows t s row.0 here among).unanswered is))
-              by state.Undecided is = told row.0 same (known t s row.0 here among is) ((k.standing.heard.questions.inquiries.rows t s row.0 here among).undecided is)
+              by state.Unanswered is = absurd (none-asked t s row.0.attempt None here ((k.upheld.heard.questions.inquiries.rows t s row.0 here among).unanswered is))
+              by state.Undecided is = told row.0 same (known t s row.0 here among is) ((k.upheld.heard.questions.inquiries.rows t s row.0 here among).undecided is)
               by state.Down is =
-                  let down = (k.standing.heard.questions.inquiries.rows t s row.0 here among).down is in
+                  let down = (k.upheld.heard.questions.inquiries.rows t s row.0 here among).down is in
                   record { member = leader_of r e.attempt; its = inl refl; down = downs (leader_of r e.attempt) (ap (λ y. down_in y (leader_of r e.attempt)) (sym here) ∙ ap (λ y. down_in (slice_get v.targets t) (leader_of r y)) (sym same) ∙ down) }
 
         as-other : Left
@@ -350,7 +352,7 @@ module _ (r : Rules) (o : Opening) (held : ℕ → List Version) (h : History) (
     held-by t s e here i committed m member = by member
       where
         f : Entries r h v e.attempt
-        f = (k.standing.heard.attempts.on.each e.attempt).entries
+        f = (k.upheld.heard.attempts.on.each e.attempt).entries
 
         decided : Decided h e.attempt e.epoch
         decided = f.committed t e (found t s here e (has-from_contains s.durable.entries e i)) committed
@@ -368,43 +370,57 @@ module _ (g : Given) (w v : World) (k : GoesInOrder g w v) where
   abbrev r : Rules
   r = rules_of g
 
+  form : AreRulesInForm r
+  form = k.begins.form
+
+  begins : RunBeginsWith r g.opening w
+  begins = k.begins.begins
+
   run : WorldRun r w v
   run = legal.events g w v k
 
   -- where it begins to settle
-  mid : HasMiddle r g.opening w k.simple k.begun v
-  mid = orders-have-middle r g.opening w k.simple k.begun g.job.order v k.run
+  mid : HasMiddle r g.opening w form begins v
+  mid = orders-have-middle r g.opening w form begins g.job.order v k.run
 
   there : AreAll r mid.middle
-  there = all-there r g.opening w mid.middle k.begun mid.run
+  there = runs-have_all r g.opening w mid.middle begins mid.run
 
   mid-over : IsOver r mid.middle
-  mid-over = still-over r g.opening w mid.middle k.simple k.begun mid.run (middle-still r mid.middle there.clients mid.quiet)
+  mid-over = (still-all_over r g.opening w mid.middle form begins k.begins.few mid.run (middle-still r mid.middle there.clients mid.quiet)).over
 
-  so-far : (h : History) × Accounted r g.opening (held_at w) h (stored_over r mid.run) mid.middle
-  so-far = runs-accounted r g.opening w mid.middle k.simple k.begun mid.run
+  so-far : (h : History) × AccountedFor r g.opening (held_at w) h (stored_over r mid.run) mid.middle
+  so-far = runs-are_accounted r g.opening w mid.middle form begins mid.run
 
   settles : Settles r g.opening (held_at w) (stored_over r mid.run) so-far.0 mid.middle
   settles = record {
     accounted = so-far.1;
     done = mid-over.done;
-    fate = held-known r g.opening (held_at w) so-far.0 (stored_over r mid.run) mid.middle k.simple so-far.1 (middle-settled r mid.middle there.clients mid.quiet) mid-over there.targets;
+    fate = held-known r g.opening (held_at w) so-far.0 (stored_over r mid.run) mid.middle form so-far.1 (middle-settled r mid.middle there.clients mid.quiet) mid-over there.targets;
     rows = λ m s q here i undecided. absurd (mid.none.rows m s q here i);
     letters = λ m x f. absurd (mid.none.letters m x f.0 f.1 (IsVerdict f.2.inc _ f.2.says f.2.to));
   }
 
+  -- where it has ended
+  ended : HasEnded r v
+  ended = legal.ended g w v k
+
+  end-over : IsOver r v
+  end-over = (ended-all_over r g.opening w v form begins k.begins.few run ended).over
+
+  many : length v.targets ≡ r.script.targets
+  many = (runs-have_all r g.opening w v begins run).targets
+
   left-so : LeavesInTheEnd r v
   left-so =
-      let z = runs-settle r g.opening (held_at w) (stored_over r mid.run) so-far.0 mid.middle v k.simple (held-before r g.opening w k.begun) settles mid.rest in
-      let end = legal.ended g w v k in
-      leaves r g.opening (held_at w) z.h z.stored v k.simple z.so.accounted end.settled (ended-over r g.opening w v k.simple k.begun run end) (all-there r g.opening w v k.begun run).targets end z.so.rows
+      let z = runs-settle r g.opening (held_at w) (stored_over r mid.run) so-far.0 mid.middle v form (held-first r g.opening w form begins) settles mid.rest in
+      leaves r g.opening (held_at w) z.h z.stored v form z.so.accounted ended.settled end-over many ended z.so.rows
 
   -- each target that was given up has its line
   pub downs-have_lines : (t : ℕ) (s : TargetState) → slice_get v.targets t ≡ Some s → s.life ≡ Down → Has (line.Down t) v.lines
   downs-have_lines t s here down =
-      let a = runs-accounted r g.opening w v k.simple k.begun run in
-      let end = legal.ended g w v k in
-      gone r g.opening (held_at w) a.0 (stored_over r run) v k.simple a.1 end.settled (ended-over r g.opening w v k.simple k.begun run end) (all-there r g.opening w v k.begun run).targets t s here down
+      let a = runs-are_accounted r g.opening w v form begins run in
+      gone r g.opening (held_at w) a.0 (stored_over r run) v form a.1 ended.settled end-over many t s here down
 
 pub orders-leave : OrdersLeaveInTheEnd
 orders-leave g w v k = left-so g w v k

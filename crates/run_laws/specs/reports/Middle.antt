@@ -32,11 +32,11 @@ use Rattle.world_base.specs.Letters.{client, target}
 use Rattle.world_base.specs.Roles.{leader_at, member_at}
 use Rattle.world_base.specs.Stops.{Begins, Draws as NumbersAreDrawn, Fails, Further, GivenUp, Goes, Happening, IsCut, Opens, Plainly, WorldEvent, WorldRun}
 use Rattle.world_legal.specs.closing.Closing.{IsStill}
-use Rattle.world_legal.specs.reasons.Runs.{runs-accounted}
-use Rattle.world_standing.specs.standing.Events as stand
-use Rattle.world_standing.specs.standing.Events.{no-collections}
-use Rattle.world_plain.specs.whole.Begins.{IsBegun, IsSimple}
-use Rattle.world_plain.specs.whole.Whole.{held-before}
+use Rattle.world_plain.specs.whole.Begins.{held_at}
+use Rattle.world_upheld.specs.reasons.Runs.{runs-are_accounted}
+use Rattle.world_upheld.specs.upheld.Begins.{AreRulesInForm, RunBeginsWith}
+use Rattle.world_upheld.specs.upheld.Events as stands
+use Rattle.world_upheld.specs.upheld.Runs.{held-first}
 use Rattle.run_laws.specs.reports.Inquiries.{AnswersOne, AsksNow, InquiriesCome, InquiryComes, IsAnswered, IsAsked, IsSettling, LetterComes, Stays, WasFlying, inquiries-come, swept-come}
 
 -- ---- idle work has asked nothing
@@ -98,7 +98,7 @@ given-up-unsettled r a w u (NumbersAreDrawn g) gives is = is
 
 -- ---- the run up to there
 
-module _ (r : Rules) (o : Opening) (w : World) (A : IsSimple r) (B : IsBegun r o w) where
+module _ (r : Rules) (o : Opening) (w : World) (A : AreRulesInForm r) (B : RunBeginsWith r o w) where
   -- a run from the beginning, in which idle work asked nothing
   record AsksNone (v : World) : Type 0 where
     run : WorldRun r w v
@@ -106,12 +106,9 @@ module _ (r : Rules) (o : Opening) (w : World) (A : IsSimple r) (B : IsBegun r o
 
   event-asks : (u v : World) (e : WorldEvent r u v) → (IsSettling e.happens → ⊥) → AsksNone u → AsksNone v
   event-asks u v e off k =
-      let a = runs-accounted r o w u A B k.run in
-      let s = a.1.standing in
-      let before = held-before r o w B in
-      let after = stand.attempts-happened r o _ a.0 u v A.some_attempt before s e in
-      let ours = no-collections r u e.u e.happens (stand.ours r o _ a.0 u v A.some_attempt before s e) in
-      let happened = come-none (IsSettling e.happens) r u e.u off (inquiries-come r u e.u a.0 _ s.heard.attempts after e.happens ours) k.none in
+      let a = runs-are_accounted r o w u A B k.run in
+      let after = stands.attempts-happened r o (held_at w) a.0 u v A.some_attempt (held-first r o w A B) a.1.upheld e in
+      let happened = come-none (IsSettling e.happens) r u e.u off (inquiries-come r u e.u a.0 _ a.1.upheld.heard.attempts after e.happens) k.none in
       record { run = Goes u v k.run e; none = subst NoneInquires (sym e.after) (come-none ⊥ r e.u _ (λ no. no) (swept-come r _ e.u after) happened) }
 
   turn-asks : (a : ActorId) (n : ℕ) (u v : World) → TurnOf false r a n u v → AsksNone u → AsksNone v

@@ -1,6 +1,7 @@
 -- What a run in an order reports, where targets may stop and open again.
-use Rattle.std.specs.Prelude.{ℕ, ◌≡◌, ◌⊎◌, ◌≤◌, ◌<◌, ◌^◌, Bool, true, false, List, [], All, Contains, slice_get, Some, None}
+use Rattle.std.specs.Prelude.{ℕ, ◌≡◌, ◌⊎◌, ◌≤◌, ◌<◌, ◌%◌, ◌^◌, Bool, true, false, List, [], All, Contains, slice_get, Some, None}
 use Rattle.base_types.specs.declared.entry.Entry.{Entry}
+use Rattle.base_types.specs.declared.epoch.Epoch.{Epoch}
 use Rattle.base_types.specs.declared.id.AttemptId.{AttemptId}
 use Rattle.base_types.specs.declared.outcome.Outcome.TheVariants.{Unknown}
 use Rattle.base_types.specs.declared.report.Attempt.{Attempt}
@@ -14,11 +15,14 @@ use Rattle.daos_model.specs.Accesses.{attempt_targets}
 use Rattle.daos_model.specs.Attempts.{is_unknown, tries}
 use Rattle.daos_model.specs.Finals.{HeadlineOver}
 use Rattle.daos_model.specs.Headline.{Headline}
-use Rattle.daos_model.specs.Opening.{Given, Outside, undisturbed}
+use Rattle.daos_model.specs.Opening.{Given, Outside, top, undisturbed}
 use Rattle.daos_model.specs.Stops.{down_targets, stop_numbers}
 use Rattle.report_writer.specs.Forms.{IsReportOf}
+use Rattle.run_laws.specs.shows.Beginning.{RunBegins}
 use Rattle.run_laws.specs.turns.Orders.{InOrder}
-use Rattle.script_runnable.specs.Keyed.{MapHasKeys, ScriptHasKeys}
+use Rattle.script_traits.specs.Keyed.{ScriptHasKeys}
+use Rattle.world_closing.specs.forming.Forming.{StandHasKeys}
+use Rattle.world_closing.specs.stands.Stands.{HoldsOpenings}
 use Rattle.world_commit.specs.asks.Ends.{IsSettledAt}
 use Rattle.world_commit.specs.attempts.Attempts.{IsHeld}
 use Rattle.world_base.specs.declared.target.Life.TheVariants.{Running}
@@ -30,43 +34,54 @@ use Rattle.world_plain.specs.ends.Ends.{TellsPlain, durables_of, rules_of}
 use Rattle.world_plain.specs.facts.Facts.{IsMember}
 use Rattle.world_plain.specs.facts.Settled.{IsCommittedAtAll}
 use Rattle.world_letters.specs.lives.Legal.{AreCaused, NoneIsStopped}
-use Rattle.world_plain.specs.lone.LoneRuns.{AreIssuedThere}
 use Rattle.world_plain.specs.whole.Begins.{IsBegun, IsSimple}
 
 -- ---- the run
 
--- A run in the order that the job names, of a script in form for some targets, without snapshots and aggregation, from its beginning, where no
--- number of a restart or an aggregation was drawn yet. Targets may stop in it, open again, or be given up.
+-- A run in the order that the job names, of a script in form for some targets, from its beginning, where no number of a restart was drawn yet.
+-- Targets may stop in it, open again, or be given up; snapshots may be made and read, and containers aggregated.
 pub record GoesInOrder (g : Given) (w v : World) : Type 0 where
-  pub simple : IsSimple (rules_of g)
-  pub begun : IsBegun (rules_of g) g.opening w
+  pub begins : RunBegins (rules_of g) g.opening w
   pub restarts : w.numbers.restarts ≡ 0
-  pub aggregates : w.numbers.aggregates ≡ 0
   pub run : InOrder (rules_of g) g.job.order w v
 
 -- where it ends, so it is
 abbrev pub OfEachOrder : (Given → World → Type 0) → Type 0
 OfEachOrder P = (g : Given) (w v : World) → GoesInOrder g w v → P g v
 
--- and so where no line tells of a stop
+-- and so, where targets hold at the beginning all that the opening stands for
+abbrev pub OfEachHeldOrder : (Given → World → Type 0) → Type 0
+OfEachHeldOrder P = (g : Given) (w v : World) → HoldsOpenings g.opening w → GoesInOrder g w v → P g v
+
+-- and so of a script without snapshots and aggregation, over stores without snapshots
+abbrev pub OfEachPlainOrder : (Given → World → Type 0) → Type 0
+OfEachPlainOrder P = (g : Given) (w v : World) → IsSimple (rules_of g) → IsBegun (rules_of g) g.opening w → GoesInOrder g w v → P g v
+
+-- and of such a one where no line tells of a stop
 abbrev pub OfEachUnstoppedOrder : (Given → World → Type 0) → Type 0
-OfEachUnstoppedOrder P = OfEachOrder (λ g v. stop_numbers v.lines ≡ [] → P g v)
+OfEachUnstoppedOrder P = OfEachPlainOrder (λ g v. stop_numbers v.lines ≡ [] → P g v)
 
 -- ---- what it reports
 
--- numbers of a line of a stop or of an opening are as small as their types hold; so it is of each line that is kept as one
+-- numbers of a line of a stop, of an opening or of an aggregation are as small as their types hold; so it is of each line that is kept as one
 abbrev pub HasTypedNumbers : Line → Type 0
 HasTypedNumbers (line.Stop number target) = number < 2 ^ 32
 HasTypedNumbers (line.Restart number target incarnation floor) = (number < 2 ^ 32) × (incarnation < 2 ^ 64)
+HasTypedNumbers (line.Aggregate number target cont upto) = number < 2 ^ 32
 HasTypedNumbers l = Unit {0}
 
 abbrev pub AreTyped : List Line → Type 0
 AreTyped lines = (l : Line) → Has l lines → HasTypedNumbers l
 
--- what the report's form asks for besides: names and keys are keys, and a command has at most 256 attempts
+-- one of the targets issued each epoch above this one: no epoch of before the run is
+abbrev pub AreIssuedSince : ℕ → Report → Type 0
+AreIssuedSince top q = (a : Attempt) (e : Epoch) → Contains (tries q.lines) a → a.epoch ≡ Some e → top < e.0 → e.0 % 256 < q.targets
+
+-- What the report's form asks for besides: names and keys are keys, in the script, in what the opening stands for and in the maps that it keeps;
+-- and a command has at most 256 attempts.
 pub record IsKeyed (g : Given) : Type 0 where
   pub script : ScriptHasKeys g.script
-  pub opening : MapHasKeys g.opening.stand.now
+  pub opening : StandHasKeys g.opening.stand
   pub byte : g.job.attempts ≤ 256
 
 -- ---- what is left of it
@@ -115,15 +130,15 @@ pub record TellsOfLoneClient (g : Given) (q : Report) : Type 0 where
 -- The report is legal in each part, and the targets stand for what it tells, and replicas agree; of what the outside did it is asked alone
 -- that it caused the stops for which the script doesn't ask, and what was given up.
 abbrev pub OrdersAreLegal : Type 0
-OrdersAreLegal = OfEachOrder (λ g v. (outside : Outside) → AreCaused g.script outside v → HeadlineOver g outside (durables_of v) (report_over (rules_of g) v))
+OrdersAreLegal = OfEachHeldOrder (λ g v. (outside : Outside) → AreCaused g.script outside v → HeadlineOver g outside (durables_of v) (report_over (rules_of g) v))
 
 -- its text determines it
 abbrev pub OrdersReportInForm : Type 0
-OrdersReportInForm = OfEachOrder (λ g v. IsKeyed g → AreTyped v.lines → IsReportOf g.script (report_over (rules_of g) v))
+OrdersReportInForm = OfEachHeldOrder (λ g v. IsKeyed g → AreTyped v.lines → IsReportOf g.script (report_over (rules_of g) v))
 
--- one of the targets issued each epoch of which it tells
+-- one of the targets issued each epoch of which it tells, but for those of snapshots that earlier runs made
 abbrev pub OrdersIssueThere : Type 0
-OrdersIssueThere = OfEachOrder (λ g v. AreIssuedThere (report_over (rules_of g) v))
+OrdersIssueThere = OfEachOrder (λ g v. AreIssuedSince (top g.opening) (report_over (rules_of g) v))
 
 -- what is left in the end
 abbrev pub OrdersLeaveInTheEnd : Type 0

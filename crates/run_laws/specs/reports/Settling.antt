@@ -1,14 +1,17 @@
 -- While a run in an order settles, it is known of what a member was told isn't decided: a member of it was given up, or it is decided.
-use Rattle.std.specs.Prelude.{ℕ, ◌≡◌, ◌⊎◌, ◌≤◌, ◌++◌, true, nat_le, List, length, slice_get, Some, None, refl, if◌then◌else◌}
+use Rattle.std.specs.Prelude.{ℕ, ◌≡◌, ◌⊎◌, ◌≤◌, ◌++◌, true, nat_le, List, [], length, slice_get, Some, None, refl, if◌then◌else◌}
 use Rattle.std.proofs.Common.{inl, inr, sym, ◌∙◌, ap, subst, arith}
 use Rattle.std.proofs.Math.ListN.{set}
 use Rattle.std.proofs.lemmas.Bool.Decides.{nat_tests}
 use Rattle.std.proofs.lemmas.Option.{slice_get_past}
 use Rattle.base_types.specs.declared.epoch.Epoch.{Epoch}
 use Rattle.base_types.specs.declared.id.AttemptId.{AttemptId}
+use Rattle.base_types.specs.declared.outcome.FloorWhy.{FloorWhy}
 use Rattle.base_types.specs.declared.report.Line.TheVariants as line
+use Rattle.base_messages.specs.declared.actor.ActorId.{ActorId}
 use Rattle.base_messages.specs.declared.message.Message.{Message}
 use Rattle.base_messages.specs.declared.message.Message.TheVariants as message
+use Rattle.base_messages.specs.declared.message.Post.{Post}
 use Rattle.model_laws.specs.Members.{Has, has-left}
 use Rattle.daos_model.specs.declared.durable.Version.{Version}
 use Rattle.daos_model.specs.Opening.{Opening}
@@ -21,11 +24,15 @@ use Rattle.world_commit.specs.attempts.History.{Decided, GrowsBy, History}
 use Rattle.world_commit.specs.attempts.Turning.{one-or_another}
 use Rattle.world_base.specs.declared.client.ClientPlan.{ClientPlan}
 use Rattle.world_base.specs.declared.client.ClientState.{ClientState}
+use Rattle.world_base.specs.declared.did.Did.{Did}
 use Rattle.world_base.specs.declared.letter.Letter.{Letter}
+use Rattle.world_base.specs.declared.target.TargetMemory.{TargetMemory}
+use Rattle.world_base.specs.declared.target.TargetPlan.{TargetPlan}
 use Rattle.world_base.specs.declared.target.TargetState.{TargetState}
 use Rattle.world_base.specs.declared.world.World.{World}
 use Rattle.world_base.specs.ClientTurns.{command_at, heard, heard_at, hears_epochs, is_done, is_waiting, moved, moves_at, rests}
-use Rattle.world_base.specs.Events.{ByClient, ByTarget, ClientGoes, ClientHears, Rules, ToClient, ToTarget, client_plan, kept, target_plan}
+use Rattle.world_base.specs.Changes.{Kept}
+use Rattle.world_base.specs.Events.{ByClient, ByTarget, ClientGoes, ClientHears, Rules, ToClient, ToTarget, client_plan, kept, target_after, target_plan}
 use Rattle.world_base.specs.Further.{HearsFurther}
 use Rattle.world_base.specs.StepLaws.{by-hearing, by-next, set-here, set-there}
 use Rattle.world_base.specs.Steps.{KeptByCounting, KeptByHearing, KeptByMoves}
@@ -38,21 +45,24 @@ use Rattle.world_letters.specs.lines.LastLines.{AreDone}
 use Rattle.world_causes.specs.outcomes.AfterStops.{after_stop-concludes, is_after_stop}
 use Rattle.world_causes.specs.outcomes.Concluding.{Concludes, IsTaken}
 use Rattle.world_causes.specs.outcomes.Keeping.{IsOfTarget}
+use Rattle.world_causes.specs.outcomes.Making.{is_making_message, making-concludes}
 use Rattle.world_causes.specs.outcomes.Outcomes.{Outcomes}
-use Rattle.world_causes.specs.outcomes.Premises.{AsksGoRight, CommitsAreOfClients}
+use Rattle.world_causes.specs.outcomes.Premises.{AsksGoRight, CommitsAreOfClients, MakersWriteNothing}
 use Rattle.world_causes.specs.outcomes.Rightly.{idling-concludes, rightly-concludes}
 use Rattle.world_causes.specs.outcomes.Stopping.{cut-concludes, cut-told, drawing-concludes, failing-concludes, giving-up-concludes, opening-concludes}
-use Rattle.world_legal.specs.reasons.Accounted.{Accounted, AccountedStill}
-use Rattle.world_legal.specs.reasons.Events.{events-keep-accounts}
 use Rattle.world_causes.specs.showing.Happening.{stored_in}
-use Rattle.world_standing.specs.standing.Events as stand
-use Rattle.world_standing.specs.standing.Events.{no-collections}
-use Rattle.world_commit.specs.statuses.Events.{HappensWithoutSnapshots, told_by}
-use Rattle.world_commit.specs.statuses.Heard.{is_of_attempts}
+use Rattle.world_making.specs.makers.Events.{makers-write}
+use Rattle.world_commit.specs.requests.Staying.{requests-happen}
+use Rattle.world_commit.specs.statuses.Events.{told_by}
+use Rattle.world_commit.specs.statuses.Fates.{told_by_it}
 use Rattle.world_commit.specs.stops.Happenings.{rightly, told_in}
 use Rattle.world_plain.specs.unstopped.Growing.{lines-grow}
-use Rattle.world_plain.specs.whole.Begins.{IsSimple}
 use Rattle.world_plain.specs.whole.Everything.{AreBefore}
+use Rattle.world_upheld.specs.reasons.Accounted.{AccountedFor, IsAccountedForStill}
+use Rattle.world_upheld.specs.reasons.Events.{all-events-keep_accounts}
+use Rattle.world_upheld.specs.upheld.Begins.{AreRulesInForm}
+use Rattle.world_upheld.specs.upheld.Events as stands
+use Rattle.world_upheld.specs.upheld.Upheld.{Upheld}
 use Rattle.run_laws.specs.reports.Inquiries.{AnswersOne, AsksNow, InquiriesCome, InquiryComes, IsAnswered, IsAsked, IsSettling, LetterComes, Stays, WasFlying, inquiries-come, swept-come}
 use Rattle.run_laws.specs.reports.Reports.{LacksMember}
 
@@ -103,48 +113,75 @@ module _ (r : Rules) where
 
 -- ---- what an event of a target leaves
 
-of-stops : (number : ℕ) (r : Rules) (w u : World) (g : HearsMore r w u) (m : Message) → is_of_attempts m ≡ true
-    → HearsFurther g.number (target_plan r g.hears.t) g.hears.s.opening g.hears.s.memory g.hears.reading g.hears.l.from m (kept g.hears.s) g.hears.new (g.hears.memory, g.hears.did) → is_after_stop m ≡ true
-of-stops number r w u g (message.Commit x ep first tracker ws) ours turn = refl
-of-stops number r w u g (message.Ask x) ours turn = refl
-of-stops number r w u g (message.Status x inc) ours turn = refl
-of-stops number r w u g (message.StatusIs x inc how) ours turn = refl
-of-stops number r w u g (message.Reset' by down place more) ours turn = refl
-of-stops number r w u g (message.Snap x c called tracker) ours turn = let no : ⊥ = cc in absurd no
-of-stops number r w u g (message.Freeze x c s) ours turn = let no : ⊥ = cc in absurd no
-of-stops number r w u g (message.Held x refusal) ours turn = let no : ⊥ = cc in absurd no
-of-stops number r w u g (message.Prune x c tracker e) ours turn = let no : ⊥ = cc in absurd no
-of-stops number r w u g m ours turn = absurd turn
+-- what a target hears further is of attempts after a stop, or of a snapshot or an aggregation
+further-kind : (number : ℕ) (p : TargetPlan) (opening : Epoch × FloorWhy) (m : TargetMemory) (reading : ℕ) (from : ActorId) (q : Message) (old new : Kept) (left : TargetMemory × Did) → HearsFurther number p opening m reading from q old new left
+    → (is_after_stop q ≡ true) ⊎ (is_making_message q ≡ true)
+further-kind number p opening m reading from (message.Commit x ep first tracker ws) old new left turn = inl refl
+further-kind number p opening m reading from (message.Ask x) old new left turn = inl refl
+further-kind number p opening m reading from (message.Status x inc) old new left turn = inl refl
+further-kind number p opening m reading from (message.StatusIs x inc how) old new left turn = inl refl
+further-kind number p opening m reading from (message.Reset' by down place more) old new left turn = inl refl
+further-kind number p opening m reading from (message.Snap x c called tracker) old new left turn = inr refl
+further-kind number p opening m reading from (message.Freeze x c s) old new left turn = inr refl
+further-kind number p opening m reading from (message.Held x refusal) old new left turn = inr refl
+further-kind number p opening m reading from (message.Prune x c tracker e) old new left turn = inr refl
+further-kind number p opening m reading from q old new left turn = absurd turn
 
-module _ (r : Rules) (h later : History) (w u : World) (A : Attempts r h w) (B : Attempts r later u) (outcomes : Outcomes r h w) (asks : AsksGoRight r w) (of_clients : CommitsAreOfClients u) where
-  concludes : (e : Happening r w u) → IsOfTarget e → HappensWithoutSnapshots e → GrowsBy h (told_by e) later → Concludes r h later w u
-  concludes (Plainly (ByClient g) up) of_target ours grows = absurd of_target
-  concludes (Plainly (ToClient g) up) of_target ours grows = absurd of_target
-  concludes (Plainly (ToTarget g) up) of_target ours grows = rightly-concludes r h later w u A B of_clients (rightly r w u g (letters-tell r h w A g.l g.t g.s (has-taken w.messages g.l g.rest g.takes) g.to_it g.here)) grows
-  concludes (Plainly (ByTarget g) up) of_target ours grows = idling-concludes r h later w u A B of_clients g grows
-  concludes (Further g) of_target ours grows = after_stop-concludes g.number r h later w u A B outcomes asks of_clients g.hears (of-stops g.number r w u g g.hears.l.message ours g.hears.turn) grows
-  concludes (IsCut g) of_target ours grows = cut-concludes r h later w u A B g (told_in (IsCut g)) grows (cut-told r h w u A g)
-  concludes (Opens g) of_target ours grows = opening-concludes r h later w u g grows
-  concludes (Fails g) of_target ours grows = failing-concludes r h later w u g grows
-  concludes (GivenUp g) of_target ours grows = giving-up-concludes r h later w u g grows
-  concludes (Draws g) of_target ours grows = drawing-concludes r h later w u g grows
+-- and where it is of the latter, it tells of no attempt's end
+untold : (q : Message) (s z : TargetState) (posts : List Post) → is_making_message q ≡ true → told_by_it q s z posts ≡ []
+untold (message.Snap x c name tracker) s z posts making = refl
+untold (message.Freeze x c e) s z posts making = refl
+untold (message.Held x refusal) s z posts making = refl
+untold (message.Prune x c tracker e) s z posts making = refl
+untold q s z posts making = let no : ⊥ = cc in absurd no
+
+-- what an event of a target stands on: what became of attempts before it and then, and what is told of that; that those who ask know whom they
+-- ask, that clients alone commit, and that attempts which make snapshots or aggregate write nothing
+record TakesPlace (r : Rules) (h later : History) (w u : World) : Type 0 where
+  attempts : Attempts r h w
+  attempts_then : Attempts r later u
+  outcomes : Outcomes r h w
+  asks : AsksGoRight r w
+  of_clients : CommitsAreOfClients u
+  makers : MakersWriteNothing r w
+
+module _ (r : Rules) (h later : History) (w u : World) (p : TakesPlace r h later w u) where
+  further-concludes : (g : HearsMore r w u) → GrowsBy h (told_by (Further g)) later → Concludes r h later w u
+  further-concludes g grows = elim (further-kind g.number (target_plan r g.hears.t) g.hears.s.opening g.hears.s.memory g.hears.reading g.hears.l.from g.hears.l.message (kept g.hears.s) g.hears.new (g.hears.memory, g.hears.did) g.hears.turn) [
+    | inl after ↦ after_stop-concludes g.number r h later w u p.attempts p.attempts_then p.outcomes p.asks p.of_clients g.hears after grows
+    | inr making ↦
+        making-concludes g.number r h later w u p.attempts p.attempts_then p.makers p.of_clients g.hears making
+        (subst (λ ps. GrowsBy h ps later) (untold g.hears.l.message g.hears.s (target_after g.hears.s g.hears.new g.hears.memory) g.hears.did.posts making) grows)
+  ]
+
+  concludes : (e : Happening r w u) → IsOfTarget e → GrowsBy h (told_by e) later → Concludes r h later w u
+  concludes (Plainly (ByClient g) up) of_target grows = absurd of_target
+  concludes (Plainly (ToClient g) up) of_target grows = absurd of_target
+  concludes (Plainly (ToTarget g) up) of_target grows = rightly-concludes r h later w u p.attempts p.attempts_then p.of_clients (rightly r w u g (letters-tell r h w p.attempts g.l g.t g.s (has-taken w.messages g.l g.rest g.takes) g.to_it g.here)) grows
+  concludes (Plainly (ByTarget g) up) of_target grows = idling-concludes r h later w u p.attempts p.attempts_then p.of_clients g grows
+  concludes (Further g) of_target grows = further-concludes g grows
+  concludes (IsCut g) of_target grows = cut-concludes r h later w u p.attempts p.attempts_then g (told_in (IsCut g)) grows (cut-told r h w u p.attempts g)
+  concludes (Opens g) of_target grows = opening-concludes r h later w u g grows
+  concludes (Fails g) of_target grows = failing-concludes r h later w u g grows
+  concludes (GivenUp g) of_target grows = giving-up-concludes r h later w u g grows
+  concludes (Draws g) of_target grows = drawing-concludes r h later w u g grows
 
   -- where no client waits, none is done otherwise, and no leader keeps an entry of an attempt that it had none of
   module _ (done : AreDone r w) (none-taken : (x : AttemptId) → IsTaken w u x → ⊥) where
     still-done : Concludes r h later w u → AreDone r u
     still-done c n z at = done n z (subst (λ cs. slice_get cs n ≡ Some z) c.clients at)
 
-    clients-done : (e : Happening r w u) → HappensWithoutSnapshots e → GrowsBy h (told_by e) later → AreDone r u
-    clients-done (Plainly (ByClient g) up) ours grows = done-goes r w u done g
-    clients-done (Plainly (ToClient g) up) ours grows = done-hears r w u done g
-    clients-done (Plainly (ToTarget g) up) ours grows = still-done (concludes (Plainly (ToTarget g) up) tt ours grows)
-    clients-done (Plainly (ByTarget g) up) ours grows = still-done (concludes (Plainly (ByTarget g) up) tt ours grows)
-    clients-done (Further g) ours grows = still-done (concludes (Further g) tt ours grows)
-    clients-done (IsCut g) ours grows = still-done (concludes (IsCut g) tt ours grows)
-    clients-done (Opens g) ours grows = still-done (concludes (Opens g) tt ours grows)
-    clients-done (Fails g) ours grows = still-done (concludes (Fails g) tt ours grows)
-    clients-done (GivenUp g) ours grows = still-done (concludes (GivenUp g) tt ours grows)
-    clients-done (Draws g) ours grows = still-done (concludes (Draws g) tt ours grows)
+    clients-done : (e : Happening r w u) → GrowsBy h (told_by e) later → AreDone r u
+    clients-done (Plainly (ByClient g) up) grows = done-goes r w u done g
+    clients-done (Plainly (ToClient g) up) grows = done-hears r w u done g
+    clients-done (Plainly (ToTarget g) up) grows = still-done (concludes (Plainly (ToTarget g) up) tt grows)
+    clients-done (Plainly (ByTarget g) up) grows = still-done (concludes (Plainly (ByTarget g) up) tt grows)
+    clients-done (Further g) grows = still-done (concludes (Further g) tt grows)
+    clients-done (IsCut g) grows = still-done (concludes (IsCut g) tt grows)
+    clients-done (Opens g) grows = still-done (concludes (Opens g) tt grows)
+    clients-done (Fails g) grows = still-done (concludes (Fails g) tt grows)
+    clients-done (GivenUp g) grows = still-done (concludes (GivenUp g) tt grows)
+    clients-done (Draws g) grows = still-done (concludes (Draws g) tt grows)
 
     was-held : (x : AttemptId) → Concludes r h later w u → IsHeld u (leader_of r x) x → IsHeld w (leader_of r x) x
     was-held x c held = elim (c.stored x held) [ inl before ↦ before | inr taken ↦ absurd (none-taken x taken) ]
@@ -152,17 +189,17 @@ module _ (r : Rules) (h later : History) (w u : World) (A : Attempts r h w) (B :
     same-held : (x : AttemptId) → u.targets ≡ w.targets → IsHeld u (leader_of r x) x → IsHeld w (leader_of r x) x
     same-held x same held = record { entry = held.entry; found = ap (λ ts. entry_in (slice_get ts (leader_of r x)) x) (sym same) ∙ held.found }
 
-    held-back : (e : Happening r w u) → HappensWithoutSnapshots e → GrowsBy h (told_by e) later → (x : AttemptId) → IsHeld u (leader_of r x) x → IsHeld w (leader_of r x) x
-    held-back (Plainly (ByClient g) up) ours grows x = same-held x (ap (λ y. y.targets) g.after)
-    held-back (Plainly (ToClient g) up) ours grows x = same-held x (ap (λ y. y.targets) g.after)
-    held-back (Plainly (ToTarget g) up) ours grows x = was-held x (concludes (Plainly (ToTarget g) up) tt ours grows)
-    held-back (Plainly (ByTarget g) up) ours grows x = was-held x (concludes (Plainly (ByTarget g) up) tt ours grows)
-    held-back (Further g) ours grows x = was-held x (concludes (Further g) tt ours grows)
-    held-back (IsCut g) ours grows x = was-held x (concludes (IsCut g) tt ours grows)
-    held-back (Opens g) ours grows x = was-held x (concludes (Opens g) tt ours grows)
-    held-back (Fails g) ours grows x = was-held x (concludes (Fails g) tt ours grows)
-    held-back (GivenUp g) ours grows x = was-held x (concludes (GivenUp g) tt ours grows)
-    held-back (Draws g) ours grows x = was-held x (concludes (Draws g) tt ours grows)
+    held-back : (e : Happening r w u) → GrowsBy h (told_by e) later → (x : AttemptId) → IsHeld u (leader_of r x) x → IsHeld w (leader_of r x) x
+    held-back (Plainly (ByClient g) up) grows x = same-held x (ap (λ y. y.targets) g.after)
+    held-back (Plainly (ToClient g) up) grows x = same-held x (ap (λ y. y.targets) g.after)
+    held-back (Plainly (ToTarget g) up) grows x = was-held x (concludes (Plainly (ToTarget g) up) tt grows)
+    held-back (Plainly (ByTarget g) up) grows x = was-held x (concludes (Plainly (ByTarget g) up) tt grows)
+    held-back (Further g) grows x = was-held x (concludes (Further g) tt grows)
+    held-back (IsCut g) grows x = was-held x (concludes (IsCut g) tt grows)
+    held-back (Opens g) grows x = was-held x (concludes (Opens g) tt grows)
+    held-back (Fails g) grows x = was-held x (concludes (Fails g) tt grows)
+    held-back (GivenUp g) grows x = was-held x (concludes (GivenUp g) tt grows)
+    held-back (Draws g) grows x = was-held x (concludes (Draws g) tt grows)
 
 -- ---- what is known
 
@@ -173,7 +210,7 @@ IsKnown r h w x = LacksMember r w x ⊎ ((e : Epoch) × Decided h x e)
 -- All that is accounted for; clients are done; and it is known of what a leader keeps an entry of, and so of what a member was told isn't decided, or
 -- is told so by a letter in flight.
 pub record Settles (r : Rules) (o : Opening) (held : ℕ → List Version) (stored : Stored) (h : History) (w : World) : Type 0 where
-  pub accounted : Accounted r o held h stored w
+  pub accounted : AccountedFor r o held h stored w
   pub done : AreDone r w
   pub fate : (x : AttemptId) → IsHeld w (leader_of r x) x → IsKnown r h w x
   pub rows : (m : ℕ) (s : TargetState) (q : Inquiry) → slice_get w.targets m ≡ Some s → Has q s.memory.member.inquiries → q.state ≡ state.Undecided → IsKnown r h w q.attempt
@@ -181,37 +218,38 @@ pub record Settles (r : Rules) (o : Opening) (held : ℕ → List Version) (stor
 
 -- ---- each event keeps it
 
-module _ (r : Rules) (o : Opening) (held : ℕ → List Version) (stored : Stored) (h : History) (w v : World) (A : IsSimple r) (before : AreBefore o held) (k : Settles r o held stored h w) (e : WorldEvent r w v) where
-  still : AccountedStill r o held h (stored_in r e.happens ++ stored) v
-  still = events-keep-accounts r o held h stored w v A before k.accounted e
+module _ (r : Rules) (o : Opening) (held : ℕ → List Version) (stored : Stored) (h : History) (w v : World) (A : AreRulesInForm r) (before : AreBefore o held) (k : Settles r o held stored h w) (e : WorldEvent r w v) where
+  abbrev all : Upheld r o held h w
+  all = k.accounted.upheld
+
+  still : IsAccountedForStill r o held h (stored_in r e.happens ++ stored) v
+  still = all-events-keep_accounts r o held h stored w v A before k.accounted e
 
   abbrev later : History
-  later = stand.later r o held h w v A.some_attempt before k.accounted.standing e
+  later = stands.later r o held h w v A.some_attempt before all e
 
   attempts-then : Attempts r later e.u
-  attempts-then = stand.attempts-happened r o held h w v A.some_attempt before k.accounted.standing e
-
-  ours : HappensWithoutSnapshots e.happens
-  ours = stand.ours r o held h w v A.some_attempt before k.accounted.standing e
+  attempts-then = stands.attempts-happened r o held h w v A.some_attempt before all e
 
   grows : GrowsBy h (told_by e.happens) later
-  grows = (stand.go r o held h w v A.some_attempt before k.accounted.standing e).grows
+  grows = (stands.go r o held h w v A.some_attempt before all e).grows
 
   none-taken : (x : AttemptId) → IsTaken w e.u x → ⊥
   none-taken x t =
-      let q = (hands-over r w k.accounted.standing.heard.talk k.accounted.standing.heard.requests).waits t.l x (has-taken w.messages t.l t.rest t.takes) t.hands_it in
+      let q = (hands-over r w all.heard.talk all.heard.requests).waits t.l x (has-taken w.messages t.l t.rest t.takes) t.hands_it in
       let none : q.c.present ≡ None = (k.done x.client q.c q.here).1 in
       let some = q.waits.present in
       (let no : ⊥ = cc (none, some) in no)
 
-  asks : AsksGoRight r w
-  asks = asks-right r w k.accounted.standing.heard.talk k.accounted.standing.heard.requests k.accounted.standing.heard.stand
-
-  of_clients : CommitsAreOfClients e.u
-  of_clients = commits-of_clients e.u (stand.requests-happened r o held h w v A.some_attempt before k.accounted.standing e)
-
-  outcomes : Outcomes r h w
-  outcomes = k.accounted.standing.outcomes
+  place : TakesPlace r h later w e.u
+  place = record {
+    attempts = all.heard.attempts;
+    attempts_then = attempts-then;
+    outcomes = all.outcomes;
+    asks = asks-right r w all.heard.talk all.heard.requests all.heard.stand;
+    of_clients = commits-of_clients e.u (requests-happen r w e.u all.heard.requests e.happens);
+    makers = makers-write r w all.heard.makings all.makers;
+  }
 
   known-on : (x : AttemptId) → IsKnown r h w x → IsKnown r still.later v x
   known-on x (inr d) = inr (d.0, still.grew.decided (x, d.0) d.1)
@@ -220,10 +258,10 @@ module _ (r : Rules) (o : Opening) (held : ℕ → List Version) (stored : Store
       inl (record { member = lacks.member; its = lacks.its; down = subst (Has (line.Down lacks.member)) (sym more.1) (has-left w.lines more.0 (line.Down lacks.member) lacks.down) })
 
   fate-then : (x : AttemptId) → IsHeld v (leader_of r x) x → IsKnown r still.later v x
-  fate-then x h2 = known-on x (k.fate x (held-back r h later w e.u k.accounted.standing.heard.attempts attempts-then outcomes asks of_clients k.done none-taken e.happens ours grows x (record { entry = h2.entry; found = ap (λ y. entry_in (slice_get y.targets (leader_of r x)) x) (sym e.after) ∙ h2.found })))
+  fate-then x h2 = known-on x (k.fate x (held-back r h later w e.u place k.done none-taken e.happens grows x (record { entry = h2.entry; found = ap (λ y. entry_in (slice_get y.targets (leader_of r x)) x) (sym e.after) ∙ h2.found })))
 
   comes : InquiriesCome (IsSettling e.happens) r w e.u
-  comes = inquiries-come r w e.u h later k.accounted.standing.heard.attempts attempts-then e.happens (no-collections r w e.u e.happens ours)
+  comes = inquiries-come r w e.u h later all.heard.attempts attempts-then e.happens
 
   -- what is known once it happened, of what was before
   row-known : (m : ℕ) (q : Inquiry) → q.state ≡ state.Undecided → InquiryComes (IsSettling e.happens) w m q → IsKnown r h w q.attempt
@@ -246,7 +284,7 @@ module _ (r : Rules) (o : Opening) (held : ℕ → List Version) (stored : Store
 
   letter-then : (m : ℕ) (x : AttemptId) (l : Letter) → IsUndecidedTold m x l → LetterComes ⊥ r e.u m x l → IsKnown r h w x
   letter-then m x l told (WasFlying i) = flying-known m x (l, i, told)
-  letter-then m x l told (AnswersOne f keeps) = k.fate x (held-back r h later w e.u k.accounted.standing.heard.attempts attempts-then outcomes asks of_clients k.done none-taken e.happens ours grows x (keeps told))
+  letter-then m x l told (AnswersOne f keeps) = k.fate x (held-back r h later w e.u place k.done none-taken e.happens grows x (keeps told))
   letter-then m x l told (AsksNow now untold) = absurd now
 
   swept-comes : InquiriesCome ⊥ r e.u v
@@ -255,7 +293,7 @@ module _ (r : Rules) (o : Opening) (held : ℕ → List Version) (stored : Store
   settles-on : Settles r o held (stored_in r e.happens ++ stored) still.later v
   settles-on = record {
     accounted = still.accounted;
-    done = λ n z at. clients-done r h later w e.u k.accounted.standing.heard.attempts attempts-then outcomes asks of_clients k.done none-taken e.happens ours grows n z (ap (λ y. slice_get y.clients n) (sym e.after) ∙ at);
+    done = λ n z at. clients-done r h later w e.u place k.done none-taken e.happens grows n z (ap (λ y. slice_get y.clients n) (sym e.after) ∙ at);
     fate = fate-then;
     rows = λ m s q here i undecided. known-on q.attempt (row-then m q undecided (swept-comes.rows m s q here i));
     letters = λ m x f. known-on x (letter-then m x f.0 f.2 (swept-comes.letters m x f.0 f.1 (IsVerdict f.2.inc _ f.2.says f.2.to)));
@@ -268,7 +306,7 @@ pub record SettlesStill (r : Rules) (o : Opening) (held : ℕ → List Version) 
   pub h : History
   pub so : Settles r o held stored h v
 
-pub runs-settle : (r : Rules) (o : Opening) (held : ℕ → List Version) (stored : Stored) (h : History) (u v : World) → IsSimple r → AreBefore o held → Settles r o held stored h u → WorldRun r u v → SettlesStill r o held v
+pub runs-settle : (r : Rules) (o : Opening) (held : ℕ → List Version) (stored : Stored) (h : History) (u v : World) → AreRulesInForm r → AreBefore o held → Settles r o held stored h u → WorldRun r u v → SettlesStill r o held v
 runs-settle r o held stored h u v A before k Begins = record { stored = stored; h = h; so = k }
 runs-settle r o held stored h u v A before k (Goes x y run e) =
     let z = runs-settle r o held stored h u x A before k run in

@@ -22,12 +22,13 @@ use Rattle.world_plain.specs.ends.StopLaws.{tries-undisturbed}
 use Rattle.world_plain.specs.facts.FactLaws.{known-at-each-moment}
 use Rattle.world_plain.specs.facts.Settled.{IsCommittedAtAll}
 use Rattle.world_plain.specs.facts.SettledLaws.{ended-runs-commit-at-all}
+use Rattle.world_plain.specs.whole.Begins.{IsBegun, IsSimple}
 use Rattle.world_plain.specs.unstopped.Renumbering.{with_numbers}
 use Rattle.world_plain.specs.unstopped.Unstopped.{unstopped-is-plain}
 use Rattle.run_laws.specs.reports.Legal.{ended, events}
 use Rattle.run_laws.specs.reports.Reports.{EndsPlainlyIn, GoesInOrder, TellsOfLoneClient, UnstoppedOrdersEndPlainly, UnstoppedOrdersOfLoneClients}
 
-module _ (g : Given) (w v : World) (k : GoesInOrder g w v) (none : stop_numbers v.lines ≡ []) where
+module _ (g : Given) (w v : World) (simple : IsSimple (rules_of g)) (begun : IsBegun (rules_of g) g.opening w) (k : GoesInOrder g w v) (none : stop_numbers v.lines ≡ []) where
   abbrev r : Rules
   r = rules_of g
 
@@ -36,7 +37,7 @@ module _ (g : Given) (w v : World) (k : GoesInOrder g w v) (none : stop_numbers 
   last = with_numbers w.numbers v
 
   plain : Run r w last
-  plain = unstopped-is-plain r g.opening w v k.simple k.begun (events g w v k) none
+  plain = unstopped-is-plain r g.opening w v simple begun (events g w v k) none
 
   over : HasEnded r last
   over =
@@ -44,7 +45,7 @@ module _ (g : Given) (w v : World) (k : GoesInOrder g w v) (none : stop_numbers 
       record { to_clients = e.to_clients; to_targets = e.to_targets; clients = e.clients; none_stopped = e.none_stopped; settled = e.settled; told = e.told; inquired = e.inquired }
 
   known : TellsPlain last
-  known = (known-at-each-moment r g.opening w last k.simple k.begun plain).lines
+  known = (known-at-each-moment r g.opening w last simple begun plain).lines
 
   tells : TellsPlain v
   tells = record { attempts = known.attempts; sure = known.sure }
@@ -59,18 +60,18 @@ module _ (g : Given) (w v : World) (k : GoesInOrder g w v) (none : stop_numbers 
   everywhere t s e here i = record { named = λ m names. now m (all.named m names); members = λ m member. now m (all.members m member) }
     where
       all : IsCommittedAtAll r last e
-      all = ended-runs-commit-at-all r g.opening w last e k.simple k.begun plain over (record { t = t; s = s; here = here; among = i })
+      all = ended-runs-commit-at-all r g.opening w last e simple begun plain over (record { t = t; s = s; here = here; among = i })
 
       now : (m : ℕ) → IsSettled last m e.attempt → IsSettled v m e.attempt
       now m z = record { entry = z.entry; found = z.found; committed = z.committed }
 
   pub plainly : EndsPlainlyIn g v
   plainly = record {
-    legal = λ resolved. subst (Headline g undisturbed resolved) same (runs-give-the-headline g resolved w last k.simple k.begun plain over);
-    stands = subst (HeadlineOver g undisturbed (durables_of v)) same (runs-from-the-beginning g w last k.simple k.begun plain over);
+    legal = λ resolved. subst (Headline g undisturbed resolved) same (runs-give-the-headline g resolved w last simple begun plain over);
+    stands = subst (HeadlineOver g undisturbed (durables_of v)) same (runs-from-the-beginning g w last simple begun plain over);
     none_down = none-down;
     tells = tells;
-    settled = λ t s here. ended-runs-are-settled r g.opening w last t s k.simple k.begun plain over here;
+    settled = λ t s here. ended-runs-are-settled r g.opening w last t s simple begun plain over here;
     everywhere = everywhere;
   }
 
@@ -83,11 +84,11 @@ module _ (g : Given) (w v : World) (k : GoesInOrder g w v) (none : stop_numbers 
         one_attempt = try-once g undisturbed _ q one told;
         rising = (rise g undisturbed _ q one told).0;
         plainly = end-plainly g undisturbed _ q one told;
-        committed = λ free room ticks. commit g undisturbed _ q one told k.simple.some_target k.simple.some_attempt room free ticks;
+        committed = λ free room ticks. commit g undisturbed _ q one told simple.some_target simple.some_attempt room free ticks;
       }
 
 pub unstopped-end-plainly : UnstoppedOrdersEndPlainly
-unstopped-end-plainly g w v k none = plainly g w v k none
+unstopped-end-plainly g w v simple begun k none = plainly g w v simple begun k none
 
 pub unstopped-lone : UnstoppedOrdersOfLoneClients
-unstopped-lone g w v k none one = lone g w v k none one
+unstopped-lone g w v simple begun k none one = lone g w v simple begun k none one

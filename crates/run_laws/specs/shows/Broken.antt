@@ -1,4 +1,7 @@
 -- Where a run broke off for want of memory.
+use Rattle.run_laws.specs.turns.Drawn.{AreDrawn, next-fresh}
+use Rattle.run_base.specs.Numbers.{next_aggregate}
+use Rattle.run_laws.specs.turns.Drawn.{RunsOn}
 use Rattle.std.specs.Prelude.{ℕ, ◌≡◌, false, Bool, List, [], length, slice_get, slice_set, Option, Some, None, Err, refl}
 use Rattle.std.proofs.Common.{inl, inr, sym, ◌∙◌, ap, subst}
 use Rattle.std.proofs.Math.ListN.{set}
@@ -25,7 +28,6 @@ use Rattle.run_laws.specs.shows.Parts.{IsThere, at-both, is-set, picked-takes, p
 use Rattle.run_laws.specs.shows.Shows.{IsTargetOf, Leads, Shows, WasReached}
 use Rattle.run_laws.specs.shows.Stages.{AreFound, IsPlace, StageNow}
 use Rattle.run_laws.specs.shows.Stopping.{hearing-in-world, idling-in-world}
-use Rattle.run_laws.specs.shows.Leading.{NonePrunes}
 use Rattle.run_laws.specs.shows.Turned.{ByHearing, ByIdling, IsTurned}
 
 -- ---- the statements
@@ -39,7 +41,7 @@ pub record HasBrokenOff (r : Rules) (w : World) (n : ℕ) (found : ℕ → Durab
 
 -- what leads from one world to another goes on a run
 abbrev pub GoesOnRuns : (World → World → Type 0) → Rules → Type 0
-GoesOnRuns T r = (w v first : World) → T w v → WorldRun r first w → WorldRun r first v
+GoesOnRuns T r = (w v : World) → T w v → RunsOn r w v
 
 module _ {S C : Type 0} (durable : S → Option Durable) (state : S → State) (may : S → Durable → Type 0) where
   -- the next openings of these targets' stores may find this
@@ -97,8 +99,9 @@ module _ {S C : Type 0} (durable : S → Option Durable) (state : S → State) (
           were = z.were;
           led = λ w reached shows.
               let n = z.led w reached shows in
-              let e = y.led n.next (record { opening = reached.opening; first = reached.first; simple = reached.simple; begun = reached.begun; run = runs w n.next reached.first n.turn reached.run }) n.shows in
-              record { last = e.last; run = λ first run. e.run first (runs w n.next first n.turn run); many = e.many; keeps = e.keeps };
+              let on = runs w n.next n.turn in
+              let e = y.led n.next (record { opening = reached.opening; first = reached.first; begins = reached.begins; run = on.run reached.first reached.run; drawn = on.drawn reached.drawn }) n.shows in
+              record { last = e.last; run = λ first run. e.run first (on.run first run); many = e.many; keeps = e.keeps };
         }
 
     -- a whole turn, of which what followed didn't come about
@@ -142,24 +145,25 @@ module _ {S C : Type 0} (durable : S → Option Durable) (state : S → State) (
             keeps = keeps;
           }
 
-        wanting-led : (settling : Bool) (number : ℕ) (left : BetweenNow) → NonePrunes a.between t number → IsTurned durable state may settling t number x y a.between left (Err stop.Memory) → (w : World) → Shows durable state r found a w
+        wanting-led : (settling : Bool) (number : ℕ) (left : BetweenNow) → IsTurned durable state may settling t number x y a.between left (Err stop.Memory) → (w : World) → AreDrawn w → Shows durable state r found a w
             → IsThere durable state r found w t x Running → HasBrokenOff r w (length (slice_set a.targets t y)) found
-        wanting-led settling number left no_prunes (ByHearing l rest reading picked left_is turn) w k s =
-            let it = turn s.s.durable s.is.so.told in
-            let n = (it.holds 0).stops in
+        wanting-led settling number left (ByHearing l rest reading picked left_is few turn) w drawn k s =
+            let next = next_aggregate a.between.lines in
+            let it = turn next (λ asks. refl) s.s.durable s.is.so.told in
+            let n = it.holds.stops in
             let takes = picked-takes a.between.messages number l rest (target t) picked in
-            broken w k s.s s.here n.cut (it.kept_is ∙ ap (λ z. Some z.durable) (sym n.left)) (Hearing l reading 0)
-            ((rest, subst (λ ls. Takes ls l rest) k.messages takes), picked.to_it, λ asks. let off = no_prunes l rest picked in let no : ⊥ = cc (asks, off) in absurd no) s.is.lives
-            (hearing-in-world durable state r t x y a place plan None [] found w k s.s s.here s.is n.cut l reading n.was)
-        wanting-led settling number left no_prunes (ByIdling none left_is turn) w k s =
+            broken w k s.s s.here n.cut (it.kept_is ∙ ap (λ z. Some z.durable) (sym n.left)) (Hearing l reading next)
+            ((rest, subst (λ ls. Takes ls l rest) k.messages takes), picked.to_it, next-fresh w a.between.lines l.message drawn k.lines few) s.is.lives
+            (hearing-in-world durable state r t x y a place plan None [] found w k s.s s.here s.is next n.cut l reading n.was)
+        wanting-led settling number left (ByIdling none left_is turn) w drawn k s =
             let it = turn s.s.durable s.is.so.told in
             let n = it.holds.stops in
             broken w k s.s s.here n.cut (it.kept_is ∙ ap (λ z. Some z.durable) (sym n.left)) IdleWork tt s.is.lives (idling-in-world durable state r t x y a place plan None [] found w k s.s s.here s.is n.cut n.was)
 
       -- memory was wanting in it: what the target keeps then is what a stop there leaves
-      pub breaks-in_work : (settling : Bool) (number : ℕ) (left : BetweenNow) → NonePrunes a.between t number → IsTurned durable state may settling t number x y a.between left (Err stop.Memory) → BreaksOff r a (slice_set a.targets t y)
-      breaks-in_work settling number left no_prunes turned found m = record {
+      pub breaks-in_work : (settling : Bool) (number : ℕ) (left : BetweenNow) → IsTurned durable state may settling t number x y a.between left (Err stop.Memory) → BreaksOff r a (slice_set a.targets t y)
+      breaks-in_work settling number left turned found m = record {
         before = found;
         were = were-found found m;
-        led = λ w reached k. wanting-led found m settling number left no_prunes turned w k (target-there durable state r found a w t x Running k place);
+        led = λ w reached k. wanting-led found m settling number left turned w reached.drawn k (target-there durable state r found a w t x Running k place);
       }

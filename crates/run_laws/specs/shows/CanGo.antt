@@ -1,4 +1,5 @@
 -- Actors that can have their turns, whatever their stores tell.
+use Rattle.world_plain.specs.whole.KnownSnapshots.{ReadsKnown}
 use Rattle.std.specs.Prelude.{ℕ, ◌≡◌, ◌+◌, ◌<◌, ◌^◌, List, false, true, length, slice_get, Contains, Option, Some}
 use Rattle.std.specs.Option.{ForSome}
 use Rattle.client_core.specs.Clients.{ClientNow}
@@ -14,22 +15,22 @@ use Rattle.world_base.specs.declared.target.Life.{Life}
 use Rattle.world_base.specs.declared.target.Life.TheVariants.{Running, Stopped}
 use Rattle.world_base.specs.Events.{Rules, client_plan, target_plan}
 use Rattle.world_base.specs.Letters.{target}
-use Rattle.world_contents.specs.posts.Forms.{ClientsWait, IsInForm, IsLetter, is_of_client}
-use Rattle.world_plain.specs.whole.Begins.{IsSimple}
+use Rattle.world_contents.specs.posts.Forms.{ClientsAwait, IsInForm, IsLetter, is_of_client}
+use Rattle.world_upheld.specs.upheld.Begins.{AreRulesInForm}
 
 -- a target that runs has opened, its store isn't stopped, and it is clients that wait there for the end of attempts
 pub record CanWork {S C : Type 0} (state : S → State) (x : TargetOf S C) : Type 0 where
   pub opened : x.opened ≡ true
   pub running : (state x.store).stopped ≡ false
-  pub waiting : ClientsWait x.memory.leader
+  pub waiting : ClientsAwait x.memory
 
--- The actors are those of a run of a script in form, for some targets, without snapshots and aggregation; each target that runs can have its
--- turn; each letter in flight, and each that is without an answer, has form. Where a store tells what it keeps, the actors are those of such
+-- The actors are those of a run of a script in form, for some targets; each client that reads at a snapshot knows it; each target that runs can have its turn; each letter in flight, and each that is without an answer, has form. Where a store tells what it keeps, the actors are those of such
 -- a run that was begun.
 pub record CanGo {S C : Type 0} (durable : S → Option Durable) (state : S → State) (may : S → Durable → Type 0) (a : StageNow S C) : Type 0 where
   pub rules : Rules
-  pub simple : IsSimple rules
+  pub form : AreRulesInForm rules
   pub plans : (n : ℕ) (c : ClientNow) → slice_get a.clients n ≡ Some c → c.plan ≡ client_plan rules n
+  pub known : (n : ℕ) (c : ClientNow) → slice_get a.clients n ≡ Some c → ReadsKnown c.plan c.state
   pub made : (t : ℕ) (x : TargetOf S C) → slice_get a.targets t ≡ Some x → x.plan ≡ target_plan rules t
   pub many : length a.targets ≡ rules.script.targets
   pub standing : length a.watch.lives ≡ length a.targets
@@ -43,6 +44,7 @@ pub record CanGo {S C : Type 0} (durable : S → Option Durable) (state : S → 
 pub record IsHearable {S C : Type 0} (durable : S → Option Durable) (x : TargetOf S C) (l : Letter) : Type 0 where
   pub form : IsInForm x.plan l.message
   pub kind : is_of_client l.message ≡ l.from.client
+  pub few : l.from.client ≡ false → l.from.number < 64
   pub here : ForSome (durable x.store) (CanHear x.plan l.message)
 
 -- A target can have its turn. One that runs has opened, its store isn't stopped, and it can hear whichever letter has this number among those

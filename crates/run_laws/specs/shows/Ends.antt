@@ -15,7 +15,7 @@ use Rattle.world_base.specs.declared.target.Life.{Life}
 use Rattle.world_base.specs.declared.target.Life.TheVariants.{Running}
 use Rattle.world_base.specs.Events.{Rules, client_plan}
 use Rattle.world_letters.specs.clients.AnswerLaws.{Tells}
-use Rattle.world_ended.specs.Asking.{Asked, GoesWith, WaitWith}
+use Rattle.world_ended.specs.Asking.{Asked, GoesWith, RemembersWith}
 use Rattle.world_ended.specs.Clients.{AllEndWell, IsAskingClient}
 
 -- letters go with what clients asked to commit
@@ -33,9 +33,9 @@ pub record BetweenGoes (asked : Asked) (b : BetweenNow) : Type 0 where
   pub letters : LettersGoWith asked b.messages
   pub unanswered : LettersGoWith asked b.asked
 
--- targets that run keep clients waiting for the end of those attempts alone
+-- targets that run keep clients waiting for those attempts alone, and make for them alone snapshots and aggregations
 abbrev pub AllWaitWith : {S C : Type 0} → Asked → List (TargetOf S C) → List Life → Type 0
-AllWaitWith {S} {C} asked ts lives = (t : ℕ) (x : TargetOf S C) → slice_get ts t ≡ Some x → slice_get lives t ≡ Some Running → WaitWith asked x.memory.leader
+AllWaitWith {S} {C} asked ts lives = (t : ℕ) (x : TargetOf S C) → slice_get ts t ≡ Some x → slice_get lives t ≡ Some Running → RemembersWith asked x.memory
 
 pub record AllGoWith {S C : Type 0} (asked : Asked) (a : StageNow S C) : Type 0 where
   pub between : BetweenGoes asked a.between

@@ -1,4 +1,5 @@
 -- Attempts end well, whatever turns follow one another.
+use Rattle.target_snaps.specs.Following.{TellsNoAttempt}
 use Rattle.std.specs.Prelude.{ℕ, ◌≡◌, ◌≤◌, ◌+◌, ◌++◌, ◌==◌, Bool, true, false, All, List, [], ◌∷◌, filter, map, slice_get, slice_set, Option, Some, None, Result, Ok, Err, IfOk, is_ok, refl, if◌then◌else◌}
 use Rattle.std.proofs.Common.{append-nil, inl, inr, sym, ◌∙◌, ap, subst, arith}
 use Rattle.std.proofs.lemmas.Bool.{cases_eq}
@@ -27,7 +28,7 @@ use Rattle.run_base.specs.Letters.{BetweenNow, IsPicked}
 use Rattle.run_base.specs.Sweeps.{is_left_by, is_lost_by}
 use Rattle.run_laws.specs.shows.Ends.{AllGoWith, AllWaitWith, BetweenGoes, EndsGoOn, IsEndingClient, LettersGoWith, TellsOn}
 use Rattle.run_laws.specs.shows.InTurn.{TellInTurn}
-use Rattle.run_laws.specs.shows.InTurnLaws.{client-tells, line-alone, one-line, target-tells, turned-lines}
+use Rattle.run_laws.specs.shows.InTurnLaws.{client-tells, line-alone, none-tried, one-line, target-tells, turned-lines}
 use Rattle.run_laws.specs.shows.Kinds.{AnswersGoOn, loads_of}
 use Rattle.run_laws.specs.shows.KindsLaws.{client-goes-on, fault-lives, picked-load, script-ops, target-goes-on}
 use Rattle.run_laws.specs.shows.Lettered.{has-asked}
@@ -38,7 +39,6 @@ use Rattle.run_laws.specs.shows.Turned.{AfterFailure, AfterStop, ByForeign, ByHe
 use Rattle.run_watch.specs.Watches.{fuse_set, opened_again, opening_tried}
 use Rattle.target_core.specs.Targets.{TargetOf}
 use Rattle.target_parts.specs.declared.stop.TargetStop.{TargetStop}
-use Rattle.target_parts.specs.Stops.{IsSilent}
 use Rattle.target_resync.specs.Openings.{TellsRestart}
 use Rattle.vos_store.specs.Calls.{State}
 use Rattle.world_base.specs.declared.client.ClientPlan.{ClientPlan}
@@ -56,7 +56,7 @@ use Rattle.world_letters.specs.clients.AnswerLaws.{Tells}
 use Rattle.world_letters.specs.clients.Answered.{EndsAsAnswered, EndsWell, IsAnsweredHere, ops_here}
 use Rattle.world_letters.specs.clients.MoveLaws.{clients-begin}
 use Rattle.world_letters.specs.clients.Standing.{number_of}
-use Rattle.world_ended.specs.Asking.{Asked, EndsAsked, GoesWith, LeavesWith, PostsGoWith, WaitWith}
+use Rattle.world_ended.specs.Asking.{Asked, GoesWith, PostsGoWith, RemembersWith, TurnLeavesWith, TurnsEndAsked}
 use Rattle.world_ended.specs.Clients.{AllEndWell, AreMore, HasEndedWell, LeavesWell}
 use Rattle.world_ended.specs.ClientLaws.{asking-others, clients-begin-asking, goes-more, hear-turn-well, next-turn-well, reset-goes}
 use Rattle.world_letters.specs.kinds.Loads.{load}
@@ -117,22 +117,22 @@ left-goes asked b to number l rest k goes = record {
 
 module _ {S C : Type 0} (asked : Asked) (ts : List (TargetOf S C)) (lives : List Life) (k : AllWaitWith asked ts lives) where
   -- one of them changed, and how it stands
-  wait-set : (t : ℕ) (y : TargetOf S C) (life : Life) → (life ≡ Running → WaitWith asked y.memory.leader) → AllWaitWith asked (slice_set ts t y) (slice_set lives t life)
+  wait-set : (t : ℕ) (y : TargetOf S C) (life : Life) → (life ≡ Running → RemembersWith asked y.memory) → AllWaitWith asked (slice_set ts t y) (slice_set lives t life)
   wait-set t y life new u z there stands = elim (cases_eq u t) [
     | inl same ↦
         (let one : y ≡ z = set-is ts t y z (subst (λ v. slice_get (slice_set ts t y) v ≡ Some z) same there) in
         let runs : life ≡ Running = set-is lives t life Running (subst (λ v. slice_get (slice_set lives t life) v ≡ Some Running) same stands) in
-        subst (λ (q : TargetOf S C). WaitWith asked q.memory.leader) one (new runs))
+        subst (λ (q : TargetOf S C). RemembersWith asked q.memory) one (new runs))
     | inr apart ↦ k u z (sym (set-there ts t u y apart) ∙ there) (sym (set-there lives t u life apart) ∙ stands)
   ]
 
-  wait-at : (t : ℕ) (y : TargetOf S C) (life : Life) → slice_get lives t ≡ Some life → (life ≡ Running → WaitWith asked y.memory.leader) → AllWaitWith asked (slice_set ts t y) lives
+  wait-at : (t : ℕ) (y : TargetOf S C) (life : Life) → slice_get lives t ≡ Some life → (life ≡ Running → RemembersWith asked y.memory) → AllWaitWith asked (slice_set ts t y) lives
   wait-at t y life at new u z there stands = elim (cases_eq u t) [
     | inl same ↦
         (let one : y ≡ z = set-is ts t y z (subst (λ v. slice_get (slice_set ts t y) v ≡ Some z) same there) in
         let runs : Some life ≡ Some Running = sym at ∙ subst (λ v. slice_get lives v ≡ Some Running) same stands in
         let is : life ≡ Running = cc in
-        subst (λ (q : TargetOf S C). WaitWith asked q.memory.leader) one (new is))
+        subst (λ (q : TargetOf S C). RemembersWith asked q.memory) one (new is))
     | inr apart ↦ k u z (sym (set-there ts t u y apart) ∙ there) stands
   ]
 
@@ -185,22 +185,22 @@ after-stop-leaves asked t before now a b (LastTime more at same) k = subst (Leav
 module _ {S C : Type 0} (durable : S → Option Durable) (state : S → State) (may : S → Durable → Type 0) (a b : StageNow S C) (t : ℕ) (asked : Asked) (k : AllGoWith asked a) where
   -- what a target heard is no more in flight
   turned-goes : (settling : Bool) (number : ℕ) (x y : TargetOf S C) (left : BetweenNow) (result : Result Did TargetStop) → IsTurned durable state may settling t number x y a.between left result → BetweenGoes asked left
-  turned-goes settling number x y left result (ByHearing l rest reading picked is turn) = subst (BetweenGoes asked) (sym is) (left-goes asked a.between (target t) number l rest picked k.between)
+  turned-goes settling number x y left result (ByHearing l rest reading picked is few turn) = subst (BetweenGoes asked) (sym is) (left-goes asked a.between (target t) number l rest picked k.between)
   turned-goes settling number x y left result (ByIdling none is turn) = subst (BetweenGoes asked) (sym is) k.between
 
-  work-leaves : (x y : TargetOf S C) (left : BetweenNow) (result : Result Did TargetStop) → IsPlace a t x Running → left.lines ≡ a.between.lines → BetweenGoes asked left → IsSilent result
-      → IfOk result (λ did. EndsAsked asked x.memory.leader y.memory.leader did.posts) → WorkEnds durable state may t x y left a b result → Leaves asked a b
-  work-leaves x y left result place lines goes silent ends (Whole did is after) =
-      let none : did.lines ≡ [] = subst IsSilent is silent in
-      let turn : LeavesWith asked y.memory.leader did.posts = (subst (λ q. IfOk q (λ did. EndsAsked asked x.memory.leader y.memory.leader did.posts)) is ends) (k.targets t x place.there place.stands) in
+  work-leaves : (x y : TargetOf S C) (left : BetweenNow) (result : Result Did TargetStop) → IsPlace a t x Running → left.lines ≡ a.between.lines → BetweenGoes asked left → TellsNoAttempt result
+      → IfOk result (λ did. TurnsEndAsked asked x.memory y.memory did.posts) → WorkEnds durable state may t x y left a b result → Leaves asked a b
+  work-leaves x y left result place lines goes told ends (Whole did is after) =
+      let none : tries did.lines ≡ [] = subst TellsNoAttempt is told in
+      let turn : TurnLeavesWith asked y.memory did.posts = (subst (λ q. IfOk q (λ did. TurnsEndAsked asked x.memory y.memory did.posts)) is ends) (k.targets t x place.there place.stands) in
       let now = with_between (followed (target t) did left) (with_target_at t y a) in
       subst (Leaves asked a) (sym after) (record {
         clients = refl;
-        lines = ap (λ ls. tries (left.lines ++ map (with_epoch left.issued) ls)) none ∙ ap tries (append-nil left.lines) ∙ ap tries lines;
-        going = swept-all asked now (record { between = followed-goes asked (target t) did left goes turn.said; targets = wait-at asked a.targets a.watch.lives k.targets t y Running place.stands (λ runs. turn.waiting) });
+        lines = none-tried left.issued left.lines did.lines none ∙ ap tries lines;
+        going = swept-all asked now (record { between = followed-goes asked (target t) did left goes turn.said; targets = wait-at asked a.targets a.watch.lives k.targets t y Running place.stands (λ runs. turn.remembers) });
       })
-  work-leaves x y left result place lines goes silent ends (Cut stop is after) =
-      let none : after.lines ≡ [] = subst IsSilent (is ∙ ap Err after.cut) silent in
+  work-leaves x y left result place lines goes told ends (Cut stop is after) =
+      let none : tries after.lines ≡ [] = subst TellsNoAttempt (is ∙ ap Err after.cut) told in
       let now = stopped_stage t after.issued after.lines (with_between left (with_target_at t y a)) in
       let all : AllGoWith asked (swept_stage now) = swept-all asked now (record {
         between = record { letters = lost-go asked t false left goes; unanswered = fewer-go asked (is_not_to t) left.asked goes.unanswered };
@@ -210,7 +210,7 @@ module _ {S C : Type 0} (durable : S → Option Durable) (state : S → State) (
       (record { clients = refl; lines = line-alone left.lines after.lines (line.Stop (stops_so_far left.lines) t) none refl ∙ ap tries lines; going = all })
       (after-stop-leaves asked t _ _ (swept_stage now) b after.after all)
 
-  opening-leaves : (x y : TargetOf S C) (result : Result Did TargetStop) → IsPlace a t x Stopped → IfOk result (TellsRestart a.watch.restarts x.plan.me) → IfOk result (λ did. LeavesWith asked y.memory.leader did.posts)
+  opening-leaves : (x y : TargetOf S C) (result : Result Did TargetStop) → IsPlace a t x Stopped → IfOk result (TellsRestart a.watch.restarts x.plan.me) → IfOk result (λ did. TurnLeavesWith asked y.memory did.posts)
       → OpeningEnds durable state may t x y (record a { targets = slice_set a.targets t y; watch = opening_tried a.watch }) b result → Leaves asked a b
   opening-leaves x y result place line_is ends opening = by opening
     where
@@ -230,14 +230,14 @@ module _ {S C : Type 0} (durable : S → Option Durable) (state : S → State) (
       by : OpeningEnds durable state may t x y here b result → Leaves asked a b
       by (Opened did is after) =
           let tells = subst (λ q. IfOk q (TellsRestart a.watch.restarts x.plan.me)) is line_is in
-          let turn : LeavesWith asked y.memory.leader did.posts = subst (λ q. IfOk q (λ did. LeavesWith asked y.memory.leader did.posts)) is ends in
+          let turn : TurnLeavesWith asked y.memory did.posts = subst (λ q. IfOk q (λ did. TurnLeavesWith asked y.memory did.posts)) is ends in
           let now : StageNow S C = record here { targets = slice_set here.targets t after.armed; watch = opened_again t (fuse_set t here.watch); between = followed (target t) did here.between } in
           subst (Leaves asked a) (sym after.after) (record {
             clients = refl;
             lines = ap (λ ls. tries (a.between.lines ++ map (with_epoch a.between.issued) ls)) tells.2 ∙ one-line a.between.lines (line.Restart a.watch.restarts x.plan.me tells.0 tells.1) refl;
             going = swept-all asked now (record {
               between = followed-goes asked (target t) did a.between k.between turn.said;
-              targets = wait-set asked (slice_set a.targets t y) a.watch.lives waits t after.armed Running (λ runs. subst (λ m. WaitWith asked m.leader) (sym after.fuse.memory) turn.waiting);
+              targets = wait-set asked (slice_set a.targets t y) a.watch.lives waits t after.armed Running (λ runs. subst (RemembersWith asked) (sym after.fuse.memory) turn.remembers);
             });
           })
       by (NotOpened stop is after) = failed stop after
@@ -245,7 +245,7 @@ module _ {S C : Type 0} (durable : S → Option Durable) (state : S → State) (
   turn-leaves : (r : Rules) (is_read : C → C → Type 0) (settling : Bool) (number : ℕ) → TargetTurned durable state may is_read settling t number a b → Leaves asked a b
   turn-leaves r is_read settling number (Worked w) =
       work-leaves w.work.before w.work.now w.work.left w.work.result w.work.place (turned-lines durable state may r a b t settling number w.work.before w.work.now w.work.left w.work.result w.work.turned)
-      (turned-goes settling number w.work.before w.work.now w.work.left w.work.result w.work.turned) w.work.silent (w.work.ends asked k.between.letters) w.ends
+      (turned-goes settling number w.work.before w.work.now w.work.left w.work.result w.work.turned) w.work.told (w.work.ends asked k.between.letters) w.ends
   turn-leaves r is_read settling number (Reopened w) = opening-leaves w.was.before w.was.now w.was.result w.was.place w.was.line (w.was.ends asked) w.ends
 
 -- a target's turn goes on so
@@ -310,7 +310,9 @@ module _ {S C : Type 0} (r : Rules) (n : ℕ) (c d : ClientNow) (did : Did) (lef
     ];
     going = swept-all asked-now (with_between (followed (client n) did left) (with_client_at n d a)) (record {
       between = followed-goes asked-now (client n) did left (between-more k.asked asked-now left turn.asking.more goes) turn.asking.said;
-      targets = λ t x there stands u y i is. turn.asking.more u.attempt (k.going.targets t x there stands u y i is);
+      targets = λ t x there stands.
+          let old = k.going.targets t x there stands in
+          record { waiting = λ u y i is. turn.asking.more u.attempt (old.waiting u y i is); making = λ n i. turn.asking.more n.attempt (old.making n i) };
     });
     lines = lines-well r.script left.issued left.lines did.lines (subst (AllEndWell r.script) (sym lines) k.lines) told-well;
   }
@@ -357,7 +359,7 @@ nothing-told p c place command none = record {
 
 -- nothing was asked yet
 pub ends-first : {S C : Type 0} (r : Rules) (a : StageNow S C) → AnswersGoOn r a → ((n : ℕ) (c : ClientNow) → slice_get a.clients n ≡ Some c → (c.state.place ≡ 0) × (c.state.command ≡ 0) × (c.state.present ≡ None))
-    → ((t : ℕ) (x : TargetOf S C) → slice_get a.targets t ≡ Some x → x.memory.leader.undecided ≡ []) → a.between.messages ≡ [] → a.between.asked ≡ [] → a.between.lines ≡ [] → EndsGoOn r a
+    → ((t : ℕ) (x : TargetOf S C) → slice_get a.targets t ≡ Some x → (x.memory.leader.undecided ≡ []) × (x.memory.collecting ≡ [])) → a.between.messages ≡ [] → a.between.asked ≡ [] → a.between.lines ≡ [] → EndsGoOn r a
 ends-first r a answers clients targets messages unanswered lines = record {
   answers = answers;
   asked = λ x. false;
@@ -368,7 +370,7 @@ ends-first r a answers clients targets messages unanswered lines = record {
   };
   going = record {
     between = record { letters = subst (LettersGoWith (λ x. false)) (sym messages) (λ l i. absurd i); unanswered = subst (LettersGoWith (λ x. false)) (sym unanswered) (λ l i. absurd i) };
-    targets = λ t x there stands u y i is. absurd (subst (Has u) (targets t x there) i);
+    targets = λ t x there stands. record { waiting = λ u y i is. absurd (subst (Has u) (targets t x there).0 i); making = λ n i. absurd (subst (Has n) (targets t x there).1 i) };
   };
   lines = subst (AllEndWell r.script) (sym lines) (none-told r.script);
 }

@@ -1,4 +1,5 @@
 -- Actors that can have their turns can have them after a turn.
+use Rattle.world_plain.specs.whole.KnownSnapshots.{ReadsKnown}
 use Rattle.std.specs.Prelude.{ℕ, ◌≡◌, ◌≤◌, ◌<◌, ◌+◌, ◌==◌, ◌^◌, ◌++◌, List, filter, length, slice_get, slice_set, Bool, true, false, Contains, Option, Some, is_some, refl, if◌then◌else◌}
 use Rattle.std.proofs.Common.{inl, inr, sym, ◌∙◌, ap, subst, arith}
 use Rattle.std.proofs.lemmas.Bool.{cases_eq}
@@ -27,11 +28,12 @@ use Rattle.world_base.specs.declared.target.Life.TheVariants.{Down, Running, Sto
 use Rattle.world_base.specs.Events.{Rules, client_plan, target_plan}
 use Rattle.world_base.specs.StepLaws.{set-is, set-there}
 use Rattle.world_contents.specs.posts.Forms.{IsLetter}
-use Rattle.world_plain.specs.whole.Begins.{IsSimple}
+use Rattle.world_upheld.specs.upheld.Begins.{AreRulesInForm}
 
 -- all that lets actors have their turns, whatever their stores tell
 pub record Fits {S C : Type 0} (state : S → State) (r : Rules) (a : StageNow S C) : Type 0 where
   pub plans : (n : ℕ) (c : ClientNow) → slice_get a.clients n ≡ Some c → c.plan ≡ client_plan r n
+  pub known : (n : ℕ) (c : ClientNow) → slice_get a.clients n ≡ Some c → ReadsKnown c.plan c.state
   pub made : (t : ℕ) (x : TargetOf S C) → slice_get a.targets t ≡ Some x → x.plan ≡ target_plan r t
   pub many : length a.targets ≡ r.script.targets
   pub standing : length a.watch.lives ≡ length a.targets
@@ -43,6 +45,7 @@ module _ {S C : Type 0} (durable : S → Option Durable) (state : S → State) (
   pub fits-of : (a : StageNow S C) (k : CanGo durable state may a) → Fits state k.rules a
   fits-of a k = record {
     plans = k.plans;
+    known = k.known;
     made = k.made;
     many = k.many;
     standing = k.standing;
@@ -51,11 +54,12 @@ module _ {S C : Type 0} (durable : S → Option Durable) (state : S → State) (
     between = record { messages = λ l i. k.messages l (contains-from_has a.between.messages l i); asked = λ l i. k.asked l (contains-from_has a.between.asked l i) };
   }
 
-  pub can-go : (r : Rules) (a : StageNow S C) → IsSimple r → Fits state r a → ((t : ℕ) (x : TargetOf S C) (d : Durable) → slice_get a.targets t ≡ Some x → durable x.store ≡ Some d → IsGoing durable state may a) → CanGo durable state may a
-  can-go r a simple f told = record {
+  pub can-go : (r : Rules) (a : StageNow S C) → AreRulesInForm r → Fits state r a → ((t : ℕ) (x : TargetOf S C) (d : Durable) → slice_get a.targets t ≡ Some x → durable x.store ≡ Some d → IsGoing durable state may a) → CanGo durable state may a
+  can-go r a rules f told = record {
     rules = r;
-    simple = simple;
+    form = rules;
     plans = f.plans;
+    known = f.known;
     made = f.made;
     many = f.many;
     standing = f.standing;
@@ -66,16 +70,17 @@ module _ {S C : Type 0} (durable : S → Option Durable) (state : S → State) (
     told = told;
   }
 
-module _ {S C : Type 0} (state : S → State) (r : Rules) (simple : IsSimple r) (a : StageNow S C) (f : Fits state r a) where
+module _ {S C : Type 0} (state : S → State) (r : Rules) (rules : AreRulesInForm r) (a : StageNow S C) (f : Fits state r a) where
   pub few : length a.watch.lives ≤ 64
-  few = let s = f.standing in let m = f.many in let most = simple.few_targets in omega (arith, s, m, most)
+  few = let s = f.standing in let m = f.many in let most = rules.few_targets in omega (arith, s, m, most)
 
   pub few-numbers : (t : ℕ) (x : TargetOf S C) → slice_get a.targets t ≡ Some x → t < 64
-  few-numbers t x at = let p = slice_get_within a.targets t x at in let m = f.many in let most = simple.few_targets in omega (arith, p, m, most)
+  few-numbers t x at = let p = slice_get_within a.targets t x at in let m = f.many in let most = rules.few_targets in omega (arith, p, m, most)
 
   pub fit-swept : Fits state r (swept_stage a)
   fit-swept = record {
     plans = f.plans;
+    known = f.known;
     made = f.made;
     many = f.many;
     standing = f.standing;
@@ -86,13 +91,14 @@ module _ {S C : Type 0} (state : S → State) (r : Rules) (simple : IsSimple r) 
 
   -- something else lies between them
   pub fit-between : (b : BetweenNow) → AllInForm (target_plan r) b → Fits state r (record a { between = b })
-  fit-between b k = record { plans = f.plans; made = f.made; many = f.many; standing = f.standing; openings = f.openings; work = λ t x p. f.work t x (record { there = p.there; stands = p.stands }); between = k }
+  fit-between b k = record { plans = f.plans; known = f.known; made = f.made; many = f.many; standing = f.standing; openings = f.openings; work = λ t x p. f.work t x (record { there = p.there; stands = p.stands }); between = k }
 
   -- one of the targets changed, and how it stands
   pub fit-target : (t : ℕ) (x y : TargetOf S C) (watch : WatchNow) (life : Life) (b : BetweenNow) → slice_get a.targets t ≡ Some x → y.plan ≡ x.plan → watch.lives ≡ slice_set a.watch.lives t life → watch.openings < 2 ^ 32 → (life ≡ Running → CanWork state y)
       → AllInForm (target_plan r) b → Fits state r (record a { targets = slice_set a.targets t y; watch = watch; between = b })
   fit-target t x y watch life b at plan lives openings can k = record {
     plans = f.plans;
+    known = f.known;
     made = λ u z here. get-set (λ j q. q.plan ≡ target_plan r j) a.targets t y (plan ∙ f.made t x at) f.made u z here;
     many = length-set a.targets t y ∙ f.many;
     standing = ap length lives ∙ length-set a.watch.lives t life ∙ f.standing ∙ sym (length-set a.targets t y);
@@ -111,6 +117,7 @@ module _ {S C : Type 0} (state : S → State) (r : Rules) (simple : IsSimple r) 
   pub fit-life : (t : ℕ) (watch : WatchNow) (life : Life) (b : BetweenNow) → watch.lives ≡ slice_set a.watch.lives t life → watch.openings ≡ a.watch.openings → (life ≡ Running → ⊥) → AllInForm (target_plan r) b → Fits state r (record a { watch = watch; between = b })
   fit-life t watch life b lives openings rests k = record {
     plans = f.plans;
+    known = f.known;
     made = f.made;
     many = f.many;
     standing = ap length lives ∙ length-set a.watch.lives t life ∙ f.standing;
@@ -133,6 +140,7 @@ module _ {S C : Type 0} (state : S → State) (r : Rules) (simple : IsSimple r) 
   pub fit-failed : (t n : ℕ) → Fits state r (failed_stage t n a)
   fit-failed t n = record {
     plans = f.plans;
+    known = f.known;
     made = f.made;
     many = f.many;
     standing = ap length (sym (lives-same t n a.watch)) ∙ f.standing;
@@ -149,7 +157,7 @@ module _ {S C : Type 0} (state : S → State) (r : Rules) (simple : IsSimple r) 
           by false = refl
 
 -- after a store stopped
-pub fit-after_stop : {S C : Type 0} (state : S → State) (r : Rules) (t before now : ℕ) (a b : StageNow S C) → IsSimple r → t < 64 → Fits state r a → AfterStop t before now a b → Fits state r b
-fit-after_stop state r t before now a b simple small f (NotFailed less same) = subst (Fits state r) (sym same) f
-fit-after_stop state r t before now a b simple small f (Failed more n at few same) = subst (Fits state r) (sym same) (fit-failed state r simple a f t n)
-fit-after_stop state r t before now a b simple small f (LastTime more at same) = subst (Fits state r) (sym same) (fit-swept state r simple (given_up_stage t a) (fit-given_up state r simple a f t small))
+pub fit-after_stop : {S C : Type 0} (state : S → State) (r : Rules) (t before now : ℕ) (a b : StageNow S C) → AreRulesInForm r → t < 64 → Fits state r a → AfterStop t before now a b → Fits state r b
+fit-after_stop state r t before now a b rules small f (NotFailed less same) = subst (Fits state r) (sym same) f
+fit-after_stop state r t before now a b rules small f (Failed more n at few same) = subst (Fits state r) (sym same) (fit-failed state r rules a f t n)
+fit-after_stop state r t before now a b rules small f (LastTime more at same) = subst (Fits state r) (sym same) (fit-swept state r rules (given_up_stage t a) (fit-given_up state r rules a f t small))

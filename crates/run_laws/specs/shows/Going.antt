@@ -1,4 +1,5 @@
 -- What goes on once turns led from one stage to another.
+use Rattle.run_laws.specs.turns.Drawn.{turn-runs-on}
 use Rattle.std.specs.Prelude.{ℕ, ◌≡◌, ◌≤◌, ◌<◌, ◌+◌, ◌*◌, ◌^◌, List, slice_get, Bool, true, false, Option, Some, None, is_some, refl}
 use Rattle.std.proofs.Common.{inl, inr, sym, ◌∙◌, ap, subst, arith}
 use Rattle.std.proofs.lemmas.Bool.{cases_eq}
@@ -9,7 +10,6 @@ use Rattle.run_laws.specs.shows.Reopening.{choosing, chosen, others}
 use Rattle.run_laws.specs.shows.Parts.{IsTurnSo, at-both, place-of, target-there}
 use Rattle.run_laws.specs.shows.Shows.{IsCounted, IsGoing, IsReached, IsTargetOf, Leads, Shows, WasReached}
 use Rattle.run_laws.specs.shows.Stages.{AreFound, IsPlace, StageNow}
-use Rattle.run_laws.specs.turns.OrderLaws.{turn-goes}
 use Rattle.run_laws.specs.turns.Raising.{turns-raise}
 use Rattle.target_core.specs.Targets.{TargetOf}
 use Rattle.vos_store.specs.Calls.{State}
@@ -57,14 +57,15 @@ module _ {S C : Type 0} (durable : S → Option Durable) (state : S → State) (
 
   module _ (a b : StageNow S C) (settling : Bool) (actor : ActorId) (k raised : ℕ) (stops downs : Option ℕ) (g : IsGoing durable state may a) (leads : Leads durable state may (IsTurnSo settling g.rules actor k raised stops downs) g.rules a b) where
     pub was : (found : ℕ → Durable) → AreFound may a found → (y : IsReached durable state may g.rules g.first found a) → WasReached g.rules y.now
-    was found are y = record { opening = g.opening; first = g.first; simple = g.simple; begun = g.begun; run = y.run }
+    was found are y = record { opening = g.opening; first = g.first; begins = g.begins; run = y.run; drawn = y.drawn }
 
     pub reached-on : (found : ℕ → Durable) → AreFound may b found → IsReached durable state may g.rules g.first found b
     reached-on found are =
         let z = leads found are in
         let y = g.reached z.before z.were in
         let l = z.led y.now (was z.before z.were y) y.shows in
-        record { now = l.next; run = turn-goes settling g.rules actor k g.first y.now l.next l.turn.turn y.run; shows = l.shows }
+        let on = turn-runs-on settling g.rules actor k y.now l.next l.turn.turn in
+        record { now = l.next; run = on.run g.first y.run; drawn = on.drawn y.drawn; shows = l.shows }
 
     -- ---- how often stores were opened
 
@@ -110,8 +111,7 @@ module _ {S C : Type 0} (durable : S → Option Durable) (state : S → State) (
       rules = g.rules;
       opening = g.opening;
       first = g.first;
-      simple = g.simple;
-      begun = g.begun;
+      begins = g.begins;
       reached = reached-on;
       counted = counted-on findable all up;
     }

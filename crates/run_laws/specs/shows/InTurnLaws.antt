@@ -1,8 +1,8 @@
 -- What the lines tell of each client's commands begins in turn, whatever turns follow one another.
+use Rattle.target_snaps.specs.Following.{TellsNoAttempt}
 use Rattle.std.specs.Prelude.{ℕ, zero, suc, ◌≡◌, ◌⊎◌, ◌<◌, ◌+◌, ◌++◌, Bool, true, false, List, [], ◌∷◌, drop, filter, length, map, slice_get, slice_set, take, Option, Some, None, Result, Ok, Err, IfOk, refl, if◌then◌else◌}
 use Rattle.std.proofs.Common.{append-nil, inl, inr, sym, ◌∙◌, ap, subst, arith}
 use Rattle.std.proofs.lemmas.Bool.{cases_eq}
-use Rattle.std.proofs.lemmas.Grind.{common_steps}
 use Rattle.std.proofs.lemmas.List.{take-append-drop}
 use Rattle.std.proofs.lemmas.List.Elements.{filter-append}
 use Rattle.base_types.specs.declared.epoch.Epoch.{Epoch}
@@ -27,7 +27,6 @@ use Rattle.run_laws.specs.shows.Steps.{ClientTurned, ClientWorks, Cut, HeardOne,
 use Rattle.run_laws.specs.shows.Turned.{AfterFailure, AfterStop, ByForeign, ByHearing, ByIdling, ByStop, Failed, IsTurned, LastTime, NotFailed, followed, swept_stage, with_between, with_client_at}
 use Rattle.run_watch.specs.Watches.{opening_tried}
 use Rattle.target_core.specs.Targets.{TargetOf}
-use Rattle.target_parts.specs.Stops.{IsSilent}
 use Rattle.target_parts.specs.declared.stop.TargetStop.{TargetStop}
 use Rattle.target_resync.specs.Openings.{TellsRestart}
 use Rattle.vos_store.specs.Calls.{State}
@@ -41,7 +40,7 @@ use Rattle.world_base.specs.StepLaws.{set-here, set-is, set-there}
 use Rattle.world_base.specs.Stops.{stops_so_far}
 use Rattle.world_letters.specs.clients.MoveLaws.{clients-begin, hear-turn-keeps, next-turn-keeps}
 use Rattle.world_letters.specs.clients.Standing.{AreOfPresent, AreTriedAgain, HasTold, has_number, number_of}
-use Rattle.world_letters.specs.lines.FilledLaws.{AreOf, others-same, own-more, same-append, same-filled, stands-of}
+use Rattle.world_letters.specs.lines.FilledLaws.{AreOf, others-same, own-more, same-append, same-filled, stands-of, tries-filled}
 use Rattle.world_letters.specs.lines.Lines.{AreTheSame, IsTheSame, filled}
 
 -- ---- attempts that are the same but for epochs
@@ -221,11 +220,14 @@ pub one-line : (ls : List Line) (l : Line) → tried l ≡ [] → tries (ls ++ l
 unfolding tries
 one-line ls l none = tries-append ls (l ∷ []) ∙ ap (λ ts. tries ls ++ (ts ++ [])) none ∙ append-nil (tries ls)
 
--- so where such a line follows none
-pub line-alone : (ls more : List Line) (l : Line) → more ≡ [] → tried l ≡ [] → tries (ls ++ more ++ l ∷ []) ≡ tries ls
-line-alone ls more l nothing none =
-    let same : ls ++ more ++ l ∷ [] ≡ ls ++ l ∷ [] = subst (λ ms. ls ++ ms ++ l ∷ [] ≡ ls ++ l ∷ []) (sym nothing) (grind (arith, common_steps)) in
-    ap tries same ∙ one-line ls l none
+-- lines that tell of none were added
+pub none-tried : (issued : List (AttemptId × Epoch)) (ls more : List Line) → tries more ≡ [] → tries (ls ++ map (with_epoch issued) more) ≡ tries ls
+none-tried issued ls more none =
+    tries-append ls (map (with_epoch issued) more) ∙ ap (λ ts. tries ls ++ ts) (tries-filled issued more ∙ ap (map (filled issued)) none) ∙ append-nil (tries ls)
+
+-- so where such a line follows them
+pub line-alone : (ls more : List Line) (l : Line) → tries more ≡ [] → tried l ≡ [] → tries (ls ++ more ++ l ∷ []) ≡ tries ls
+line-alone ls more l nothing none = one-line (ls ++ more) l none ∙ tries-append ls more ∙ ap (λ ts. tries ls ++ ts) nothing ∙ append-nil (tries ls)
 
 -- ---- a client's turn
 
@@ -306,16 +308,15 @@ after-stop-tells r t before now a b (LastTime more at same) k = quietly r a b (a
 module _ {S C : Type 0} (durable : S → Option Durable) (state : S → State) (may : S → Durable → Type 0) (r : Rules) (a b : StageNow S C) (t : ℕ) where
   -- what a target heard, or its idle work, leaves of the lines
   pub turned-lines : (settling : Bool) (number : ℕ) (x y : TargetOf S C) (left : BetweenNow) (result : Result Did TargetStop) → IsTurned durable state may settling t number x y a.between left result → left.lines ≡ a.between.lines
-  turned-lines settling number x y left result (ByHearing l rest reading picked is turn) = ap (λ q. q.lines) is
+  turned-lines settling number x y left result (ByHearing l rest reading picked is few turn) = ap (λ q. q.lines) is
   turned-lines settling number x y left result (ByIdling none is turn) = ap (λ q. q.lines) is
 
-  work-tells : (x y : TargetOf S C) (left : BetweenNow) (result : Result Did TargetStop) → left.lines ≡ a.between.lines → IsSilent result → WorkEnds durable state may t x y left a b result → TellInTurn r a → TellInTurn r b
-  work-tells x y left result lines silent (Whole did is after) k =
-      let none : did.lines ≡ [] = subst IsSilent is silent in
-      quietly r a b (ap (λ z. z.clients) after)
-      (ap (λ z. tries z.between.lines) after ∙ ap (λ ls. tries (left.lines ++ map (with_epoch left.issued) ls)) none ∙ ap tries (append-nil left.lines) ∙ ap tries lines) k
-  work-tells x y left result lines silent (Cut stop is after) k =
-      let none : after.lines ≡ [] = subst IsSilent (is ∙ ap Err after.cut) silent in
+  work-tells : (x y : TargetOf S C) (left : BetweenNow) (result : Result Did TargetStop) → left.lines ≡ a.between.lines → TellsNoAttempt result → WorkEnds durable state may t x y left a b result → TellInTurn r a → TellInTurn r b
+  work-tells x y left result lines told (Whole did is after) k =
+      let none : tries did.lines ≡ [] = subst TellsNoAttempt is told in
+      quietly r a b (ap (λ z. z.clients) after) (ap (λ z. tries z.between.lines) after ∙ none-tried left.issued left.lines did.lines none ∙ ap tries lines) k
+  work-tells x y left result lines told (Cut stop is after) k =
+      let none : tries after.lines ≡ [] = subst TellsNoAttempt (is ∙ ap Err after.cut) told in
       after-stop-tells r t _ _ _ b after.after
       (quietly r a _ refl (line-alone left.lines after.lines (line.Stop (stops_so_far left.lines) t) none refl ∙ ap tries lines) k)
 
@@ -336,5 +337,5 @@ module _ {S C : Type 0} (durable : S → Option Durable) (state : S → State) (
 
   -- a target's turn tells of no attempt
   pub target-tells : (is_read : C → C → Type 0) (settling : Bool) (number : ℕ) → TargetTurned durable state may is_read settling t number a b → TellInTurn r a → TellInTurn r b
-  target-tells is_read settling number (Worked k) = work-tells k.work.before k.work.now k.work.left k.work.result (turned-lines settling number k.work.before k.work.now k.work.left k.work.result k.work.turned) k.work.silent k.ends
+  target-tells is_read settling number (Worked k) = work-tells k.work.before k.work.now k.work.left k.work.result (turned-lines settling number k.work.before k.work.now k.work.left k.work.result k.work.turned) k.work.told k.ends
   target-tells is_read settling number (Reopened k) = opening-tells k.was.before k.was.now (slice_set a.targets t k.was.now) k.was.result k.was.line k.ends

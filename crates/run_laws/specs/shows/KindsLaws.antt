@@ -1,4 +1,5 @@
 -- What lines tell of answers and conditions fits, whatever turns follow one another.
+use Rattle.target_snaps.specs.Following.{TellsNoAttempt}
 use Rattle.std.specs.Prelude.{ℕ, zero, suc, ◌≡◌, ◌≤◌, ◌<◌, ◌+◌, ◌++◌, not, Bool, true, false, All, List, [], ◌∷◌, filter, map, slice_get, slice_set, Option, Some, None, Result, Ok, Err, IfOk, is_ok, ◌==◌, refl, if◌then◌else◌}
 use Rattle.std.proofs.Common.{append-nil, inl, inr, sym, ◌∙◌, ap, subst, arith}
 use Rattle.std.proofs.lemmas.Bool.{cases_eq}
@@ -23,14 +24,13 @@ use Rattle.dtx_base.specs.declared.member.MemberMemory.{MemberMemory}
 use Rattle.run_base.specs.Letters.{BetweenNow, IsPicked}
 use Rattle.run_base.specs.Sweeps.{is_left_by, is_lost_by}
 use Rattle.run_laws.specs.shows.InTurn.{TellInTurn}
-use Rattle.run_laws.specs.shows.InTurnLaws.{client-tells, line-alone, one-line, quietly, turned-lines}
+use Rattle.run_laws.specs.shows.InTurnLaws.{client-tells, line-alone, none-tried, one-line, quietly, turned-lines}
 use Rattle.run_laws.specs.shows.Kinds.{AnswersGoOn, TurnsOnce, loads_of, waiting_load, waiting_loads}
 use Rattle.run_laws.specs.shows.Stages.{IsPlace, StageNow}
 use Rattle.run_laws.specs.shows.Steps.{ClientTurned, ClientWorks, Cut, HeardOne, NotOpened, Opened, OpeningEnds, Reopened, TargetTurned, WentOn, Whole, WorkEnds, Worked}
 use Rattle.run_laws.specs.shows.Turned.{AfterFailure, AfterStop, ByForeign, ByHearing, ByIdling, ByStop, Failed, IsTurned, LastTime, NotFailed, failed_stage, followed, given_up_stage, stopped_stage, swept_between, swept_stage, with_between, with_client_at, with_target_at}
 use Rattle.run_watch.specs.Watches.{WatchNow, after_fault, fuse_set, opened_again, opening_tried}
 use Rattle.target_core.specs.Targets.{TargetOf}
-use Rattle.target_parts.specs.Stops.{IsSilent}
 use Rattle.target_parts.specs.declared.stop.TargetStop.{TargetStop}
 use Rattle.target_resync.specs.Openings.{TellsRestart}
 use Rattle.vos_store.specs.Calls.{State}
@@ -278,17 +278,17 @@ after-stop-goes r t before now a b (LastTime more at same) k =
 module _ {S C : Type 0} (durable : S → Option Durable) (state : S → State) (may : S → Durable → Type 0) (r : Rules) (a b : StageNow S C) (t : ℕ) where
   -- what a target heard is no more in flight
   turned-letters : (settling : Bool) (number : ℕ) (x y : TargetOf S C) (left : BetweenNow) (result : Result Did TargetStop) → IsTurned durable state may settling t number x y a.between left result → AreLess (loads_of (with_between left a)) (loads_of a)
-  turned-letters settling number x y left result (ByHearing l rest reading picked is turn) u s = let all = picked-load a (target t) number l rest left picked is u s in omega (arith, all)
+  turned-letters settling number x y left result (ByHearing l rest reading picked is few turn) u s = let all = picked-load a (target t) number l rest left picked is u s in omega (arith, all)
   turned-letters settling number x y left result (ByIdling none is turn) u s = subst (λ q. loads_of (with_between q a) u s ≤ loads_of a u s) (sym is) (omega arith)
 
-  work-goes : (x y : TargetOf S C) (left : BetweenNow) (result : Result Did TargetStop) → IsPlace a t x Running → left.lines ≡ a.between.lines → AreLess (loads_of (with_between left a)) (loads_of a) → IsSilent result
+  work-goes : (x y : TargetOf S C) (left : BetweenNow) (result : Result Did TargetStop) → IsPlace a t x Running → left.lines ≡ a.between.lines → AreLess (loads_of (with_between left a)) (loads_of a) → TellsNoAttempt result
       → IfOk result (TurnsOnce a.between left x.memory.member y.memory.member) → WorkEnds durable state may t x y left a b result → AnswersGoOn r a → AnswersGoOn r b
-  work-goes x y left result place lines less silent once (Whole did is after) k =
-      let none : did.lines ≡ [] = subst IsSilent is silent in
+  work-goes x y left result place lines less told once (Whole did is after) k =
+      let none : tries did.lines ≡ [] = subst TellsNoAttempt is told in
       let now = with_between (followed (target t) did left) (with_target_at t y a) in
       let once-here : TurnsOnce a.between left x.memory.member y.memory.member did = subst (λ q. IfOk q (TurnsOnce a.between left x.memory.member y.memory.member)) is once in
       subst (AnswersGoOn r) (sym after)
-      (quietly-goes r a (swept_stage now) refl (ap (λ ls. tries (left.lines ++ map (with_epoch left.issued) ls)) none ∙ ap tries (append-nil left.lines) ∙ ap tries lines)
+      (quietly-goes r a (swept_stage now) refl (none-tried left.issued left.lines did.lines none ∙ ap tries lines)
       (λ u s.
       let swept = swept-loads now u s in
       let all = total-append (letter_load u s) left.messages (letters_of (target t) did.posts) in
@@ -296,8 +296,8 @@ module _ {S C : Type 0} (durable : S → Option Durable) (state : S → State) (
       let turn = once-here u s in
       let waiting = set-running u s a.watch.lives a.targets t x y place.stands place.there in
       omega (arith, swept, all, its, turn, waiting)) k)
-  work-goes x y left result place lines less silent once (Cut stop is after) k =
-      let none : after.lines ≡ [] = subst IsSilent (is ∙ ap Err after.cut) silent in
+  work-goes x y left result place lines less told once (Cut stop is after) k =
+      let none : tries after.lines ≡ [] = subst TellsNoAttempt (is ∙ ap Err after.cut) told in
       let now = with_between left (with_target_at t y a) in
       after-stop-goes r t _ _ _ b after.after
       (quietly-goes r a (swept_stage (stopped_stage t after.issued after.lines now)) refl (line-alone left.lines after.lines (line.Stop (stops_so_far left.lines) t) none refl ∙ ap tries lines)
@@ -346,7 +346,7 @@ module _ {S C : Type 0} (durable : S → Option Durable) (state : S → State) (
   pub target-goes-on : (is_read : C → C → Type 0) (settling : Bool) (number : ℕ) → TargetTurned durable state may is_read settling t number a b → AnswersGoOn r a → AnswersGoOn r b
   target-goes-on is_read settling number (Worked k) =
       work-goes k.work.before k.work.now k.work.left k.work.result k.work.place (turned-lines durable state may r a b t settling number k.work.before k.work.now k.work.left k.work.result k.work.turned)
-      (turned-letters settling number k.work.before k.work.now k.work.left k.work.result k.work.turned) k.work.silent k.work.once k.ends
+      (turned-letters settling number k.work.before k.work.now k.work.left k.work.result k.work.turned) k.work.told k.work.once k.ends
   target-goes-on is_read settling number (Reopened k) = opening-goes k.was.before k.was.now k.was.result k.was.place k.was.line k.was.reads k.was.fresh k.ends
 
 -- ---- before any turn, and at the end

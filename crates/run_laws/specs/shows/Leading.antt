@@ -1,4 +1,7 @@
 -- A whole turn of a target leads from a world that the actors show to one that they show then.
+use Rattle.run_laws.specs.turns.Turns.{IsNumberNext}
+use Rattle.run_laws.specs.turns.Drawn.{AreDrawn, next-fresh}
+use Rattle.run_base.specs.Numbers.{next_aggregate}
 use Rattle.std.specs.Prelude.{ℕ, ◌≡◌, List, slice_get, slice_set, Bool, true, false, Option, Some, None, Ok, refl}
 use Rattle.std.proofs.Common.{inl, inr, sym, ◌∙◌, ap, subst}
 use Rattle.std.proofs.lemmas.Bool.{cases_eq}
@@ -24,12 +27,8 @@ use Rattle.world_base.specs.Events.{ByTarget, Rules, ToTarget, after_turn, kept,
 use Rattle.world_base.specs.Further.{HearsFurther, KnowsNoneDown}
 use Rattle.world_base.specs.Letters.{Takes, target}
 use Rattle.world_base.specs.StepLaws.{set-there}
-use Rattle.world_base.specs.Stops.{Further, Plainly, is_prune_message, swept}
+use Rattle.world_base.specs.Stops.{Further, IsNumberFresh, Plainly, swept}
 use Rattle.world_base.specs.TargetTurns.{Hearing, Hears, IdlesWhole}
-
--- no letter that a target hears by its number asks for an aggregation
-abbrev pub NonePrunes : BetweenNow → ℕ → ℕ → Type 0
-NonePrunes b t number = (l : Letter) (rest : List Letter) → IsPicked b.messages (target t) number l rest → is_prune_message l.message ≡ false
 
 module _ {S C : Type 0} (durable : S → Option Durable) (state : S → State) (r : Rules) (t : ℕ) (x y : TargetOf S C) (a : StageNow S C) (did : Did) (place : IsPlace a t x Running) (plan : y.plan ≡ x.plan) (opened : y.opened ≡ true)
     (opening : (state y.store).opening ≡ (state x.store).opening) (running : (state y.store).stopped ≡ false) where
@@ -69,10 +68,10 @@ module _ {S C : Type 0} (durable : S → Option Durable) (state : S → State) (
         (subst (λ q. Turn x.plan (state x.store).opening x.memory reading l.from l.message q kept' (y.memory, did)) (had d is') turn)))
 
     -- it heard a letter
-    hearing : (settling : Bool) (number reading : ℕ) (l : Letter) (rest : List Letter) (d : Durable) → durable x.store ≡ Some d → IsPicked a.between.messages (target t) number l rest → is_prune_message l.message ≡ false
-        → Heard 0 x.plan (state x.store).opening x.memory reading l.from l.message (record { durable = d; free = (state x.store).free }) kept' (y.memory, did)
+    hearing : (settling : Bool) (number reading n : ℕ) (l : Letter) (rest : List Letter) (d : Durable) → durable x.store ≡ Some d → IsPicked a.between.messages (target t) number l rest → IsNumberNext w l.message n → IsNumberFresh w l.message n
+        → Heard n x.plan (state x.store).opening x.memory reading l.from l.message (record { durable = d; free = (state x.store).free }) kept' (y.memory, did)
         → IsTurnSo settling r (target t) number 0 None None w (swept (with_target t s' (after_turn w (target t) did rest)))
-    hearing settling number reading l rest d is' picked no_prune (heard.Plainly none turn) = record {
+    hearing settling number reading n l rest d is' picked next fresh (heard.Plainly none turn) = record {
       turn = Doing (record {
         event = record {
           u = with_target t s' (after_turn w (target t) did rest);
@@ -100,12 +99,12 @@ module _ {S C : Type 0} (durable : S → Option Durable) (state : S → State) (
       stops_is = refl;
       downs_is = refl;
     }
-    hearing settling number reading l rest d is' picked no_prune (heard.Further turn) = record {
+    hearing settling number reading n l rest d is' picked next fresh (heard.Further turn) = record {
       turn = Doing (record {
         event = record {
           u = with_target t s' (after_turn w (target t) did rest);
           happens = Further (record {
-            number = 0;
+            number = n;
             hears = record {
               t = t;
               s = s;
@@ -119,14 +118,14 @@ module _ {S C : Type 0} (durable : S → Option Durable) (state : S → State) (
               runs = is.lives;
               takes = subst (λ ls. Takes ls l rest) k.messages (picked-takes a.between.messages number l rest (target t) picked);
               to_it = picked.to_it;
-              turn = in-world (HearsFurther 0) reading l d is' turn;
+              turn = in-world (HearsFurther n) reading l d is' turn;
               after = refl;
             };
-            fresh = λ asks. let no : ⊥ = cc (asks, no_prune) in absurd no;
+            fresh = fresh;
           });
           after = refl;
         };
-        by = (refl, subst (λ ls. IsPicked ls (target t) number l rest) k.messages picked);
+        by = (refl, subst (λ ls. IsPicked ls (target t) number l rest) k.messages picked, next);
       }) tt;
       raised_is = refl;
       stops_is = refl;
@@ -163,11 +162,11 @@ module _ {S C : Type 0} (durable : S → Option Durable) (state : S → State) (
     }
 
   -- a whole turn leads so, whatever is found of other stores
-  pub turn-leads : (may : S → Durable → Type 0) (settling : Bool) (number : ℕ) (left : BetweenNow) → NonePrunes a.between t number → IsTurned durable state may settling t number x y a.between left (Ok did) → Leads durable state may (IsTurnSo settling r (target t) number 0 None None) r a (after left)
-  turn-leads may settling number left no_prunes turned found are = record {
+  pub turn-leads : (may : S → Durable → Type 0) (settling : Bool) (number : ℕ) (left : BetweenNow) → IsTurned durable state may settling t number x y a.between left (Ok did) → Leads durable state may (IsTurnSo settling r (target t) number 0 None None) r a (after left)
+  turn-leads may settling number left turned found are = record {
     before = found;
     were = λ u z life p rests. old u z life p rests;
-    led = λ w reached k. led w k (target-there durable state r found a w t x Running k place) turned;
+    led = λ w reached k. led w reached.drawn k (target-there durable state r found a w t x Running k place) turned;
   }
     where
       old : (u : ℕ) (z : TargetOf S C) (life : _) → IsPlace a u z life → (life ≡ Running → ⊥) → may z.store (found u)
@@ -176,15 +175,16 @@ module _ {S C : Type 0} (durable : S → Option Durable) (state : S → State) (
         | inr apart ↦ are u z life (record { there = set-there a.targets t u y apart ∙ p.there; stands = p.stands }) rests
       ]
 
-      led : (w : World) → Shows durable state r found a w → IsThere durable state r found w t x Running → IsTurned durable state may settling t number x y a.between left (Ok did) → IsLed durable state (IsTurnSo settling r (target t) number 0 None None) r found w (after left)
-      led w k s (ByHearing l rest reading picked left_is turn) =
-          let n = turn s.s.durable s.is.so.told in
+      led : (w : World) → AreDrawn w → Shows durable state r found a w → IsThere durable state r found w t x Running → IsTurned durable state may settling t number x y a.between left (Ok did) → IsLed durable state (IsTurnSo settling r (target t) number 0 None None) r found w (after left)
+      led w drawn k s (ByHearing l rest reading picked left_is few turn) =
+          let n = turn (next_aggregate a.between.lines) (λ asks. refl) s.s.durable s.is.so.told in
           record {
             next = swept (with_target t (s' found w k s.s s.here s.is n.durable n.kept_is) (after_turn w (target t) did rest));
-            turn = hearing found w k s.s s.here s.is n.durable n.kept_is settling number reading l rest s.s.durable s.is.so.told picked (no_prunes l rest picked) (n.holds 0);
+            turn = hearing found w k s.s s.here s.is n.durable n.kept_is settling number reading (next_aggregate a.between.lines) l rest s.s.durable s.is.so.told picked
+                (λ asks. ap next_aggregate k.lines) (next-fresh w a.between.lines l.message drawn k.lines few) n.holds;
             shows = shown found w k s.s s.here s.is n.durable n.kept_is left rest (ap (λ b. b.messages) left_is) (ap (λ b. b.asked) left_is) (ap (λ b. b.issued) left_is) (ap (λ b. b.lines) left_is);
           }
-      led w k s (ByIdling none left_is turn) =
+      led w drawn k s (ByIdling none left_is turn) =
           let n = turn s.s.durable s.is.so.told in
           record {
             next = swept (with_target t (s' found w k s.s s.here s.is n.durable n.kept_is) (after_turn w (target t) did w.messages));

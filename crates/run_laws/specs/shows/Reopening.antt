@@ -34,7 +34,7 @@ use Rattle.world_base.specs.StepLaws.{set-there}
 use Rattle.world_base.specs.Stops.{Draws, Fails, IsBelowNumbers, IsFreeRestart, Opens, WorldEvent, WorldRun, after_opening, is_restart_of, opened_at, restart_line, swept}
 use Rattle.run_base.specs.Sweeps.{is_left_by, is_lost_by, lives_of, sweeping-is_done, sweeps-are_of_lives}
 use Rattle.world_base.specs.Stops.{Begins, Goes, reset_letter}
-use Rattle.world_standing.specs.standing.Runs.{runs-stand}
+use Rattle.world_upheld.specs.upheld.Runs.{runs-are_upheld}
 
 -- ---- worlds that were reached
 
@@ -46,7 +46,7 @@ reached-swept r w k = by w k.run
     empty v messages asked = ap (λ ms. swept (record v { messages = ms })) messages ∙ ap (λ qs. swept (record v { messages = []; asked = qs })) asked ∙ ap (λ qs. record v { messages = []; asked = qs }) (sym asked) ∙ ap (λ ms. record v { messages = ms }) (sym messages)
 
     by : (v : World) → WorldRun r k.first v → swept v ≡ v
-    by v Begins = empty k.first k.begun.messages k.begun.asked
+    by v Begins = empty k.first k.begins.begins.messages k.begins.begins.asked
     by v (Goes u x run e) = subst (λ z. swept z ≡ z) (sym e.after) (sweeping-is_done e.u)
 
 -- the number of the next restart stands in no line
@@ -194,7 +194,7 @@ module _ {S C : Type 0} (durable : S → Option Durable) (state : S → State) (
     drawn = record w { numbers = record w.numbers { restarts = w.numbers.restarts + 1 } }
 
     below : All (IsBelowNumbers w.numbers) w.lines
-    below = (runs-stand r reached.opening reached.first w reached.simple reached.begun reached.run).1.lives.drawn
+    below = (runs-are_upheld r reached.opening reached.first w reached.begins.form reached.begins.begins reached.run).1.lives.drawn
 
     rises : (ls : List Line) → All (IsBelowNumbers w.numbers) ls → All (IsBelowNumbers drawn.numbers) ls
     rises [] all = All-nil (IsBelowNumbers drawn.numbers)

@@ -2,6 +2,8 @@
 --
 -- What a store keeps that was stopped in the middle of a change is open until it is opened again. So the actors show a world for each choice
 -- of what such stores would be found with; and a turn leads, whatever is found after it, from one of the choices before it.
+use Rattle.run_laws.specs.turns.Drawn.{AreDrawn}
+use Rattle.run_laws.specs.shows.Beginning.{RunBegins}
 use Rattle.std.specs.Prelude.{ℕ, ◌≡◌, ◌≤◌, ◌<◌, ◌+◌, ◌^◌, false, true, List, length, map, slice_get, Option, Some}
 use Rattle.client_core.specs.Clients.{ClientNow}
 use Rattle.daos_model.specs.declared.durable.Durable.{Durable}
@@ -18,18 +20,17 @@ use Rattle.world_base.specs.declared.target.TargetState.{TargetState}
 use Rattle.world_base.specs.declared.world.World.{World}
 use Rattle.world_base.specs.Events.{Rules, client_plan, target_plan}
 use Rattle.world_base.specs.Stops.{WorldRun, no_memory}
-use Rattle.world_plain.specs.whole.Begins.{IsBegun, IsSimple}
 
 abbrev pub state_of : ClientNow → ClientState
 state_of c = c.state
 
--- a run from its beginning has reached this world: of a script in form, for some targets, without snapshots and aggregation
+-- a run from its beginning has reached this world, and the numbers of aggregations were drawn for it
 pub record WasReached (r : Rules) (w : World) : Type 0 where
   pub opening : Opening
   pub first : World
-  pub simple : IsSimple r
-  pub begun : IsBegun r opening first
+  pub begins : RunBegins r opening first
   pub run : WorldRun r first w
+  pub drawn : AreDrawn w
 
 module _ {S C : Type 0} (durable : S → Option Durable) (state : S → State) where
   -- A target that runs is so in the world: it has opened, its store runs and tells what it keeps.
@@ -93,6 +94,7 @@ module _ {S C : Type 0} (durable : S → Option Durable) (state : S → State) w
     pub record IsReached (r : Rules) (first : World) (found : ℕ → Durable) (a : StageNow S C) : Type 0 where
       pub now : World
       pub run : WorldRun r first now
+      pub drawn : AreDrawn now
       pub shows : Shows r found a now
 
     -- what a store keeps, or may be found with, was opened at most so often
@@ -101,13 +103,11 @@ module _ {S C : Type 0} (durable : S → Option Durable) (state : S → State) w
     IsCounted most x Stopped = (d : Durable) → may x.store d → d.incarnation ≤ most
     IsCounted most x Down = (d : Durable) → may x.store d → d.incarnation ≤ most
 
-    -- The actors are those of a run that was begun: of a script in form, for some targets, without snapshots and aggregation. Stores were
-    -- opened no more than 2^63 + 1 times before it, and since then as often as openings were tried at most.
+    -- The actors are those of a run that was begun. Stores were opened no more than 2^63 + 1 times before it, and since then as often as openings were tried at most.
     pub record IsGoing (a : StageNow S C) : Type 0 where
       pub rules : Rules
       pub opening : Opening
       pub first : World
-      pub simple : IsSimple rules
-      pub begun : IsBegun rules opening first
+      pub begins : RunBegins rules opening first
       pub reached : (found : ℕ → Durable) → AreFound may a found → IsReached rules first found a
       pub counted : (t : ℕ) (x : TargetOf S C) (life : Life) → IsPlace a t x life → IsCounted (2 ^ 63 + 1 + a.watch.openings) x life

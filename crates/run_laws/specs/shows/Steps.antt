@@ -1,4 +1,5 @@
 -- What a turn leaves of the actors of a run.
+use Rattle.target_snaps.specs.Following.{TellsNoAttempt}
 use Rattle.std.specs.Prelude.{ℕ, ◌≡◌, ◌+◌, ◌<◌, ◌^◌, Bool, true, List, [], slice_get, slice_set, Option, Some, Result, Ok, Err, IfOk, IfErr, IsSome, is_ok, false}
 use Rattle.std.specs.Option.{ForSome}
 use Rattle.client_core.specs.Clients.{ClientNow}
@@ -14,7 +15,7 @@ use Rattle.run_watch.specs.Watches.{next_fuse, opening_tried}
 use Rattle.target_core.specs.Targets.{OpensAs, TargetOf}
 use Rattle.target_parts.specs.Parts.{Runs}
 use Rattle.target_parts.specs.Readings.{IsReadOn}
-use Rattle.target_parts.specs.Stops.{IsSilent, stop_foreign, stop_store}
+use Rattle.target_parts.specs.Stops.{stop_foreign, stop_store}
 use Rattle.target_parts.specs.declared.stop.TargetStop.{TargetStop}
 use Rattle.target_resync.specs.Openings.{IsBare, Left, Reopens, TellsRestart}
 use Rattle.vos_store.specs.Calls.{State}
@@ -24,9 +25,9 @@ use Rattle.world_base.specs.declared.letter.Letter.{Letter}
 use Rattle.world_base.specs.declared.target.Life.TheVariants.{Running, Stopped}
 use Rattle.world_base.specs.ClientTurns.{HearTurn, NextTurn}
 use Rattle.world_base.specs.Letters.{client, target}
-use Rattle.world_ended.specs.Asking.{Asked, EndsAsked, LeavesWith}
+use Rattle.world_ended.specs.Asking.{Asked, TurnLeavesWith, TurnsEndAsked}
 use Rattle.world_letters.specs.kinds.PostLaws.{CarryNone}
-use Rattle.world_contents.specs.posts.Forms.{Follows, PostsInForm}
+use Rattle.world_contents.specs.posts.Forms.{TurnFollows, TurnsPostInForm}
 
 -- ---- a client's turn
 
@@ -73,10 +74,10 @@ module _ {S C : Type 0} (durable : S → Option Durable) (state : S → State) (
     pub left : Left (may before.store) (may now.store)
     pub bare : IfErr result IsBare
     pub native : IsSome (durable before.store) → says stop_foreign result ≡ false
-    pub posts : IfOk result (λ did. Follows before.plan.targets now.memory.leader did.posts)
+    pub posts : IfOk result (λ did. TurnFollows before.plan.targets now.memory did.posts)
     pub line : IfOk result (TellsRestart a.watch.restarts before.plan.me)
     pub reads : IfOk result (λ did. CarryNone did.posts)
-    pub ends : (asked : Asked) → IfOk result (λ did. LeavesWith asked now.memory.leader did.posts)
+    pub ends : (asked : Asked) → IfOk result (λ did. TurnLeavesWith asked now.memory did.posts)
     pub fresh : is_ok result ≡ true → now.memory.member.parked ≡ []
     pub opened : now.opened ≡ is_ok result
 
@@ -96,11 +97,11 @@ module _ {S C : Type 0} (durable : S → Option Durable) (state : S → State) (
       pub plan : now.plan ≡ before.plan
       pub opened : now.opened ≡ true
       pub runs : Runs stop_store result (state before.store) (state now.store) (durable before.store) (durable now.store)
-      pub silent : IsSilent result
+      pub told : TellsNoAttempt result
       pub clock : IsReadOn is_read before.clock now.clock
-      pub posts : IfOk result (λ did. PostsInForm before.plan.targets before.memory.leader now.memory.leader did.posts)
+      pub posts : IfOk result (λ did. TurnsPostInForm before.plan.targets before.memory now.memory did.posts)
       pub once : IfOk result (TurnsOnce a.between left before.memory.member now.memory.member)
-      pub ends : (asked : Asked) → LettersGoWith asked a.between.messages → IfOk result (λ did. EndsAsked asked before.memory.leader now.memory.leader did.posts)
+      pub ends : (asked : Asked) → LettersGoWith asked a.between.messages → IfOk result (λ did. TurnsEndAsked asked before.memory now.memory did.posts)
       pub turned : IsTurned durable state may settling t number before now a.between left result
 
     -- And what came of it came about.

@@ -1,4 +1,6 @@
 -- A target's turn that is cut leads to a world in which it is stopped, whatever it would be found with; and it may be given up then.
+use Rattle.run_laws.specs.turns.Drawn.{AreDrawn, next-fresh}
+use Rattle.run_base.specs.Numbers.{next_aggregate}
 use Rattle.std.specs.Prelude.{ℕ, ◌≡◌, ◌++◌, List, [], ◌∷◌, filter, slice_get, slice_set, not, Bool, true, false, Option, Some, Err, refl, if◌then◌else◌}
 use Rattle.std.proofs.Common.{inl, inr, sym, ◌∙◌, ap, subst}
 use Rattle.std.proofs.lemmas.Bool.{cases_eq}
@@ -10,7 +12,6 @@ use Rattle.model_laws.specs.TargetLaws.{same_number}
 use Rattle.run_base.specs.Letters.{BetweenNow, IsPicked}
 use Rattle.run_base.specs.Picks.{count_to}
 use Rattle.run_laws.specs.shows.Givings.{FaultBy}
-use Rattle.run_laws.specs.shows.Leading.{NonePrunes}
 use Rattle.run_laws.specs.shows.Parts.{IsThere, filter-both, is-set, picked-takes, swept-shown, target-shown, target-there}
 use Rattle.run_laws.specs.shows.Shows.{IsLed, IsTargetOf, Leads, Shows}
 use Rattle.run_laws.specs.shows.Stages.{AreFound, IsPlace, StageNow}
@@ -90,13 +91,13 @@ module _ {S C : Type 0} (durable : S → Option Durable) (state : S → State) (
         ap (λ z. record { durable = z; free = (state x.store).free }) same ∙ ap (λ z. record { durable = s.durable; free = z }) is.so.free
 
     -- what was cut so of its work is cut so in the world
-    pub hearing-in-world : (c : Cutting) (l : Letter) (reading : ℕ) → HearingIsCut is_prepared 0 x.plan (state x.store).opening x.memory reading l.from l.message (record { durable = s.durable; free = (state x.store).free }) c
-        → HearingIsCut is_prepared 0 (target_plan r t) s.opening s.memory reading l.from l.message (kept s) c
-    hearing-in-world c l reading it =
-        subst (λ m. HearingIsCut is_prepared 0 (target_plan r t) s.opening m reading l.from l.message (kept s) c) is.so.knows
-        (subst (λ o. HearingIsCut is_prepared 0 (target_plan r t) o x.memory reading l.from l.message (kept s) c) is.so.opening
-        (subst (λ p. HearingIsCut is_prepared 0 p (state x.store).opening x.memory reading l.from l.message (kept s) c) is.made
-        (subst (λ q. HearingIsCut is_prepared 0 x.plan (state x.store).opening x.memory reading l.from l.message q c) (had s.durable is.so.told) it)))
+    pub hearing-in-world : (n : ℕ) (c : Cutting) (l : Letter) (reading : ℕ) → HearingIsCut is_prepared n x.plan (state x.store).opening x.memory reading l.from l.message (record { durable = s.durable; free = (state x.store).free }) c
+        → HearingIsCut is_prepared n (target_plan r t) s.opening s.memory reading l.from l.message (kept s) c
+    hearing-in-world n c l reading it =
+        subst (λ m. HearingIsCut is_prepared n (target_plan r t) s.opening m reading l.from l.message (kept s) c) is.so.knows
+        (subst (λ o. HearingIsCut is_prepared n (target_plan r t) o x.memory reading l.from l.message (kept s) c) is.so.opening
+        (subst (λ p. HearingIsCut is_prepared n p (state x.store).opening x.memory reading l.from l.message (kept s) c) is.made
+        (subst (λ q. HearingIsCut is_prepared n x.plan (state x.store).opening x.memory reading l.from l.message q c) (had s.durable is.so.told) it)))
 
     pub idling-in-world : (c : Cutting) → IdleWorkIsCut x.plan.me x.memory (record { durable = s.durable; free = (state x.store).free }) c → IdleWorkIsCut (target_plan r t).me s.memory (kept s) c
     idling-in-world c it =
@@ -120,11 +121,11 @@ module _ {S C : Type 0} (durable : S → Option Durable) (state : S → State) (
       refl,
     )
 
-  pub cut-leads : (may : S → Durable → Type 0) (settling : Bool) (number : ℕ) (left : BetweenNow) → NonePrunes a.between t number → IsTurned durable state may settling t number x y a.between left (Err (stop.Store issued lines)) → Leads durable state may (FaultBy r t settling number 0 (Some t)) r a (stopped left)
-  cut-leads may settling number left no_prunes turned found are = record {
+  pub cut-leads : (may : S → Durable → Type 0) (settling : Bool) (number : ℕ) (left : BetweenNow) → IsTurned durable state may settling t number x y a.between left (Err (stop.Store issued lines)) → Leads durable state may (FaultBy r t settling number 0 (Some t)) r a (stopped left)
+  cut-leads may settling number left turned found are = record {
     before = found;
     were = λ u z life p rests. old u z life p rests;
-    led = λ w reached k. led w k (target-there durable state r found a w t x Running k place) turned;
+    led = λ w reached k. led w reached.drawn k (target-there durable state r found a w t x Running k place) turned;
   }
     where
       -- the next opening may find it so
@@ -143,17 +144,18 @@ module _ {S C : Type 0} (durable : S → Option Durable) (state : S → State) (
         | inr apart ↦ are u z life (record { there = set-there a.targets t u y apart ∙ p.there; stands = set-there a.watch.lives t u Stopped apart ∙ p.stands }) rests
       ]
 
-      led : (w : World) → Shows durable state r found a w → IsThere durable state r found w t x Running → IsTurned durable state may settling t number x y a.between left (Err (stop.Store issued lines)) → IsLed durable state (FaultBy r t settling number 0 (Some t)) r found w (stopped left)
-      led w k s (ByHearing l rest reading picked left_is turn) =
+      led : (w : World) → AreDrawn w → Shows durable state r found a w → IsThere durable state r found w t x Running → IsTurned durable state may settling t number x y a.between left (Err (stop.Store issued lines)) → IsLed durable state (FaultBy r t settling number 0 (Some t)) r found w (stopped left)
+      led w drawn k s (ByHearing l rest reading picked left_is few turn) =
           let takes = picked-takes a.between.messages number l rest (target t) picked in
-          let it = turn s.s.durable s.is.so.told 0 (would found w k s.s s.here s.is) (may-be, refl) in
+          let n = next_aggregate a.between.lines in
+          let it = turn n (λ asks. refl) s.s.durable s.is.so.told (would found w k s.s s.here s.is) (may-be, refl) in
           record {
             next = swept (after_cut w t s.s (cut found w k s.s s.here s.is));
-            turn = acts found w k s.s s.here s.is settling number (Hearing l reading 0) ((rest, subst (λ ls. Takes ls l rest) k.messages takes), picked.to_it, λ asks. let off = no_prunes l rest picked in let no : ⊥ = cc (asks, off) in absurd no) (hearing-in-world found w k s.s s.here s.is (cut found w k s.s s.here s.is) l reading it)
-                (rest, subst (λ ls. IsPicked ls (target t) number l rest) k.messages picked);
+            turn = acts found w k s.s s.here s.is settling number (Hearing l reading n) ((rest, subst (λ ls. Takes ls l rest) k.messages takes), picked.to_it, next-fresh w a.between.lines l.message drawn k.lines few) (hearing-in-world found w k s.s s.here s.is n (cut found w k s.s s.here s.is) l reading it)
+                (rest, subst (λ ls. IsPicked ls (target t) number l rest) k.messages picked, λ asks. ap next_aggregate k.lines);
             shows = shown found w k s.s s.here s.is left (ap (λ b. filter (is_not_to t) b.messages) left_is ∙ lost-too t a.between.messages rest l takes picked.to_it) (ap (λ b. b.asked) left_is) (ap (λ b. b.issued) left_is) (ap (λ b. b.lines) left_is);
           }
-      led w k s (ByIdling none left_is turn) =
+      led w drawn k s (ByIdling none left_is turn) =
           let it = turn s.s.durable s.is.so.told (would found w k s.s s.here s.is) (may-be, refl) in
           record {
             next = swept (after_cut w t s.s (cut found w k s.s s.here s.is));

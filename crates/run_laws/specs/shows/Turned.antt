@@ -1,5 +1,5 @@
 -- What a part of a turn leaves of a target and of what lies between actors.
-use Rattle.std.specs.Prelude.{ℕ, ◌≡◌, ◌≤◌, ◌<◌, ◌++◌, ◌∷◌, Bool, true, false, List, [], filter, map, slice_get, slice_set, Option, Some, Result}
+use Rattle.std.specs.Prelude.{ℕ, ◌≡◌, ◌≤◌, ◌<◌, ◌^◌, ◌++◌, ◌∷◌, Bool, true, false, List, [], filter, map, slice_get, slice_set, Option, Some, Result}
 use Rattle.base_messages.specs.declared.actor.ActorId.{ActorId}
 use Rattle.base_types.specs.declared.epoch.Epoch.{Epoch}
 use Rattle.base_types.specs.declared.id.AttemptId.{AttemptId}
@@ -8,6 +8,7 @@ use Rattle.base_types.specs.declared.report.Line.TheVariants as line
 use Rattle.client_core.specs.Clients.{ClientNow}
 use Rattle.daos_model.specs.declared.durable.Durable.{Durable}
 use Rattle.run_base.specs.Letters.{BetweenNow, IsPicked}
+use Rattle.run_base.specs.Numbers.{next_aggregate}
 use Rattle.run_base.specs.Picks.{count_to}
 use Rattle.run_base.specs.Sweeps.{is_left_by, is_lost_by}
 use Rattle.run_laws.specs.shows.Stages.{StageNow}
@@ -23,7 +24,7 @@ use Rattle.world_base.specs.declared.target.Life.TheVariants.{Down, Stopped}
 use Rattle.world_base.specs.CutTurns.{listed_issue}
 use Rattle.world_base.specs.Events.{listed, with_epoch}
 use Rattle.world_base.specs.Letters.{asked_after, letters_of, target}
-use Rattle.world_base.specs.Stops.{is_not_to, reset_letter, resets, stops_so_far}
+use Rattle.world_base.specs.Stops.{is_not_to, is_prune_message, reset_letter, resets, stops_so_far}
 
 -- ---- between actors
 
@@ -113,9 +114,9 @@ with_target_at t x a = record a { targets = slice_set a.targets t x }
 
 module _ {S C : Type 0} (durable : S → Option Durable) (state : S → State) (may : S → Durable → Type 0) where
   -- In a turn of a target that ran it heard the letter of this number among those in flight to it, or, where none was, did its idle work;
-  -- that came to this result.
+  -- that came to this result. Where that asked for an aggregation, it had the next number.
   pub data IsTurned (settling : Bool) (t number : ℕ) (x y : TargetOf S C) (b left : BetweenNow) (result : Result Did TargetStop) : Type 0 where
-    ByHearing : (l : Letter) (rest : List Letter) (reading : ℕ) → IsPicked b.messages (target t) number l rest → left ≡ record b { messages = rest }
-        → ((d : Durable) → durable x.store ≡ Some d → HearsOrStops x.plan x.memory reading l.from l.message d (state x.store) (durable y.store) (state y.store) (may y.store) y.memory result) → IsTurned settling t number x y b left result
+    ByHearing : (l : Letter) (rest : List Letter) (reading : ℕ) → IsPicked b.messages (target t) number l rest → left ≡ record b { messages = rest } → (is_prune_message l.message ≡ true → next_aggregate b.lines < 2 ^ 32)
+        → ((n : ℕ) → (is_prune_message l.message ≡ true → n ≡ next_aggregate b.lines) → (d : Durable) → durable x.store ≡ Some d → HearsOrStops n x.plan x.memory reading l.from l.message d (state x.store) (durable y.store) (state y.store) (may y.store) y.memory result) → IsTurned settling t number x y b left result
     ByIdling : count_to (target t) b.messages ≡ 0 → left ≡ b
         → ((d : Durable) → durable x.store ≡ Some d → IdlesOrStops settling x.plan x.memory d (state x.store) (durable y.store) (state y.store) (may y.store) y.memory result) → IsTurned settling t number x y b left result

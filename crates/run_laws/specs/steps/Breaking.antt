@@ -1,4 +1,6 @@
 -- Where memory is wanting in a turn, the run has come to a world whose targets keep what the next openings find.
+use Rattle.run_base.specs.Numbers.{next_aggregate}
+use Rattle.run_laws.specs.turns.Drawn.{act-runs-on, turn-runs-on}
 use Rattle.std.specs.Prelude.{ℕ, ◌≡◌, Bool, List, slice_set, Option, Some, None, Result, Ok, Err, OnErr, refl}
 use Rattle.std.proofs.Common.{sym, ◌∙◌, ap, subst}
 use Rattle.daos_model.specs.declared.durable.Durable.{Durable}
@@ -13,10 +15,8 @@ use Rattle.run_laws.specs.shows.Steps.{HasWorked, InOpening, InWork, NotBegun, O
 use Rattle.run_laws.specs.shows.Stopping.{cut-leads}
 use Rattle.run_laws.specs.shows.Turned.{ByHearing, ByIdling, IsTurned, followed, swept_stage, with_between, with_target_at}
 use Rattle.run_laws.specs.steps.Going.{AllTell, GoesOn, IsRun}
-use Rattle.run_laws.specs.steps.Hearing.{none-prunes}
 use Rattle.run_laws.specs.steps.Openings.{reopening-goes, some-told}
 use Rattle.run_laws.specs.steps.Steps.{worked-goes}
-use Rattle.run_laws.specs.turns.OrderLaws.{turn-goes}
 use Rattle.run_laws.specs.turns.Turns.{TurnOf}
 use Rattle.run_watch.specs.Watches.{fuse_set, next_fuse, opened_again, opening_tried}
 use Rattle.target_core.specs.Targets.{TargetOf}
@@ -44,7 +44,7 @@ module _ {S C : Type 0} (durable : S → Option Durable) (state : S → State) (
 
   -- some turns, and then it broke off
   pub goes-then_breaks : (way : Rules → World → World → Type 0) (a b : StageNow S C) (xs : List (TargetOf S C)) → IsRun way → GoesOn durable state may is_read way a b → Breaks durable state may b xs → Breaks durable state may a xs
-  goes-then_breaks way a b xs runs k broke tell r = breaks-then durable state may steady (way r) r a b xs (λ w v first turn run. runs r first w v turn run) (k.led tell r) (broke tell r)
+  goes-then_breaks way a b xs runs k broke tell r = breaks-then durable state may steady (way r) r a b xs (λ w v turn. runs r w v turn) (k.led tell r) (broke tell r)
 
   pub goes-then_breaks-err : {T E : Type 0} (way : Rules → World → World → Type 0) (a b : StageNow S C) (xs : List (TargetOf S C)) (result : Result T E) → IsRun way → GoesOn durable state may is_read way a b → OnErr result (Breaks durable state may b xs)
       → OnErr result (Breaks durable state may a xs)
@@ -64,17 +64,17 @@ module _ {S C : Type 0} (durable : S → Option Durable) (state : S → State) (
 
   module _ (findable : AreFindable durable may) (alike : AreAlike durable) (a : StageNow S C) (can : CanGo durable state may a) (settling : Bool) (t number : ℕ) (tell : AllTell durable) (r : Rules) where
     turns-go : GoesOnRuns (TurnOf settling r (target t) number) r
-    turns-go w v first turn run = turn-goes settling r (target t) number first w v turn run
+    turns-go w v turn = turn-runs-on settling r (target t) number w v turn
 
     faults-go : (raised : ℕ) (stops : Option ℕ) → GoesOnRuns (FaultBy r t settling number raised stops) r
-    faults-go raised stops w v first by run = Goes w v run by.0.event
+    faults-go raised stops w v by = act-runs-on settling r (target t) number w v by.0
 
     after-turn : (b : StageNow S C) → GoesOn durable state may is_read (λ q. TurnOf settling q (target t) number) a b → BreaksOff durable state may r a b.targets
     after-turn b goes = breaks-after durable state may steady (TurnOf settling r (target t) number) r a b turns-go (goes.led tell r)
 
     -- a store that tells what it keeps meets no foreign byte
     none-foreign : (x y : TargetOf S C) (left : _) (at byte : ℕ) → IsTurned durable state may settling t number x y a.between left (Err (stop.Foreign at byte)) → ⊥
-    none-foreign x y left at byte (ByHearing l rest reading picked left_is turn) = let d = some-told (durable x.store) (tell x.store) in turn d.0 d.1
+    none-foreign x y left at byte (ByHearing l rest reading picked left_is few turn) = let d = some-told (durable x.store) (tell x.store) in turn (next_aggregate a.between.lines) (λ asks. refl) d.0 d.1
     none-foreign x y left at byte (ByIdling none left_is turn) = let d = some-told (durable x.store) (tell x.store) in turn d.0 d.1
 
     work-breaks : (k : HasWorked durable state may is_read settling t number a) → BreaksOff durable state may r a (slice_set a.targets t k.now)
@@ -89,10 +89,10 @@ module _ {S C : Type 0} (durable : S → Option Durable) (state : S → State) (
             after-turn left (worked-goes durable state may is_read findable alike a left can settling t number (record { work = k; ends = Whole did is refl }))
         by (Err (stop.Store issued lines)) is =
             breaks-after durable state may steady (FaultBy r t settling number 0 (Some t)) r a _ (faults-go 0 (Some t))
-            (cut-leads durable state r t k.before k.now a k.place k.plan issued lines may settling number k.left (none-prunes durable state may a can t number) (turned (Err (stop.Store issued lines)) is))
+            (cut-leads durable state r t k.before k.now a k.place k.plan issued lines may settling number k.left (turned (Err (stop.Store issued lines)) is))
         by (Err (stop.Foreign at byte)) is = absurd (none-foreign k.before k.now k.left at byte (turned (Err (stop.Foreign at byte)) is))
         by (Err stop.Memory) is =
-            breaks-in_work durable state may steady r t k.before k.now a k.place k.plan (k.runs.stops ∙ ap (says stop_store) is) settling number k.left (none-prunes durable state may a can t number) (turned (Err stop.Memory) is)
+            breaks-in_work durable state may steady r t k.before k.now a k.place k.plan (k.runs.stops ∙ ap (says stop_store) is) settling number k.left (turned (Err stop.Memory) is)
 
     opening-breaks : (k : WasReopened durable state may t a) → BreaksOff durable state may r a (slice_set a.targets t k.now)
     opening-breaks k =

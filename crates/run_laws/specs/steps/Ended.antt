@@ -1,4 +1,6 @@
 -- Where a run of the actors ends.
+use Rattle.run_laws.specs.turns.Drawn.{AreDrawn}
+use Rattle.run_laws.specs.shows.Beginning.{RunBegins}
 use Rattle.std.specs.Prelude.{ℕ, ◌≡◌, ◌+◌, ◌<◌, ◌^◌, true, List, [], length, slice_get, Option, Some, is_some}
 use Rattle.std.specs.Option.{ForSome}
 use Rattle.std.proofs.Common.{sym, ◌∙◌, ap, arith}
@@ -30,16 +32,16 @@ use Rattle.world_base.specs.declared.world.World.{World}
 use Rattle.world_base.specs.Ended.{HasEnded}
 use Rattle.world_base.specs.Events.{Rules, target_plan}
 use Rattle.world_base.specs.Stops.{Begins}
-use Rattle.world_plain.specs.whole.Begins.{IsBegun, IsSimple, first_client}
+use Rattle.world_upheld.specs.upheld.Begins.{client_begins}
 
 -- ---- a run that was begun
 
 -- where a world that is shown is one with which a run begins, all stores tell what they keep
-pub begun-tell : {S C : Type 0} (durable : S → Option Durable) (state : S → State) → AreAlike durable → (r : Rules) (o : Opening) (w : World) (found : ℕ → Durable) (a : StageNow S C) → IsSimple r → IsBegun r o w → Shows durable state r found a w → AllTell durable
-begun-tell durable state alike r o w found a simple begun shows s =
-    let first = at-within w.targets 0 (let some = simple.some_target in let many = begun.targets in omega (arith, some, many)) in
+pub begun-tell : {S C : Type 0} (durable : S → Option Durable) (state : S → State) → AreAlike durable → (r : Rules) (o : Opening) (w : World) (found : ℕ → Durable) (a : StageNow S C) → RunBegins r o w → Shows durable state r found a w → AllTell durable
+begun-tell durable state alike r o w found a begins shows s =
+    let first = at-within w.targets 0 (let some = begins.form.some_target in let many = begins.begins.targets in omega (arith, some, many)) in
     let x = at-both w.targets a.targets 0 first.0 (sym shows.many) first.1 in
-    let runs = (begun.starts 0 first.0 first.1).runs in
+    let runs = (begins.begins.starts 0 first.0 first.1).runs in
     let place : IsPlace a 0 x.0 Running = record { there = x.1; stands = ap (λ ls. slice_get ls 0) (sym shows.lives) ∙ map-get (λ z. z.life) w.targets 0 first.0 first.1 ∙ ap (λ l. Some l) runs } in
     let is = shows.targets 0 x.0 Running first.0 place first.1 in
     alike x.0.store s (ap is_some is.so.told)
@@ -69,16 +71,16 @@ module _ {S C : Type 0} (durable : S → Option Durable) (state : S → State) w
   HasRunWith may r order first left = (found : ℕ → Durable) → AreFound may left found → HasRun r order first found left
 
   -- where the actors of a begun run came in order to where none has anything to do, it has run
-  pub has-run : AreAlike durable → (may : S → Durable → Type 0) (r : Rules) (order : ℕ) (w : World) (o : Opening) (a b : StageNow S C) → IsSimple r → IsBegun r o w → ((found : ℕ → Durable) → Shows durable state r found a w) → (AllTell durable → Leads durable state may (InOrder r order) r a b)
+  pub has-run : AreAlike durable → (may : S → Durable → Type 0) (r : Rules) (order : ℕ) (w : World) (o : Opening) (a b : StageNow S C) → RunBegins r o w → AreDrawn w → ((found : ℕ → Durable) → Shows durable state r found a w) → (AllTell durable → Leads durable state may (InOrder r order) r a b)
       → HasRunWith may r order w (left_of b.targets b.watch b.between.lines)
-  has-run alike may r order w o a b simple begun shows leads found are =
-      let m = leads (begun-tell durable state alike r o w found a simple begun (shows found)) found (λ t x life place rests. are t x life (record { there = place.there; stands = place.stands }) rests) in
-      let x = m.led w (record { opening = o; first = w; simple = simple; begun = begun; run = Begins }) (shows m.before) in
+  has-run alike may r order w o a b begins drawn shows leads found are =
+      let m = leads (begun-tell durable state alike r o w found a begins (shows found)) found (λ t x life place rests. are t x life (record { there = place.there; stands = place.stands }) rests) in
+      let x = m.led w (record { opening = o; first = w; begins = begins; run = Begins; drawn = drawn }) (shows m.before) in
       record {
         last = x.next;
         run = x.turn;
         quiet = orders-end-quiet r order w x.next x.turn;
-        ended = orders-have-ended r order w x.next (ap length begun.clients ∙ length-map (first_client r.script o) r.script.clients) x.turn;
+        ended = orders-have-ended r order w x.next (ap length begins.begins.clients ∙ length-map (client_begins r o w) r.script.clients) x.turn;
         told = x.shows.lines;
         many = x.shows.many;
         lives = x.shows.lives;

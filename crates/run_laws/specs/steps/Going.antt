@@ -1,4 +1,5 @@
 -- Turns of actors one after another.
+use Rattle.run_laws.specs.turns.Drawn.{RunsOn, runs-on-none, runs-on-then, turn-runs-on}
 use Rattle.std.specs.Prelude.{ℕ, ◌≡◌, true, List, length, Bool, Option, is_some, Result, Ok, Err, OnOk, refl}
 use Rattle.std.proofs.Common.{◌∙◌}
 use Rattle.base_messages.specs.declared.actor.ActorId.{ActorId}
@@ -12,13 +13,11 @@ use Rattle.run_laws.specs.shows.EndsLaws.{tells-none, tells-then}
 use Rattle.run_laws.specs.shows.Shows.{Leads, Shows, WasReached}
 use Rattle.run_laws.specs.shows.Stages.{StageNow}
 use Rattle.run_laws.specs.turns.Keeping.{TurnsKeep, draws-keep, in_turn-keeps, rounds-keep}
-use Rattle.run_laws.specs.turns.OrderLaws.{turn-goes}
 use Rattle.run_laws.specs.turns.Orders.{Draws, InDraws, InRounds, InTurn, Rounds}
 use Rattle.run_laws.specs.turns.Turns.{TurnOf}
 use Rattle.vos_store.specs.Calls.{State}
 use Rattle.world_base.specs.declared.world.World.{World}
 use Rattle.world_base.specs.Events.{Rules}
-use Rattle.world_base.specs.Stops.{WorldRun}
 
 -- each store tells what it keeps
 abbrev pub AllTell : {S : Type 0} → (S → Option Durable) → Type 0
@@ -28,33 +27,33 @@ AllTell {S} durable = (s : S) → is_some (durable s) ≡ true
 
 -- from one world to another in some way, as a run of events
 abbrev pub IsRun : (Rules → World → World → Type 0) → Type 0
-IsRun way = (r : Rules) (first w v : World) → way r w v → WorldRun r first w → WorldRun r first v
+IsRun way = (r : Rules) (w v : World) → way r w v → RunsOn r w v
 
-runs-keep : (r : Rules) (first : World) → TurnsKeep r (WorldRun r first)
-runs-keep r first settling a k w v t run = turn-goes settling r a k first w v t run
+runs-keep : (r : Rules) (w : World) → TurnsKeep r (RunsOn r w)
+runs-keep r w settling a k u v t on = runs-on-then r w u v on (turn-runs-on settling r a k u v t)
 
 pub turn-is-run : (settling : Bool) (a : ActorId) (k : ℕ) → IsRun (λ r. TurnOf settling r a k)
-turn-is-run settling a k r first w v t run = turn-goes settling r a k first w v t run
+turn-is-run settling a k r w v t = turn-runs-on settling r a k w v t
 
 pub turns-are-run : (settling : Bool) (some : List ActorId) → IsRun (λ r w v. InTurn settling r w some v)
-turns-are-run settling some r first w v k = in_turn-keeps r (WorldRun r first) (runs-keep r first) settling w some v k
+turns-are-run settling some r w v k = in_turn-keeps r (RunsOn r w) (runs-keep r w) settling w some v k (runs-on-none r w)
 
 pub rounds-are-run : (settling : Bool) → IsRun (Rounds settling)
-rounds-are-run settling r first w v k = rounds-keep r (WorldRun r first) (runs-keep r first) settling w v k
+rounds-are-run settling r w v k = rounds-keep r (RunsOn r w) (runs-keep r w) settling w v k (runs-on-none r w)
 
 pub draws-are-run : (settling : Bool) (x y : ℕ) → IsRun (λ r w v. Draws settling r x w y v)
-draws-are-run settling x y r first w v k = draws-keep r (WorldRun r first) (runs-keep r first) settling x w y v k
+draws-are-run settling x y r w v k = draws-keep r (RunsOn r w) (runs-keep r w) settling x w y v k (runs-on-none r w)
 
 pub all-rounds-are-run : (settling : Bool) → IsRun (InRounds settling)
-all-rounds-are-run settling r first w v k = rounds-are-run settling r first w v k.rounds
+all-rounds-are-run settling r w v k = rounds-are-run settling r w v k.rounds
 
 pub all-draws-are-run : (settling : Bool) (x y : ℕ) → IsRun (λ r w v. InDraws settling r x w y v)
-all-draws-are-run settling x y r first w v k = draws-are-run settling x y r first w v k.draws
+all-draws-are-run settling x y r w v k = draws-are-run settling x y r w v k.draws
 
 -- ---- what leads from stage to stage
 
 reached-then : (r : Rules) (way : Rules → World → World → Type 0) (w v : World) → IsRun way → way r w v → WasReached r w → WasReached r v
-reached-then r way w v runs one was = record { opening = was.opening; first = was.first; simple = was.simple; begun = was.begun; run = runs r was.first w v one was.run }
+reached-then r way w v runs one was = let on = runs r w v one in record { opening = was.opening; first = was.first; begins = was.begins; run = on.run was.first was.run; drawn = on.drawn was.drawn }
 
 module _ {S C : Type 0} (durable : S → Option Durable) (state : S → State) (may : S → Durable → Type 0) where
   -- no turn

@@ -1,5 +1,5 @@
 -- What goes to a target that runs it can hear.
-use Rattle.std.specs.Prelude.{ℕ, ◌≡◌, ◌∷◌, All, false, List, Option, Some, None, refl}
+use Rattle.std.specs.Prelude.{ℕ, ◌≡◌, ◌∷◌, All, true, false, List, Option, Some, None, refl}
 use Rattle.std.proofs.Common.{inl, inr, sym, ◌∙◌, ap, subst}
 use Rattle.base_messages.specs.declared.message.Message.{Message}
 use Rattle.base_messages.specs.declared.message.Message.TheVariants as message
@@ -10,7 +10,6 @@ use Rattle.model_laws.specs.Members.{Has, contains-from_has, has-right}
 use Rattle.run_base.specs.Letters.{IsPicked}
 use Rattle.run_laws.specs.shows.CanGo.{CanGo, IsHearable}
 use Rattle.run_laws.specs.shows.Going.{AreFindable, found-some, some-found}
-use Rattle.run_laws.specs.shows.Leading.{NonePrunes}
 use Rattle.run_laws.specs.shows.Parts.{target-there}
 use Rattle.run_laws.specs.shows.Stages.{IsPlace, StageNow}
 use Rattle.run_laws.specs.steps.Going.{AllTell}
@@ -25,19 +24,12 @@ use Rattle.world_base.specs.declared.target.TargetPlan.{TargetPlan}
 use Rattle.world_base.specs.Commits.{own_writes}
 use Rattle.world_base.specs.Events.{Rules, target_plan}
 use Rattle.world_base.specs.Letters.{target}
-use Rattle.world_base.specs.Stops.{is_prune_message}
-use Rattle.world_standing.specs.hearable.Hearable.{CanHearOn}
-use Rattle.world_standing.specs.hearable.Runs.{runs-can-be-heard}
+use Rattle.world_upheld.specs.hearing.Hearable.{CanHearLetter, CanHearOfMaking}
+use Rattle.world_upheld.specs.hearing.Runs.{runs-can_hear_all}
 use Rattle.world_contents.specs.posts.Forms.{HasFormAfterStops, IsInForm, IsLetter}
 use Rattle.world_plain.specs.whole.Hearable.{CanHear}
 
 -- ---- messages
-
--- what has form asks for no aggregation
-pub asks-no_prune : (t : TargetPlan) (m : Message) → IsInForm t m → is_prune_message m ≡ false
-asks-no_prune t (message.Prune x c tracker e) (inl k) = absurd k
-asks-no_prune t (message.Prune x c tracker e) (inr k) = absurd k
-asks-no_prune t m k = refl
 
 module _ (r : Rules) (t : ℕ) (d : Durable) where
   all-new : (ep : Option Epoch) (ws : List MinorWrite) → ((e : Epoch) → ep ≡ Some e → All (λ v. v.epoch.0 ≡ e.0 → ⊥) d.versions) → AreNewAt ep ws d
@@ -59,12 +51,25 @@ module _ (r : Rules) (t : ℕ) (d : Durable) where
   heard-after_stops (message.Fetch x op group ep first tracker read snapshot) k = absurd k
   heard-after_stops (message.Commit x ep first tracker ws) k = absurd k
   heard-after_stops (message.Prepare e first ws inc) k = absurd k
+  heard-after_stops (message.Snap x c name tracker) k = absurd k
+  heard-after_stops (message.Prune x c tracker e) k = absurd k
+  heard-after_stops (message.Freeze x c s) k = absurd k
   heard-after_stops m k = tt
 
+  heard-making : (m : Message) → CanHearOfMaking d m → target_core.CanHear (target_plan r t) m d
+  heard-making (message.Snap x c name tracker) k = k
+  heard-making (message.Prune x c tracker e) k = k
+  heard-making (message.Freeze x c s) k = k
+  heard-making (message.Held x refusal) k = tt
+  heard-making (message.Reset' by down place asked) k = tt
+  heard-making (message.Fetch x op group (Some e) first tracker read true) k = k.enlisted
+  heard-making m k = absurd k
+
   -- what a target of the world can hear, one of its plan can
-  pub can-hear : (m : Message) → CanHearOn r t d m → target_core.CanHear (target_plan r t) m d
-  can-hear m (inl k) = heard-plainly m k
-  can-hear m (inr k) = heard-after_stops m k
+  pub can-hear : (l : Letter) → CanHearLetter r t d l → target_core.CanHear (target_plan r t) l.message d
+  can-hear l (inl (inl k)) = heard-plainly l.message k
+  can-hear l (inl (inr k)) = heard-after_stops l.message k
+  can-hear l (inr k) = heard-making l.message k.can
 
 -- ---- letters
 
@@ -89,18 +94,15 @@ module _ {S C : Type 0} (durable : S → Option Durable) (state : S → State) (
         let y = g.reached found (found-some durable state may findable a (λ z. tell z.store)) in
         let s = target-there durable state g.rules found a y.now t x Running y.shows place in
         let among = subst (λ ls. Has l ls) y.shows.messages picked-among in
-        let heard = runs-can-be-heard g.rules g.opening g.first y.now l t s.s g.simple g.begun y.run (contains-from_has y.now.messages l among) picked.to_it s.here s.is.lives in
+        let heard = runs-can_hear_all g.rules g.opening g.first y.now l t s.s g.begins.form g.begins.begins y.run (contains-from_has y.now.messages l among) picked.to_it s.here s.is.lives in
         let same : s.s.durable ≡ d = let e : Some s.s.durable ≡ Some d = sym s.is.so.told ∙ told in cc in
-        subst (λ p. target_core.CanHear p l.message d) (sym s.is.made) (can-hear g.rules t d l.message (subst (λ e. CanHearOn g.rules t e l.message) same heard.can))
+        subst (λ p. target_core.CanHear p l.message d) (sym s.is.made) (can-hear g.rules t d l (subst (λ e. CanHearLetter g.rules t e l) same heard))
 
     -- the letter that is picked for a target that runs can be heard there
     pub hearable : IsHearable durable x l
     hearable = record {
       form = subst (λ p. IsInForm p l.message) (sym (can.made t x place.there)) picked-in-form;
       kind = picked-letter.kind (ap (λ q. q.client) picked.to_it);
+      few = picked-letter.few;
       here = λ d told. can-here d told;
     }
-
--- no letter that a target hears asks for an aggregation
-pub none-prunes : {S C : Type 0} (durable : S → Option Durable) (state : S → State) (may : S → Durable → Type 0) (a : StageNow S C) → CanGo durable state may a → (t number : ℕ) → NonePrunes a.between t number
-none-prunes durable state may a can t number l rest picked = asks-no_prune (target_plan can.rules t) l.message (picked-in-form durable state may a can t number l rest picked)

@@ -79,7 +79,7 @@ module _ {S C : Type 0} (durable : S → Option Durable) (state : S → State) (
   -- ---- it opens
 
   module _ (did : Did) (z : TargetOf S C) (opens : Reopens (Ok did) (state x.store) (state y.store) (durable x.store) (durable y.store)) (turn : (d : Durable) → durable x.store ≡ Some d → OpensAs x.plan a.watch.restarts (may x.store) (durable y.store) (state y.store) y.memory did)
-      (posts : posted.Follows x.plan.targets y.memory.leader did.posts) (has_opened : y.opened ≡ true) (fuse : HasFuse durable state may (next_fuse t a.watch.stops) y z) where
+      (posts : posted.TurnFollows x.plan.targets y.memory did.posts) (has_opened : y.opened ≡ true) (fuse : HasFuse durable state may (next_fuse t a.watch.stops) y z) where
     abbrev again : WatchNow
     again = opened_again t (fuse_set t (opening_tried a.watch))
 
@@ -96,11 +96,11 @@ module _ {S C : Type 0} (durable : S → Option Durable) (state : S → State) (
     opened-fits : Fits state can.rules opened-left
     opened-fits =
         let f = fits-of durable state may a can in
-        fit-swept state can.rules can.simple (record a { targets = slice_set a.targets t z; watch = again; between = followed (target t) did a.between })
-        (fit-target state can.rules can.simple a f t x z again Running (followed (target t) did a.between) place.there (fuse.plan ∙ plan) refl few
-        (λ is. record { opened = fuse.opened ∙ has_opened; running = ap (λ h. h.stopped) fuse.state_is.rest ∙ opens.runs; waiting = subst (λ m. posted.ClientsWait m.leader) (sym fuse.memory) posts.waiting })
+        fit-swept state can.rules can.form (record a { targets = slice_set a.targets t z; watch = again; between = followed (target t) did a.between })
+        (fit-target state can.rules can.form a f t x z again Running (followed (target t) did a.between) place.there (fuse.plan ∙ plan) refl few
+        (λ is. record { opened = fuse.opened ∙ has_opened; running = ap (λ h. h.stopped) fuse.state_is.rest ∙ opens.runs; waiting = subst posted.ClientsAwait (sym fuse.memory) posts.waiting })
         (followed-form (target_plan can.rules) (target t) did a.between f.between
-        (λ q i. targets-send-letters (target_plan can.rules) can.rules.script.targets t q (λ u. refl) (subst (λ n. TargetPosts n did.posts) (ap (λ p. p.targets) (can.made t x place.there)) posts.form q i))))
+        (λ q i. targets-send-letters (target_plan can.rules) can.rules.script.targets t q (few-numbers state can.rules can.form a f t x place.there) (λ u. refl) (subst (λ n. TargetPosts n did.posts) (ap (λ p. p.targets) (can.made t x place.there)) posts.form q i))))
 
     opened-counts : Counts state a opened-left None None t x z
     opened-counts = record {
@@ -142,10 +142,10 @@ module _ {S C : Type 0} (durable : S → Option Durable) (state : S → State) (
     failed-fits : Fits state can.rules failed-left
     failed-fits =
         let f = fits-of durable state may a can in
-        fit-target state can.rules can.simple a f t x y (opening_tried a.watch) Stopped a.between place.there plan (set-same a.watch.lives t Stopped place.stands) few (λ e. let no : ⊥ = cc in absurd no) f.between
+        fit-target state can.rules can.form a f t x y (opening_tried a.watch) Stopped a.between place.there plan (set-same a.watch.lives t Stopped place.stands) few (λ e. let no : ⊥ = cc in absurd no) f.between
 
     few-of : t < 64
-    few-of = few-numbers state can.rules can.simple a (fits-of durable state may a can) t x place.there
+    few-of = few-numbers state can.rules can.form a (fits-of durable state may a can) t x place.there
 
     -- its store stopped
     pub failed-goes : (settling : Bool) (number : ℕ) (b : StageNow S C) → Left (may x.store) (may y.store) → AfterStop t (state x.store).faults (state y.store).faults failed-left b → ((r : Rules) → TellsOn r a b) → GoesOn durable state may is_read (λ r. TurnOf settling r (target t) number) a b
@@ -154,7 +154,7 @@ module _ {S C : Type 0} (durable : S → Option Durable) (state : S → State) (
         (λ tell r. fault-leads durable state r t may settling number 1 (state x.store).faults (state y.store).faults None a failed-left b y failed-place
         (failure-leads durable state may r t x y a (opening_tried a.watch) place plan left (opens.free (tell x.store)) refl refl settling number) after)
         findable alike (subst (AreServed durable state is_read a.targets) (sym (after-targets t _ _ failed-left b after)) failed-served)
-        (fit-after_stop state can.rules t (state x.store).faults (state y.store).faults failed-left b can.simple few-of failed-fits after)
+        (fit-after_stop state can.rules t (state x.store).faults (state y.store).faults failed-left b can.form few-of failed-fits after)
         (let same = after-openings t _ _ failed-left b after in omega (arith, same)) (ap length (after-clients t _ _ failed-left b after)) tells
         (λ u p q here there told. each-pair durable state is_read a.targets t x y place.there (λ v w s. Counts state a b None downs v w s) its
         (λ v w apart. counts-none state a b None downs v w refl (λ e. apart (after-down t _ _ failed-left b after v e)) (let same = same-lines v in omega (arith, same)) (λ m h. after-others t _ _ failed-left b after v apart m h)) u p q here
@@ -179,7 +179,7 @@ module _ {S C : Type 0} (durable : S → Option Durable) (state : S → State) (
     pub foreign-goes : (settling : Bool) (number : ℕ) → (IsSome (durable x.store) → stop_foreign why ≡ false) → stop_foreign why ≡ true → ((r : Rules) → TellsOn r a (swept_stage (given_up_stage t failed-left))) → GoesOn durable state may is_read (λ r. TurnOf settling r (target t) number) a (swept_stage (given_up_stage t failed-left))
     foreign-goes settling number native is tells =
         turn-done durable state may is_read a (swept_stage (given_up_stage t failed-left)) settling (target t) number 1 None None can (λ tell r. absurd (untold (tell x.store))) findable alike failed-served
-        (fit-swept state can.rules can.simple (given_up_stage t failed-left) (fit-given_up state can.rules can.simple failed-left failed-fits t few-of)) (omega arith) refl tells
+        (fit-swept state can.rules can.form (given_up_stage t failed-left) (fit-given_up state can.rules can.form failed-left failed-fits t few-of)) (omega arith) refl tells
         (λ u p q here there told. absurd (untold (alike p.store x.store told)))
       where
         untold : IsSome (durable x.store) → ⊥
@@ -202,7 +202,7 @@ module _ {S C : Type 0} (durable : S → Option Durable) (state : S → State) (
           (opened-goes durable state may is_read findable alike a can t k.was.before k.was.now k.was.place k.was.few k.was.plan k.was.clock did after.armed
           (subst (λ q. Reopens q (state k.was.before.store) (state k.was.now.store) (durable k.was.before.store) (durable k.was.now.store)) is k.was.opens)
           (λ d told. subst (λ q. IfOk q (OpensAs k.was.before.plan a.watch.restarts (may k.was.before.store) (durable k.was.now.store) (state k.was.now.store) k.was.now.memory)) is (k.was.turn d told))
-          (subst (λ q. IfOk q (λ e. posted.Follows k.was.before.plan.targets k.was.now.memory.leader e.posts)) is k.was.posts) (k.was.opened ∙ ap is_ok is) after.fuse settling number (λ r. subst (TellsOn r a) (sym same) (tells r)))
+          (subst (λ q. IfOk q (λ e. posted.TurnFollows k.was.before.plan.targets k.was.now.memory e.posts)) is k.was.posts) (k.was.opened ∙ ap is_ok is) after.fuse settling number (λ r. subst (TellsOn r a) (sym same) (tells r)))
       by (NotOpened why is after) = ends after
         where
           opens : Reopens {T = Did} (Err why) (state k.was.before.store) (state k.was.now.store) (durable k.was.before.store) (durable k.was.now.store)

@@ -13,7 +13,7 @@ use Rattle.run_laws.specs.shows.Stages.{StageNow}
 use Rattle.run_laws.specs.shows.Steps.{ClientTurned, ClientWorks, Cut, HeardOne, Reopened, TargetTurned, TargetWorked, WentOn, Whole, WorkEnds, Worked}
 use Rattle.run_laws.specs.shows.Turned.{IsTurned, followed, swept_stage, with_between, with_client_at}
 use Rattle.run_laws.specs.steps.Going.{AllTell, GoesOn}
-use Rattle.run_laws.specs.steps.Hearing.{hearable, none-prunes}
+use Rattle.run_laws.specs.steps.Hearing.{hearable}
 use Rattle.run_laws.specs.steps.Openings.{reopening-goes}
 use Rattle.run_laws.specs.steps.Turnings.{client-heard-done, client-went-done, cut-done, whole-done}
 use Rattle.run_laws.specs.turns.Turns.{TurnOf}
@@ -27,8 +27,8 @@ use Rattle.world_base.specs.declared.target.Life.TheVariants.{Stopped}
 use Rattle.world_base.specs.Events.{Rules}
 use Rattle.world_base.specs.Letters.{client, target}
 use Rattle.world_standing.specs.hearable.Covered.{IsCovered}
-use Rattle.world_standing.specs.hearable.Runs.{runs-are-covered}
-use Rattle.world_contents.specs.posts.Forms.{PostsInForm}
+use Rattle.world_upheld.specs.hearing.Leases.{all-runs-are_covered}
+use Rattle.world_contents.specs.posts.Forms.{TurnsPostInForm}
 
 module _ {S C : Type 0} (durable : S → Option Durable) (state : S → State) (may : S → Durable → Type 0) where
   module _ (is_read : C → C → Type 0) (findable : AreFindable durable may) (alike : AreAlike durable) (a b : StageNow S C) (can : CanGo durable state may a) where
@@ -57,12 +57,12 @@ module _ {S C : Type 0} (durable : S → Option Durable) (state : S → State) (
               subst (λ s. GoesOn durable state may is_read (λ r. TurnOf settling r (target t) number) a s) (sym after)
               (whole-done durable state may is_read findable alike a can t k.work.before k.work.now k.work.place k.work.plan (served-by-runs stop_store k.work.result (state k.work.before.store) (state k.work.now.store) (durable k.work.before.store) (durable k.work.now.store) k.work.runs) k.work.clock did k.work.left k.work.opened
               (subst (λ q. Runs stop_store q (state k.work.before.store) (state k.work.now.store) (durable k.work.before.store) (durable k.work.now.store)) is k.work.runs)
-              (subst (λ q. IfOk q (λ d. PostsInForm k.work.before.plan.targets k.work.before.memory.leader k.work.now.memory.leader d.posts)) is k.work.posts) settling number (none-prunes durable state may a can t number)
+              (subst (λ q. IfOk q (λ d. TurnsPostInForm k.work.before.plan.targets k.work.before.memory k.work.now.memory d.posts)) is k.work.posts) settling number
               (subst (IsTurned durable state may settling t number k.work.before k.work.now a.between k.work.left) is k.work.turned) (λ r. subst (TellsOn r a) after (tells r)))
           by (Cut why is after) =
               let cut = is ∙ ap Err after.cut in
               cut-done durable state may is_read findable alike a can t k.work.before k.work.now k.work.place k.work.plan (served-by-runs stop_store k.work.result (state k.work.before.store) (state k.work.now.store) (durable k.work.before.store) (durable k.work.now.store) k.work.runs) k.work.clock k.work.left after.issued after.lines k.work.runs.fuse
-              (k.work.runs.cause (ap (says stop_store) cut)) b settling number (none-prunes durable state may a can t number) (subst (IsTurned durable state may settling t number k.work.before k.work.now a.between k.work.left) cut k.work.turned) after.after tells
+              (k.work.runs.cause (ap (says stop_store) cut)) b settling number (subst (IsTurned durable state may settling t number k.work.before k.work.now a.between k.work.left) cut k.work.turned) after.after tells
 
       -- a target's turn
       pub target-turn-goes : TargetTurned durable state may is_read settling t number a b → GoesOn durable state may is_read (λ r. TurnOf settling r (target t) number) a b
@@ -90,7 +90,7 @@ module _ {S C : Type 0} (durable : S → Option Durable) (state : S → State) (
         let y = g.reached found (found-with durable state may findable a (λ z. all z.store) t x e at m) in
         let s = target-there durable state g.rules found a y.now t x Stopped y.shows (record { there = at; stands = stopped }) in
         let same : s.s.durable ≡ e = s.is.so.keeps ∙ chosen t e (some-found durable state may findable a (λ z. all z.store)) in
-        record { versions = subst (λ k. IsCovered k) same (runs-are-covered g.rules g.opening g.first y.now g.simple g.begun y.run t s.s s.here); leased = omega arith }
+        record { versions = subst (λ k. IsCovered k) same (all-runs-are_covered g.rules g.opening g.first y.now g.begins.form g.begins.begins y.run t s.s s.here).versions; leased = omega arith }
 
     -- it can: it hears what it is to hear, and what may be found of it where it is stopped is counted and covered
     pub can-turn : (number : ℕ) → CanTurn durable state may a t number x

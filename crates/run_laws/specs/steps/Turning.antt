@@ -120,7 +120,7 @@ module _ {S C : Type 0} (durable : S → Option Durable) (state : S → State) (
         → GoesOn durable state may is_read (λ r. TurnOf settling r actor number) a b
     turn-done fits up clients tells counts = record {
       led = λ tell r. leads-turn durable state may settling r actor number raised stops downs a b (leads tell r);
-      going = can-go durable state may can.rules b can.simple fits
+      going = can-go durable state may can.rules b can.form fits
           (λ t y d at is.
           let some : is_some (durable y.store) ≡ true = ap is_some is in
           let g = was-going t y at some in

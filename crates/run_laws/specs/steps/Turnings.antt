@@ -21,7 +21,7 @@ use Rattle.run_laws.specs.shows.Fitting.{Fits, few-numbers, fit-after_stop, fit-
 use Rattle.run_laws.specs.shows.Givings.{downs_after, fault-leads}
 use Rattle.run_laws.specs.shows.Going.{AreAlike, AreFindable}
 use Rattle.run_laws.specs.shows.Ends.{TellsOn}
-use Rattle.run_laws.specs.shows.Leading.{NonePrunes, turn-leads}
+use Rattle.run_laws.specs.shows.Leading.{turn-leads}
 use Rattle.run_laws.specs.shows.Lettered.{AllInForm, InForm, asked-lost, followed-form, lost-form}
 use Rattle.run_laws.specs.shows.ListLaws.{get-set, length-set}
 use Rattle.run_laws.specs.shows.Parts.{IsTurnSo, is-set, set-same}
@@ -50,16 +50,13 @@ use Rattle.world_base.specs.StepLaws.{set-is, set-there}
 use Rattle.world_letters.specs.lives.Adding.{stops_of}
 use Rattle.world_contents.specs.posts.FormLaws.{clients-send-letters, targets-send-letters}
 use Rattle.world_contents.specs.posts.Forms as posted
-use Rattle.world_contents.specs.posts.Forms.{ClientPosts, PostsInForm, TargetPosts}
-use Rattle.world_plain.specs.whole.Begins.{IsSimple}
-use Rattle.world_plain.specs.whole.Posting.{IsPlainScript, clients-post-in-form, hearers-post-in-form}
+use Rattle.world_contents.specs.posts.Forms.{ClientPosts, TargetPosts, TurnsPostInForm}
+use Rattle.world_plain.specs.whole.KnownSnapshots.{ReadsKnown, clients-keep-reads_known, hearers-keep-reads_known}
+use Rattle.world_plain.specs.whole.Posting.{clients-post-in-form, hearers-post-in-form}
 
 -- what is left of letters beside one that was taken was among them
 rest-among : (letters rest : List Letter) (a : _) (number : ℕ) (l : Letter) → IsPicked letters a number l rest → (m : Letter) → Has m rest → Has m letters
 rest-among letters rest a number l k m i = subst (Has m) (sym k.among) (elim (has-cases k.before k.after m (subst (Has m) k.left i)) [ inl j ↦ has-left k.before _ m j | inr j ↦ has-right k.before _ m (inr j) ])
-
-plain : (r : Rules) → IsSimple r → IsPlainScript r
-plain r k = record { form = k.form; unsnapped = k.unsnapped }
 
 -- ---- a client
 
@@ -68,12 +65,13 @@ module _ {S C : Type 0} (durable : S → Option Durable) (state : S → State) (
     abbrev pub client-left : StageNow S C
     client-left = swept_stage (with_between (followed (client n) did left) (with_client_at n d a))
 
-    client-fits : InForm (target_plan can.rules) left.messages → ClientPosts (target_plan can.rules) did.posts → Fits state can.rules client-left
-    client-fits letters posts =
+    client-fits : InForm (target_plan can.rules) left.messages → ClientPosts (target_plan can.rules) did.posts → ReadsKnown d.plan d.state → Fits state can.rules client-left
+    client-fits letters posts known =
         let f = fits-of durable state may a can in
-        fit-swept state can.rules can.simple (with_between (followed (client n) did left) (with_client_at n d a))
+        fit-swept state can.rules can.form (with_between (followed (client n) did left) (with_client_at n d a))
         (record {
           plans = λ m x here. get-set (λ j y. y.plan ≡ client_plan can.rules j) a.clients n d (plan ∙ can.plans n c at) can.plans m x here;
+          known = λ m x here. get-set (λ j y. ReadsKnown y.plan y.state) a.clients n d known can.known m x here;
           made = f.made;
           many = f.many;
           standing = f.standing;
@@ -82,10 +80,10 @@ module _ {S C : Type 0} (durable : S → Option Durable) (state : S → State) (
           between = followed-form (target_plan can.rules) (client n) did left (record { messages = letters; asked = λ l i. f.between.asked l (subst (Has l) asked i) }) (λ q i. clients-send-letters (target_plan can.rules) n q (posts q i));
         })
 
-    client-done : (settling : Bool) (number : ℕ) → ((r : Rules) → Leads durable state may (IsTurnSo settling r (client n) number 0 None None) r a client-left) → InForm (target_plan can.rules) left.messages → ClientPosts (target_plan can.rules) did.posts → ((r : Rules) → TellsOn r a client-left)
+    client-done : (settling : Bool) (number : ℕ) → ((r : Rules) → Leads durable state may (IsTurnSo settling r (client n) number 0 None None) r a client-left) → InForm (target_plan can.rules) left.messages → ClientPosts (target_plan can.rules) did.posts → ReadsKnown d.plan d.state → ((r : Rules) → TellsOn r a client-left)
         → GoesOn durable state may is_read (λ r. TurnOf settling r (client n) number) a client-left
-    client-done settling number leads letters posts tells =
-        turn-done durable state may is_read a client-left settling (client n) number 0 None None can (λ tell. leads) findable alike (served-first durable state is_read a.targets) (client-fits letters posts) (omega arith) (length-set a.clients n d) tells
+    client-done settling number leads letters posts known tells =
+        turn-done durable state may is_read a client-left settling (client n) number 0 None None can (λ tell. leads) findable alike (served-first durable state is_read a.targets) (client-fits letters posts known) (omega arith) (length-set a.clients n d) tells
         (λ t x y here there told.
         let same : x ≡ y = let e : Some x ≡ Some y = sym here ∙ there in cc in
         subst (Counts state a client-left None None t x) same (counts-none state a client-left None None t x refl (λ e. let no : ⊥ = cc in no) (omega arith) (λ m h. h)))
@@ -95,13 +93,15 @@ module _ {S C : Type 0} (durable : S → Option Durable) (state : S → State) (
     client-heard-done settling number l rest awake picked messages turn tells =
         client-done settling number (λ r. client-hears durable state may r n c d a did left at plan asked issued lines settling number l rest awake picked messages turn)
         (λ m i. (fits-of durable state may a can).between.messages m (rest-among a.between.messages rest (client n) number l picked m (subst (Has m) messages i)))
-        (hearers-post-in-form can.rules n c.state d.state l.message did (plain can.rules can.simple) (subst (λ p. HearTurn p c.state l.message did d.state) (can.plans n c at) turn)) tells
+        (hearers-post-in-form can.rules n c.state d.state l.message did can.form.form (subst (λ p. ReadsKnown p c.state) (can.plans n c at) (can.known n c at)) (subst (λ p. HearTurn p c.state l.message did d.state) (can.plans n c at) turn))
+        (subst (λ p. ReadsKnown p d.state) (sym plan) (hearers-keep-reads_known c.plan c.state d.state l.message did turn (can.known n c at))) tells
 
     -- it went on without one
     pub client-went-done : (settling : Bool) (number : ℕ) → heard_awake c.state (count_to (client n) a.between.messages) ≡ 0 → left.messages ≡ a.between.messages → NextTurn c.plan c.state did d.state → ((r : Rules) → TellsOn r a client-left) → GoesOn durable state may is_read (λ r. TurnOf settling r (client n) number) a client-left
     client-went-done settling number none messages turn tells =
         client-done settling number (λ r. client-goes durable state may r n c d a did left at plan asked issued lines settling number none messages turn) (λ m i. (fits-of durable state may a can).between.messages m (subst (Has m) messages i))
-        (clients-post-in-form can.rules n c.state d.state did (plain can.rules can.simple) (subst (λ p. NextTurn p c.state did d.state) (can.plans n c at) turn)) tells
+        (clients-post-in-form can.rules n c.state d.state did can.form.form (subst (λ p. ReadsKnown p c.state) (can.plans n c at) (can.known n c at)) (subst (λ p. NextTurn p c.state did d.state) (can.plans n c at) turn))
+        (subst (λ p. ReadsKnown p d.state) (sym plan) (clients-keep-reads_known c.plan c.state d.state did turn (can.known n c at))) tells
 
 -- ---- after a store stopped
 
@@ -176,31 +176,31 @@ module _ {S C : Type 0} (durable : S → Option Durable) (state : S → State) (
   left-form left k = let f = fits-of durable state may a can in record { messages = λ l i. f.between.messages l (k.messages l i); asked = λ l i. f.between.asked l (subst (Has l) k.asked i) }
 
   pub turned-left : (settling : Bool) (number : ℕ) (left : BetweenNow) (result : _) → IsTurned durable state may settling t number x y a.between left result → IsLeft left
-  turned-left settling number left result (ByHearing l rest reading picked left_is turn) = record { messages = λ m i. rest-among a.between.messages rest (target t) number l picked m (subst (Has m) (ap (λ b. b.messages) left_is) i); asked = ap (λ b. b.asked) left_is }
+  turned-left settling number left result (ByHearing l rest reading picked left_is few turn) = record { messages = λ m i. rest-among a.between.messages rest (target t) number l picked m (subst (Has m) (ap (λ b. b.messages) left_is) i); asked = ap (λ b. b.asked) left_is }
   turned-left settling number left result (ByIdling none left_is turn) = record { messages = λ m i. subst (Has m) (ap (λ b. b.messages) left_is) i; asked = ap (λ b. b.asked) left_is }
 
   small : t < 64
-  small = few-numbers state can.rules can.simple a (fits-of durable state may a can) t x place.there
+  small = few-numbers state can.rules can.form a (fits-of durable state may a can) t x place.there
 
   -- ---- a whole turn
 
-  module _ (did : Did) (left : BetweenNow) (opened : y.opened ≡ true) (runs : Runs stop_store (Ok did) (state x.store) (state y.store) (durable x.store) (durable y.store)) (posts : PostsInForm x.plan.targets x.memory.leader y.memory.leader did.posts) where
+  module _ (did : Did) (left : BetweenNow) (opened : y.opened ≡ true) (runs : Runs stop_store (Ok did) (state x.store) (state y.store) (durable x.store) (durable y.store)) (posts : TurnsPostInForm x.plan.targets x.memory y.memory did.posts) where
     abbrev pub target-left : StageNow S C
     target-left = swept_stage (with_between (followed (target t) did left) (with_target_at t y a))
 
     target-fits : AllInForm (target_plan can.rules) left → Fits state can.rules target-left
     target-fits letters =
         let f = fits-of durable state may a can in
-        let sent : posted.Follows x.plan.targets y.memory.leader did.posts = posts (f.work t x place).waiting in
-        fit-swept state can.rules can.simple (with_between (followed (target t) did left) (with_target_at t y a))
-        (fit-target state can.rules can.simple a f t x y a.watch Running (followed (target t) did left) place.there plan (set-same a.watch.lives t Running place.stands) f.openings (λ is. record { opened = opened; running = runs.stops; waiting = sent.waiting })
+        let sent : posted.TurnFollows x.plan.targets y.memory did.posts = posts (f.work t x place).waiting in
+        fit-swept state can.rules can.form (with_between (followed (target t) did left) (with_target_at t y a))
+        (fit-target state can.rules can.form a f t x y a.watch Running (followed (target t) did left) place.there plan (set-same a.watch.lives t Running place.stands) f.openings (λ is. record { opened = opened; running = runs.stops; waiting = sent.waiting })
         (followed-form (target_plan can.rules) (target t) did left letters
-        (λ q i. targets-send-letters (target_plan can.rules) can.rules.script.targets t q (λ u. refl) (subst (λ n. TargetPosts n did.posts) (ap (λ p. p.targets) (can.made t x place.there)) sent.form q i))))
+        (λ q i. targets-send-letters (target_plan can.rules) can.rules.script.targets t q small (λ u. refl) (subst (λ n. TargetPosts n did.posts) (ap (λ p. p.targets) (can.made t x place.there)) sent.form q i))))
 
-    pub whole-done : (settling : Bool) (number : ℕ) → NonePrunes a.between t number → IsTurned durable state may settling t number x y a.between left (Ok did) → ((r : Rules) → TellsOn r a target-left) → GoesOn durable state may is_read (λ r. TurnOf settling r (target t) number) a target-left
-    whole-done settling number no_prunes turned tells =
+    pub whole-done : (settling : Bool) (number : ℕ) → IsTurned durable state may settling t number x y a.between left (Ok did) → ((r : Rules) → TellsOn r a target-left) → GoesOn durable state may is_read (λ r. TurnOf settling r (target t) number) a target-left
+    whole-done settling number turned tells =
         turn-done durable state may is_read a target-left settling (target t) number 0 None None can
-        (λ tell r. turn-leads durable state r t x y a did place plan opened runs.opening runs.stops may settling number left no_prunes turned) findable alike (served-one durable state is_read a.targets t x y place.there served read) (target-fits (left-form left (turned-left settling number left (Ok did) turned))) (omega arith) refl tells
+        (λ tell r. turn-leads durable state r t x y a did place plan opened runs.opening runs.stops may settling number left turned) findable alike (served-one durable state is_read a.targets t x y place.there served read) (target-fits (left-form left (turned-left settling number left (Ok did) turned))) (omega arith) refl tells
         (λ u p q here there told. each-pair durable state is_read a.targets t x y place.there (λ v z w. Counts state a target-left None None v z w) its
         (λ v z apart. counts-none state a target-left None None v z refl (λ e. let no : ⊥ = cc in no) (omega arith) (λ m h. h)) u p q here there)
       where
@@ -226,8 +226,8 @@ module _ {S C : Type 0} (durable : S → Option Durable) (state : S → State) (
     cut-fits : AllInForm (target_plan can.rules) left → Fits state can.rules cut-left
     cut-fits letters =
         let f = fits-of durable state may a can in
-        fit-swept state can.rules can.simple (stopped_stage t issued lines (record a { targets = slice_set a.targets t y; between = left }))
-        (fit-target state can.rules can.simple a f t x y (with_life t Stopped a.watch) Stopped (cut_between t issued lines left) place.there plan refl f.openings (λ e. let no : ⊥ = cc in absurd no)
+        fit-swept state can.rules can.form (stopped_stage t issued lines (record a { targets = slice_set a.targets t y; between = left }))
+        (fit-target state can.rules can.form a f t x y (with_life t Stopped a.watch) Stopped (cut_between t issued lines left) place.there plan refl f.openings (λ e. let no : ⊥ = cc in absurd no)
         (record { messages = lost-form (target_plan can.rules) t false left small letters; asked = asked-lost (target_plan can.rules) t left letters }))
 
     -- it stopped by a fuse, or as often as the outside failed it
@@ -239,14 +239,14 @@ module _ {S C : Type 0} (durable : S → Option Durable) (state : S → State) (
         let set' : one_if (state x.store).fused ≡ 1 = ap one_if z.1 in
         inl (omega (arith, one, none, set'))
 
-    pub cut-done : (settling : Bool) (number : ℕ) → NonePrunes a.between t number → IsTurned durable state may settling t number x y a.between left (Err (stop.Store issued lines)) → AfterStop t (state x.store).faults (state y.store).faults cut-left c → ((r : Rules) → TellsOn r a c)
+    pub cut-done : (settling : Bool) (number : ℕ) → IsTurned durable state may settling t number x y a.between left (Err (stop.Store issued lines)) → AfterStop t (state x.store).faults (state y.store).faults cut-left c → ((r : Rules) → TellsOn r a c)
         → GoesOn durable state may is_read (λ r. TurnOf settling r (target t) number) a c
-    cut-done settling number no_prunes turned after tells =
+    cut-done settling number turned after tells =
         turn-done durable state may is_read a c settling (target t) number 0 (Some t) downs can
         (λ tell r. fault-leads durable state r t may settling number 0 (state x.store).faults (state y.store).faults (Some t) a cut-left c y cut-place
-        (cut-leads durable state r t x y a place plan issued lines may settling number left no_prunes turned) after)
+        (cut-leads durable state r t x y a place plan issued lines may settling number left turned) after)
         findable alike (subst (AreServed durable state is_read a.targets) (sym (after-targets t _ _ cut-left c after)) (served-one durable state is_read a.targets t x y place.there served read))
-        (fit-after_stop state can.rules t (state x.store).faults (state y.store).faults cut-left c can.simple small (cut-fits (left-form left (turned-left settling number left (Err (stop.Store issued lines)) turned))) after)
+        (fit-after_stop state can.rules t (state x.store).faults (state y.store).faults cut-left c can.form small (cut-fits (left-form left (turned-left settling number left (Err (stop.Store issued lines)) turned))) after)
         (let same = after-openings t _ _ cut-left c after in omega (arith, same)) (ap length (after-clients t _ _ cut-left c after)) tells
         (λ u p q here there told. each-pair durable state is_read a.targets t x y place.there (λ v z w. Counts state a c (Some t) downs v z w) its others u p q here (subst (λ xs. slice_get xs u ≡ Some q) (after-targets t _ _ cut-left c after) there))
       where

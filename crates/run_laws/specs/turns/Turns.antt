@@ -1,7 +1,9 @@
 -- What a turn of an actor is, where targets may stop and open again.
-use Rattle.std.specs.Prelude.{ℕ, ◌≡◌, ◌+◌, Bool, List, slice_get, Option, Some, None, if◌then◌else◌}
+use Rattle.std.specs.Prelude.{ℕ, ◌≡◌, ◌+◌, Bool, true, List, slice_get, Option, Some, None, if◌then◌else◌}
 use Rattle.base_messages.specs.declared.actor.ActorId.{ActorId}
+use Rattle.base_messages.specs.declared.message.Message.{Message}
 use Rattle.run_base.specs.Letters.{IsPicked}
+use Rattle.run_base.specs.Numbers.{next_aggregate}
 use Rattle.run_base.specs.Picks.{count_to, heard, heard_by_client}
 use Rattle.world_base.specs.declared.letter.Letter.{Letter}
 use Rattle.world_base.specs.declared.target.Life.{Life}
@@ -10,7 +12,7 @@ use Rattle.world_base.specs.declared.target.TargetState.{TargetState}
 use Rattle.world_base.specs.declared.world.World.{World}
 use Rattle.world_base.specs.Events.{ByClient, ByTarget, Rules, ToClient, ToTarget}
 use Rattle.world_base.specs.Letters.{client, target}
-use Rattle.world_base.specs.Stops.{AtWork, Draws, Fails, Further, GivenUp, Happening, Hearing, IdleWork, IsCut, Opens, Plainly, WorldEvent}
+use Rattle.world_base.specs.Stops.{AtWork, Draws, Fails, Further, GivenUp, Happening, Hearing, IdleWork, IsCut, Opens, Plainly, WorldEvent, is_prune_message}
 
 -- ---- what an actor hears
 
@@ -30,19 +32,24 @@ heard_in w a = if a.client then heard_by_client (count_to a w.messages) (slice_g
 
 -- ---- what an actor does
 
+-- where a message asks for an aggregation, that has the next number
+abbrev pub IsNumberNext : World → Message → ℕ → Type 0
+IsNumberNext w q n = is_prune_message q ≡ true → n ≡ next_aggregate w.lines
+
 -- a target was at this when its turn was cut: it heard the letter of number k, or did its idle work, since none was in flight to it
 abbrev pub IsAtWork : World → ActorId → ℕ → AtWork → Type 0
-IsAtWork w a k (Hearing l reading number) = (rest : List Letter) × IsPicked w.messages a k l rest
+IsAtWork w a k (Hearing l reading number) = (rest : List Letter) × IsPicked w.messages a k l rest × IsNumberNext w l.message number
 IsAtWork w a k IdleWork = heard w a ≡ 0
 
 -- An actor does this. Where it hears a letter, that is the one of number k, from 0 and in order of sending, among those in flight to it;
--- where it hears none, a client goes on or counts a skip, and a target does its idle work. One that is stopped opens again, or fails to.
+-- where it hears none, a client goes on or counts a skip, and a target does its idle work. An aggregation has the next number. A target that is
+-- stopped opens again, or fails to.
 abbrev pub IsDoneBy : Bool → (r : Rules) → ActorId → ℕ → {w u : World} → Happening r w u → Type 0
 IsDoneBy settling r a k {w = w} (Plainly (ByClient g) up) = (a ≡ client g.n) × (heard w a ≡ 0)
 IsDoneBy settling r a k {w = w} (Plainly (ToClient g) up) = (a ≡ client g.n) × IsPicked w.messages a k g.l g.rest
 IsDoneBy settling r a k {w = w} (Plainly (ToTarget g) up) = (a ≡ target g.t) × IsPicked w.messages a k g.l g.rest
 IsDoneBy settling r a k {w = w} (Plainly (ByTarget g) up) = (a ≡ target g.t) × (heard w a ≡ 0) × (g.settling ≡ settling)
-IsDoneBy settling r a k {w = w} (Further g) = (a ≡ target g.hears.t) × IsPicked w.messages a k g.hears.l g.hears.rest
+IsDoneBy settling r a k {w = w} (Further g) = (a ≡ target g.hears.t) × IsPicked w.messages a k g.hears.l g.hears.rest × IsNumberNext w g.hears.l.message g.number
 IsDoneBy settling r a k {w = w} (IsCut g) = (a ≡ target g.t) × IsAtWork w a k g.work
 IsDoneBy settling r a k (Opens g) = a ≡ target g.t
 IsDoneBy settling r a k (Fails g) = a ≡ target g.t

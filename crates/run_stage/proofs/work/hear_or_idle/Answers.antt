@@ -1,54 +1,70 @@
 use Rattle.run_laws.specs.shows.EndsLaws.{picked-among}
-use Rattle.std.proofs.Common.{refl, subst, sym}
+use Rattle.std.specs.Prelude.{◌<◌, ◌^◌, Some}
+use Rattle.std.proofs.Common.{◌∙◌, ap, refl, subst, sym}
 use Rattle.run_base.specs.Letters.{IsPicked}
+use Rattle.run_base.specs.Numbers.{next_aggregate}
 use Rattle.run_laws.specs.shows.KindsLaws.{heard-once, idle-once}
-use Rattle.run_laws.specs.shows.Turned.{ByHearing}
+use Rattle.run_laws.specs.shows.Turned.{ByHearing, ByIdling}
 use Rattle.run_stage.proofs.Working.{only-messages}
+use Rattle.target_core.specs.HeardLaws.{held-of_target}
 use Rattle.target_parts.specs.Readings.{IsReadOn, not-read_on}
 use Rattle.run_stage.proofs.work.hear_or_idle.Goals as goal
 
 pub hear-requires-clause-form : goal.hear-requires-clause-form
 hear-requires-clause-form g c =
     (c.requires.letters c.take-letter.result c.take-letter.new.self.messages
-    (subst (λ a. IsPicked c.args.between.now.messages a c.args.number c.take-letter.result c.take-letter.new.self.messages) c.target_id-then-count_to-gt0.ensures c.take-letter.ensures.picked)).form
+    (subst (λ a. IsPicked c.args.between.now.messages a c.args.number c.take-letter.result c.take-letter.new.self.messages) c.target_id-2.ensures c.take-letter.ensures.picked)).form
 
 pub hear-requires-clause-here : goal.hear-requires-clause-here
 hear-requires-clause-here g c =
     (c.requires.letters c.take-letter.result c.take-letter.new.self.messages
-    (subst (λ a. IsPicked c.args.between.now.messages a c.args.number c.take-letter.result c.take-letter.new.self.messages) c.target_id-then-count_to-gt0.ensures c.take-letter.ensures.picked)).here
+    (subst (λ a. IsPicked c.args.between.now.messages a c.args.number c.take-letter.result c.take-letter.new.self.messages) c.target_id-2.ensures c.take-letter.ensures.picked)).here
+
+pub hear-requires-clause-sender : goal.hear-requires-clause-sender
+hear-requires-clause-sender g c held =
+    let l = (c.requires.letters c.take-letter.result c.take-letter.new.self.messages
+    (subst (λ a. IsPicked c.args.between.now.messages a c.args.number c.take-letter.result c.take-letter.new.self.messages) c.target_id-2.ensures c.take-letter.ensures.picked)) in
+    l.few (sym l.kind ∙ held-of_target c.take-letter.result.message held)
 
 -- it heard a letter
-pub returns-then-count_to-gt0-clause-turned : goal.returns-then-count_to-gt0-clause-turned
-returns-then-count_to-gt0-clause-turned g c =
+pub returns-clause-turned : goal.returns-clause-turned
+returns-clause-turned g c =
     let b = c.args.between.now in
     let left = c.take-letter.new.self in
+    let lines = c.take-letter.ensures.lines in
     ByHearing c.take-letter.result left.messages c.hear.ensures.turn.0
-    (subst (λ a. IsPicked b.messages a c.args.number c.take-letter.result left.messages) c.target_id-then-count_to-gt0.ensures c.take-letter.ensures.picked)
-    (only-messages b left c.take-letter.ensures.asked c.take-letter.ensures.issued c.take-letter.ensures.lines) c.hear.ensures.turn.2
+    (subst (λ a. IsPicked b.messages a c.args.number c.take-letter.result left.messages) c.target_id-2.ensures c.take-letter.ensures.picked)
+    (only-messages b left c.take-letter.ensures.asked c.take-letter.ensures.issued lines)
+    (λ prune. subst (λ ls. next_aggregate ls < 2 ^ 32) lines (c.in_ok-aggregation.ensures.few prune))
+    (λ n its d kept. c.hear.ensures.turn.2 n (λ prune. c.in_ok-aggregation.ensures.drawn prune ∙ ap (λ ls. Some (next_aggregate ls)) lines ∙ ap (λ k. Some k) (sym (its prune))) d kept)
 
-pub returns-then-count_to-gt0-clause-posts : goal.returns-then-count_to-gt0-clause-posts
-returns-then-count_to-gt0-clause-posts g c =
+pub returns-clause-posts : goal.returns-clause-posts
+returns-clause-posts g c =
     c.hear.ensures.posts
     (c.requires.letters c.take-letter.result c.take-letter.new.self.messages
-    (subst (λ a. IsPicked c.args.between.now.messages a c.args.number c.take-letter.result c.take-letter.new.self.messages) c.target_id-then-count_to-gt0.ensures c.take-letter.ensures.picked)).kind
+    (subst (λ a. IsPicked c.args.between.now.messages a c.args.number c.take-letter.result c.take-letter.new.self.messages) c.target_id-2.ensures c.take-letter.ensures.picked)).kind
 
--- idle work doesn't read the clock
-pub returns-else-count_to-gt0-clause-clock : goal.returns-else-count_to-gt0-clause-clock
-returns-else-count_to-gt0-clause-clock g c = subst (IsReadOn g.C.Clock.is_read c.args.host.now.clock) (sym c.idle.ensures.clock) (not-read_on g.C.Clock.is_read c.args.host.now.clock)
-
-pub returns-then-count_to-gt0-clause-once : goal.returns-then-count_to-gt0-clause-once
-returns-then-count_to-gt0-clause-once g c =
+pub returns-clause-once : goal.returns-clause-once
+returns-clause-once g c =
     let b = c.args.between.now in
     let left = c.take-letter.new.self in
-    heard-once b left c.target_id-then-count_to-gt0.result c.args.number c.take-letter.result left.messages c.args.host.now.memory.member c.hear.new.self.memory.member c.hear.result c.take-letter.ensures.picked
+    heard-once b left c.target_id-2.result c.args.number c.take-letter.result left.messages c.args.host.now.memory.member c.hear.new.self.memory.member c.hear.result c.take-letter.ensures.picked
     (only-messages b left c.take-letter.ensures.asked c.take-letter.ensures.issued c.take-letter.ensures.lines) c.hear.ensures.reads
 
-pub returns-else-count_to-gt0-clause-once : goal.returns-else-count_to-gt0-clause-once
-returns-else-count_to-gt0-clause-once g c = idle-once c.args.between.now c.args.between.now c.args.host.now.memory.member c.idle.new.self.memory.member c.idle.result refl c.idle.ensures.reads
+pub returns-clause-ends : goal.returns-clause-ends
+returns-clause-ends g c asked go =
+    c.hear.ensures.ends asked (go c.take-letter.result (picked-among c.args.between.now.messages c.target_id-2.result c.args.number c.take-letter.result c.take-letter.new.self.messages c.take-letter.ensures.picked))
 
-pub returns-then-count_to-gt0-clause-ends : goal.returns-then-count_to-gt0-clause-ends
-returns-then-count_to-gt0-clause-ends g c asked go =
-    c.hear.ensures.ends asked (go c.take-letter.result (picked-among c.args.between.now.messages c.target_id-then-count_to-gt0.result c.args.number c.take-letter.result c.take-letter.new.self.messages c.take-letter.ensures.picked))
+-- idle work doesn't read the clock
+pub returns-then-count_to-eq0-clause-clock : goal.returns-then-count_to-eq0-clause-clock
+returns-then-count_to-eq0-clause-clock g c = subst (IsReadOn g.C.Clock.is_read c.args.host.now.clock) (sym c.idle.ensures.clock) (not-read_on g.C.Clock.is_read c.args.host.now.clock)
 
-pub returns-else-count_to-gt0-clause-ends : goal.returns-else-count_to-gt0-clause-ends
-returns-else-count_to-gt0-clause-ends g c asked go = c.idle.ensures.ends asked
+pub returns-then-count_to-eq0-clause-once : goal.returns-then-count_to-eq0-clause-once
+returns-then-count_to-eq0-clause-once g c = idle-once c.args.between.now c.args.between.now c.args.host.now.memory.member c.idle.new.self.memory.member c.idle.result refl c.idle.ensures.reads
+
+pub returns-then-count_to-eq0-clause-ends : goal.returns-then-count_to-eq0-clause-ends
+returns-then-count_to-eq0-clause-ends g c asked go = c.idle.ensures.ends asked
+
+-- nor does a turn that isn't begun
+pub returns-in_err-aggregation-clause-clock : goal.returns-in_err-aggregation-clause-clock
+returns-in_err-aggregation-clause-clock g c = not-read_on g.C.Clock.is_read c.args.host.now.clock

@@ -22,7 +22,7 @@ returns-in-Ok-ran-clause-comes g c o started told =
     let ran = c.run_in_order-targets in
     comes g.S.Store.durable g.S.Store.state g.S.Store.may c.args.script.now c.args.job.now c.args.clients.items c.args.targets c.deref_mut-2.result.now c.arm.new.targets c.deref_mut-2.ensures.value c.in-Ok.watch c.arm.new.watch b.result c.as_slice.result.now c.arm.ensures c.as_slice.ensures c.in-Ok.ensures b.ensures.messages b.ensures.asked b.ensures.issued b.ensures.lines
     g.C.Clock.is_read ran.result.0 ran.result.1 c.deref_mut-3.result.now c.disarm-2.new.targets c.deref_mut-3.ensures.value c.disarm-2.ensures ran.ensures.served o started told ran.result.2 c.in-Ok-ran.lines c.in-Ok-ran.is g.met.S.Store.steady g.met.S.Store.findable g.met.S.Store.alike
-    ran.ensures.run ran.ensures.accounts ran.ensures.reopens c.report_of.result c.report_of.ensures.report c.report_of.ensures.typed c.requires.most
+    ran.ensures.run ran.ensures.accounts ran.ensures.reopens c.report_of.result c.report_of.ensures.report c.report_of.ensures.typed
 
 pub returns-in-Ok-ran-clause-in_turn : goal.returns-in-Ok-ran-clause-in_turn
 returns-in-Ok-ran-clause-in_turn g c =
