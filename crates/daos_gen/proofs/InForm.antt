@@ -154,6 +154,9 @@ module _ (targets : ℕ) where
   no_snaps [] = refl
   no_snaps (i ∷ is) = ap (λ t. t ++ snaps_of (made is)) (no_snap i (drawn_after 1 (i + 1))) ∙ no_snaps is
 
+  pub no_names : (count : ℕ) → all_snaps (clients_of targets count) ≡ []
+  no_names count = let none = λ (client : ℕ). no_snaps (filter (goes_to client) (range_with_len 0 count)) in rw (none 0, none 1, none 2, none 3) refl
+
   no_tells : (clients own : ℕ) (is : List ℕ) → AllByRecursion (IsTold clients own) (made is)
   no_tells clients own [] = tt
   no_tells clients own (i ∷ is) = (no_tell clients own i (drawn_after 1 (i + 1)), no_tells clients own is)
@@ -179,9 +182,6 @@ module _ (targets : ℕ) where
     told_apart : (own client : ℕ) → All (IsTold 4 own) (commands_of targets count client)
     told_apart own client = All-from_recursion (IsTold 4 own) (commands_of targets count client) (no_tells 4 own (numbers client))
 
-    no_names : all_snaps (clients_of targets count) ≡ []
-    no_names = rw (no_snaps (numbers 0), no_snaps (numbers 1), no_snaps (numbers 2), no_snaps (numbers 3)) refl
-
     none_distinct : IsDistinct same_key []
     unfolding IsDistinct
     none_distinct = tt
@@ -196,7 +196,7 @@ module _ (targets : ℕ) where
       old_conts = All-from_recursion _ [] tt;
       drops = All-from_recursion _ [] tt;
       drops_once = none_distinct;
-      snap_names = subst (λ names. IsDistinct same_key (map (λ (k : SnapName). k.0) names)) (sym no_names) none_distinct;
+      snap_names = subst (λ names. IsDistinct same_key (map (λ (k : SnapName). k.0) names)) (sym (no_names count)) none_distinct;
       stops = omega arith;
       stops_fit = All-from_recursion _ [] tt;
       clients = omega arith;

@@ -4,8 +4,9 @@ use Rattle.std.specs.Fmt.{decimal}
 use Rattle.std.specs.List.{range_with_len}
 use Rattle.std.proofs.lemmas.Bool.Decides.{nat_tests}
 use Rattle.std.proofs.lemmas.Fmt.{decimal_digit, decimal_step}
-use Rattle.std.proofs.lemmas.List.Elements.{All-cons, All-from_recursion, All-nil}
+use Rattle.std.proofs.lemmas.List.Elements.{All-cons, All-from_recursion, All-nil, All-same}
 use Rattle.base_types.specs.Keys.{IsKey}
+use Rattle.base_types.specs.Scripts.{SnapName, all_snaps}
 use Rattle.base_types.specs.declared.operation.Act.{Act}
 use Rattle.base_types.specs.declared.operation.Act.TheVariants.{Fetch, Change}
 use Rattle.base_types.specs.declared.operation.Read.TheVariants as read
@@ -14,7 +15,8 @@ use Rattle.base_types.specs.declared.script.Command.{Command}
 use Rattle.base_random.specs.Draws.{drawn_after}
 use Rattle.daos_gen.specs.Commands.{act_of, akey_path, command_drawn, command_of, goes_to, lone, numbered, obj_path, op_of, picked_path, transfer}
 use Rattle.daos_gen.specs.Scripts.{clients_of, conts_of_load, objs_of_load, script_of}
-use Rattle.script_runnable.specs.Keyed.{CommandHasKeys, HasKeys, OpHasKeys, ScriptHasKeys}
+use Rattle.daos_gen.proofs.InForm.{no_names}
+use Rattle.script_traits.specs.Keyed.{CommandHasKeys, HasKeys, OpHasKeys, ScriptHasKeys}
 
 -- ---- keys: a letter, and a number of one or two digits
 
@@ -127,4 +129,5 @@ module _ (targets : ℕ) where
         conts = All-from_recursion (λ d. IsKey d.name) conts_of_load (refl, tt);
         objs = All-from_recursion (λ d. IsKey d.name) (objs_of_load targets) (refl, (refl, (refl, (refl, tt))));
         commands = All-from_recursion (λ (commands : List Command). All CommandHasKeys commands) (clients_of targets count) (list 0, (list 1, (list 2, (list 3, tt))));
+        snaps = All-same (λ (k : SnapName). IsKey k.0) (all_snaps (clients_of targets count)) [] (no_names targets count) (All-nil (λ (k : SnapName). IsKey k.0));
       }

@@ -18,10 +18,10 @@ use Rattle.script_words.specs.declared.decls.Decls.{Decls}
 use Rattle.script_words.specs.Lookups.{has_cont, has_obj}
 use Rattle.script_words.specs.Words.{class_at, cont_at, drop_at, new_cont_at, new_obj_at, new_snap_at, nothing_at, number_at, snap_at, target_at, unit_at, uuid_at}
 use Rattle.daos_script.specs.Reading.{OnRead, on-bind, on-then, on-unless}
-use Rattle.daos_script.specs.Words.{ActHasKeys, First, OnTaken, act-by, new-cont-at, new-obj-at}
-use Rattle.script_runnable.specs.Keyed.{OpHasKeys}
+use Rattle.daos_script.specs.Words.{ActHasKeys, First, OnTaken, act-by, new-cont-at, new-obj-at, new-snap-at}
+use Rattle.script_traits.specs.Keyed.{OpHasKeys}
 
--- the name that a line declares, and the keys of the operation that it says
+-- the name that a line gives a container, an object or a snapshot that it makes, and the keys of the operation that it says
 abbrev pub LineHasKeys : Line → Type 0
 LineHasKeys (line.Cont d) = IsKey d.name
 LineHasKeys (line.Obj d) = IsKey d.name
@@ -34,7 +34,7 @@ LineHasKeys (line.DoAt at op) = OpHasKeys op
 LineHasKeys line.Tx = Unit {0}
 LineHasKeys (line.TxAt at) = Unit {0}
 LineHasKeys line.End = Unit {0}
-LineHasKeys (line.Snap name cont) = Unit {0}
+LineHasKeys (line.Snap name cont) = IsKey name
 LineHasKeys (line.Aggregate cont) = Unit {0}
 LineHasKeys (line.Tell client) = Unit {0}
 LineHasKeys (line.Skip turns) = Unit {0}
@@ -111,7 +111,7 @@ at-line decls ws = on-then (First LineHasKeys) (snap_at decls ws) _ (λ snap. on
 
 snap-line : (decls : Decls) (ws : List (List ℕ)) → OnTaken LineHasKeys (snap_line decls ws)
 unfolding snap_line
-snap-line decls ws = on-then (First LineHasKeys) (new_snap_at decls ws) _ (λ name. on-then (First LineHasKeys) (cont_at decls name.1) _ (λ cont. tt))
+snap-line decls ws = on-bind (First IsKey) (First LineHasKeys) (new_snap_at decls ws) _ (new-snap-at decls ws) (λ name k. on-then (First LineHasKeys) (cont_at decls name.1) _ (λ cont. k))
 
 aggregate-line : (decls : Decls) (ws : List (List ℕ)) → OnTaken LineHasKeys (aggregate_line decls ws)
 unfolding aggregate_line

@@ -1,9 +1,10 @@
 -- What a line adds to a script so far has keys, and so has the script in the end.
-use Rattle.std.specs.Prelude.{ℕ, ◌+◌, Bool, true, false, ◌==◌, is_none, is_some, List, [], ◌∷◌, length, All, Option, Some, None, Result, Ok, Err, if◌then◌else◌}
+use Rattle.std.specs.Prelude.{ℕ, ◌+◌, Bool, true, false, ◌==◌, is_none, is_some, List, [], ◌∷◌, length, ◌≡◌, refl, All, Option, Some, None, Result, Ok, Err, if◌then◌else◌}
 use Rattle.std.specs.List.{list_all}
 use Rattle.std.proofs.Common.{subst}
-use Rattle.std.proofs.lemmas.List.Elements.{All-cons, All-nil, All-push}
+use Rattle.std.proofs.lemmas.List.Elements.{All-append, All-cons, All-head, All-nil, All-push, All-same, All-tail, All-weaker}
 use Rattle.base_types.specs.Keys.{IsKey}
+use Rattle.base_types.specs.Scripts.{SnapName, all_snaps, snap_of, snaps_of}
 use Rattle.base_types.specs.declared.fault.Why.TheVariants.{BadBlock, NotAscii, TooLong}
 use Rattle.base_types.specs.declared.id.ContId.{ContId}
 use Rattle.base_types.specs.declared.operation.Op.{Op}
@@ -31,16 +32,25 @@ use Rattle.daos_script.specs.declared.present.Present.{Present}
 use Rattle.daos_script.specs.declared.present.Step.{Step}
 use Rattle.daos_script.specs.declared.present.Step.TheVariants as step
 use Rattle.daos_script.specs.declared.tx.Tx.{Tx}
-use Rattle.daos_script.specs.Clients.{client_command, may_add, client_end, client_op, client_skip, client_tx, command_in, ended_tx, lone, op_in, skip_in, tx_in, tx_op}
+use Rattle.daos_script.specs.Clients.{client_command, may_add, client_end, client_op, client_skip, client_tx, command_in, command_of, ended_tx, lone, op_in, skip_in, tx_in, tx_op}
 use Rattle.daos_script.specs.Lists.{all_lists, lists_of, next_list, one_step, with_tell}
 use Rattle.daos_script.specs.Steps.{begun, counted, step_command, step_end, step_op, step_skip, step_tx, tx_of, with_step, within_of}
 use Rattle.script_words.specs.declared.decls.Decls.{Decls}
 use Rattle.script_words.specs.Decls.{room, with_cont, with_drop, with_obj, with_old, with_own, with_stop}
 use Rattle.daos_script.specs.Lines.{LineHasKeys, line-at}
 use Rattle.daos_script.specs.Reading.{OnRead, on-bind, on-then, on-unless}
-use Rattle.script_runnable.specs.Keyed.{CommandHasKeys, OpHasKeys, ScriptHasKeys}
+use Rattle.script_traits.specs.Keyed.{CommandHasKeys, OpHasKeys, ScriptHasKeys}
 
 -- ---- what has keys
+
+-- the name of a snapshot
+abbrev pub SnapHasKey : SnapName → Type 0
+SnapHasKey k = IsKey k.0
+
+-- the operations of a command, and the name of the snapshot that it makes, if it makes one
+pub record IsKeyed (c : Command) : Type 0 where
+  pub ops : CommandHasKeys c
+  pub snap : All SnapHasKey (snap_of c)
 
 -- a client's commands so far, and the operations of its transaction
 abbrev pub TxHasKeys : Tx → Type 0
@@ -51,7 +61,7 @@ TxOrNoneHasKeys None = Unit {0}
 TxOrNoneHasKeys (Some t) = TxHasKeys t
 
 pub record ClientHasKeys (c : Client) : Type 0 where
-  pub list : All CommandHasKeys c.list
+  pub list : All IsKeyed c.list
   pub tx : TxOrNoneHasKeys c.tx
 
 abbrev pub ClientOrNoneHasKeys : Option Client → Type 0
@@ -63,7 +73,7 @@ PresentHasKeys p = ClientOrNoneHasKeys p.client
 
 -- the lists of all clients
 abbrev pub ListHasKeys : List Command → Type 0
-ListHasKeys list = All CommandHasKeys list
+ListHasKeys list = All IsKeyed list
 
 pub record ListsHaveKeys (l : Lists) : Type 0 where
   pub whole : All ListHasKeys l.whole
@@ -82,33 +92,39 @@ pub record ReadingHasKeys (r : Reading) : Type 0 where
 -- what a line adds to a client's list
 abbrev pub StepHasKeys : Step → Type 0
 StepHasKeys (step.Do op) = OpHasKeys op
-StepHasKeys (step.Number command) = CommandHasKeys command
+StepHasKeys (step.Number command) = IsKeyed command
 StepHasKeys (step.Begin line at) = Unit {0}
 StepHasKeys step.End = Unit {0}
 StepHasKeys (step.Skip turns) = Unit {0}
 
 -- ---- a client
 
-lone-keys : (snapshot : Option (List ℕ)) (op : Op) → OpHasKeys op → CommandHasKeys (lone snapshot op)
-lone-keys snapshot op k = All-cons OpHasKeys op [] k (All-nil OpHasKeys)
+makes-none : (c : Command) → CommandHasKeys c → snap_of c ≡ [] → IsKeyed c
+makes-none c k none = record { ops = k; snap = All-same SnapHasKey (snap_of c) [] none (All-nil SnapHasKey) }
+
+lone-keys : (snapshot : Option (List ℕ)) (op : Op) → OpHasKeys op → IsKeyed (lone snapshot op)
+lone-keys snapshot op k = makes-none (lone snapshot op) (All-cons OpHasKeys op [] k (All-nil OpHasKeys)) refl
+
+snap-keys : (name : List ℕ) (cont : ContId) → IsKey name → IsKeyed (command.Snap name cont)
+snap-keys name cont k = record { ops = All-nil OpHasKeys; snap = All-cons SnapHasKey (name, cont) [] k (All-nil SnapHasKey) }
 
 tx-op : (t : Tx) (op : Op) → TxHasKeys t → OpHasKeys op → OnRead TxHasKeys (tx_op t op)
 unfolding tx_op
 tx-op t op k h = on-then TxHasKeys (may_add t op) _ (λ fits. All-push OpHasKeys t.ops op k h)
 
 op-in : (c : Client) (o : Option Tx) (op : Op) → ClientHasKeys c → TxOrNoneHasKeys o → OpHasKeys op → OnRead ClientHasKeys (op_in c o op)
-op-in c None op k t h = record { list = All-push CommandHasKeys c.list (lone None op) k.list (lone-keys None op h); tx = k.tx }
+op-in c None op k t h = record { list = All-push IsKeyed c.list (lone None op) k.list (lone-keys None op h); tx = k.tx }
 op-in c (Some u) op k t h = on-bind TxHasKeys ClientHasKeys (tx_op u op) (λ v. Ok (record c { tx = Some v })) (tx-op u op t h) (λ v m. record { list = k.list; tx = m })
 
 client-op : (c : Client) (op : Op) → ClientHasKeys c → OpHasKeys op → OnRead ClientHasKeys (client_op c op)
 unfolding client_op
 client-op c op k h = op-in c c.tx op k k.tx h
 
-command-in : (c : Client) (o : Option Tx) (d : Command) → ClientHasKeys c → CommandHasKeys d → OnRead ClientHasKeys (command_in c o d)
-command-in c None d k h = record { list = All-push CommandHasKeys c.list d k.list h; tx = k.tx }
+command-in : (c : Client) (o : Option Tx) (d : Command) → ClientHasKeys c → IsKeyed d → OnRead ClientHasKeys (command_in c o d)
+command-in c None d k h = record { list = All-push IsKeyed c.list d k.list h; tx = k.tx }
 command-in c (Some t) d k h = tt
 
-client-command : (c : Client) (d : Command) → ClientHasKeys c → CommandHasKeys d → OnRead ClientHasKeys (client_command c d)
+client-command : (c : Client) (d : Command) → ClientHasKeys c → IsKeyed d → OnRead ClientHasKeys (client_command c d)
 unfolding client_command
 client-command c d k h = command-in c c.tx d k h
 
@@ -126,10 +142,10 @@ ended-tx (Some t) k = on-unless TxHasKeys (length t.ops == 0) BadBlock (Ok t) k
 
 client-end : (c : Client) → ClientHasKeys c → OnRead ClientHasKeys (client_end c)
 unfolding client_end
-client-end c k = on-bind TxHasKeys ClientHasKeys (ended_tx c.tx) _ (ended-tx c.tx k.tx) (λ t m. record { list = All-push CommandHasKeys c.list _ k.list m; tx = tt })
+client-end c k = on-bind TxHasKeys ClientHasKeys (ended_tx c.tx) _ (ended-tx c.tx k.tx) (λ t m. record { list = All-push IsKeyed c.list (command_of t) k.list (makes-none (command_of t) m refl); tx = tt })
 
 skip-in : (c : Client) (o : Option Tx) (n : ℕ) → ClientHasKeys c → TxOrNoneHasKeys o → ClientHasKeys (skip_in c o n)
-skip-in c None n k t = record { list = All-push CommandHasKeys c.list (command.Skip n) k.list (All-nil OpHasKeys); tx = k.tx }
+skip-in c None n k t = record { list = All-push IsKeyed c.list (command.Skip n) k.list (makes-none (command.Skip n) (All-nil OpHasKeys) refl); tx = k.tx }
 skip-in c (Some u) n k t = record { list = k.list; tx = t }
 
 client-skip : (c : Client) (n : ℕ) → ClientHasKeys c → ClientHasKeys (client_skip c n)
@@ -147,7 +163,7 @@ unfolding step_op
 step-op p op k h =
     on-bind ClientHasKeys PresentHasKeys (begun p.client) _ (begun-keys p.client k) (λ c m. on-bind ClientHasKeys PresentHasKeys (client_op c op) _ (client-op c op m h) (λ d l. on-then PresentHasKeys (counted (is_none c.tx) p.commands) _ (λ n. l)))
 
-step-command : (p : Present) (e : Command) → PresentHasKeys p → CommandHasKeys e → OnRead PresentHasKeys (step_command p e)
+step-command : (p : Present) (e : Command) → PresentHasKeys p → IsKeyed e → OnRead PresentHasKeys (step_command p e)
 unfolding step_command
 step-command p e k h =
     on-bind ClientHasKeys PresentHasKeys (begun p.client) _ (begun-keys p.client k) (λ c m. on-bind ClientHasKeys PresentHasKeys (client_command c e) _ (client-command c e m h) (λ d l. on-then PresentHasKeys (counted true p.commands) _ (λ n. l)))
@@ -181,7 +197,7 @@ lists-keys whole (Some c) k h = All-push ListHasKeys whole c.list k h.list
 next-list : (l : Lists) → ListsHaveKeys l → OnRead ListsHaveKeys (next_list l)
 unfolding next_list
 next-list l k =
-    on-unless ListsHaveKeys (is_some (tx_of l.present.client)) BadBlock _ (on-then ListsHaveKeys (room 64 (length (all_lists l))) _ (λ fits. record { whole = lists-keys l.whole l.present.client k.whole k.present; present = record { list = All-nil CommandHasKeys; tx = tt } }))
+    on-unless ListsHaveKeys (is_some (tx_of l.present.client)) BadBlock _ (on-then ListsHaveKeys (room 64 (length (all_lists l))) _ (λ fits. record { whole = lists-keys l.whole l.present.client k.whole k.present; present = record { list = All-nil IsKeyed; tx = tt } }))
 
 one-step : (l : Lists) (s : Step) → ListsHaveKeys l → StepHasKeys s → OnRead ListsHaveKeys (one_step l s)
 unfolding one_step
@@ -191,7 +207,7 @@ with-tell : (at : ℕ) (l : Lists) (to : ℕ) → ListsHaveKeys l → OnRead Lis
 unfolding with_tell
 with-tell at l to k =
     on-bind ClientHasKeys ListsHaveKeys (begun l.present.client) _ (begun-keys l.present.client k.present)
-    (λ c m. on-bind ClientHasKeys ListsHaveKeys (client_command c (command.Tell to)) _ (client-command c (command.Tell to) m (All-nil OpHasKeys)) (λ d n. record { whole = k.whole; present = n }))
+    (λ c m. on-bind ClientHasKeys ListsHaveKeys (client_command c (command.Tell to)) _ (client-command c (command.Tell to) m (makes-none (command.Tell to) (All-nil OpHasKeys) refl)) (λ d n. record { whole = k.whole; present = n }))
 
 -- ---- a line
 
@@ -237,10 +253,10 @@ put-do-at : (r : Reading) (at : At) (op : Op) → ReadingHasKeys r → OpHasKeys
 unfolding put_do_at
 put-do-at r at op k h = put-step r (step.Number (lone (Some at.name) op)) k (lone-keys (Some at.name) op h)
 
-put-snap : (r : Reading) (name : List ℕ) (cont : ContId) → ReadingHasKeys r → OnRead ReadingHasKeys (put_snap r name cont)
+put-snap : (r : Reading) (name : List ℕ) (cont : ContId) → ReadingHasKeys r → IsKey name → OnRead ReadingHasKeys (put_snap r name cont)
 unfolding put_snap with_own
-put-snap r name cont k =
-    on-bind ListsHaveKeys ReadingHasKeys (one_step r.lists (step.Number (command.Snap name cont))) _ (one-step r.lists (step.Number (command.Snap name cont)) k.lists (All-nil OpHasKeys)) (λ lists m. record { decls = record { conts = k.decls.conts; objs = k.decls.objs }; lists = m })
+put-snap r name cont k h =
+    on-bind ListsHaveKeys ReadingHasKeys (one_step r.lists (step.Number (command.Snap name cont))) _ (one-step r.lists (step.Number (command.Snap name cont)) k.lists (snap-keys name cont h)) (λ lists m. record { decls = record { conts = k.decls.conts; objs = k.decls.objs }; lists = m })
 
 put-tell : (at : ℕ) (r : Reading) (to : ℕ) → ReadingHasKeys r → OnRead ReadingHasKeys (put_tell at r to)
 unfolding put_tell
@@ -258,8 +274,8 @@ add-line at r (line.DoAt snapshot op) k h = put-do-at r snapshot op k h
 add-line at r line.Tx k h = put-step r (step.Begin at None) k tt
 add-line at r (line.TxAt snapshot) k h = put-step r (step.Begin at (Some snapshot)) k tt
 add-line at r line.End k h = put-step r step.End k tt
-add-line at r (line.Snap name cont) k h = put-snap r name cont k
-add-line at r (line.Aggregate cont) k h = put-step r (step.Number (command.Aggregate cont)) k (All-nil OpHasKeys)
+add-line at r (line.Snap name cont) k h = put-snap r name cont k h
+add-line at r (line.Aggregate cont) k h = put-step r (step.Number (command.Aggregate cont)) k (makes-none (command.Aggregate cont) (All-nil OpHasKeys) refl)
 add-line at r (line.Tell client) k h = put-tell at r client k
 add-line at r (line.Skip turns) k h = put-step r (step.Skip turns) k tt
 
@@ -305,9 +321,20 @@ ended-lists : (l : Lists) → ListsHaveKeys l → OnRead (All ListHasKeys) (ende
 unfolding ended_lists
 ended-lists l k = unless-keys (open_line (tx_of l.present.client)) (bad_tell (length (all_lists l)) l.tells) (all_lists l) (lists-keys l.whole l.present.client k.whole k.present)
 
+commands-keys : (lists : List (List Command)) → All ListHasKeys lists → All (λ list. All CommandHasKeys list) lists
+commands-keys lists k = All-weaker ListHasKeys (λ list. All CommandHasKeys list) (λ list h. All-weaker IsKeyed CommandHasKeys (λ c i. i.ops) list h) lists k
+
+list-snaps : (list : List Command) → ListHasKeys list → All SnapHasKey (snaps_of list)
+list-snaps [] k = All-nil SnapHasKey
+list-snaps (c ∷ cs) k = All-append SnapHasKey (snap_of c) (snaps_of cs) (All-head IsKeyed c cs k).snap (list-snaps cs (All-tail IsKeyed c cs k))
+
+snaps-keys : (lists : List (List Command)) → All ListHasKeys lists → All SnapHasKey (all_snaps lists)
+snaps-keys [] k = All-nil SnapHasKey
+snaps-keys (list ∷ lists) k = All-append SnapHasKey (snaps_of list) (all_snaps lists) (list-snaps list (All-head ListHasKeys list lists k)) (snaps-keys lists (All-tail ListHasKeys list lists k))
+
 ended-keys : (r : Reading) → ReadingHasKeys r → OnRead ScriptHasKeys (ended r)
 unfolding ended
-ended-keys r k = on-bind (All ListHasKeys) ScriptHasKeys (ended_lists r.lists) _ (ended-lists r.lists k.lists) (λ lists m. record { conts = k.decls.conts; objs = k.decls.objs; commands = m })
+ended-keys r k = on-bind (All ListHasKeys) ScriptHasKeys (ended_lists r.lists) _ (ended-lists r.lists k.lists) (λ lists m. record { conts = k.decls.conts; objs = k.decls.objs; commands = commands-keys lists m; snaps = snaps-keys lists m })
 
 nothing-read : (targets : ℕ) → ReadingHasKeys (nothing_read targets)
 nothing-read targets = record {

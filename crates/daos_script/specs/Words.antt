@@ -18,9 +18,10 @@ use Rattle.script_lines.specs.Ops.{act_by, akeys_at, cell_at, dkey_at, dkeys_at,
 use Rattle.script_words.specs.declared.decls.Decls.{Decls}
 use Rattle.script_words.specs.Lookups.{cont_named, obj_named}
 use Rattle.script_words.specs.Reads.{Taken}
-use Rattle.script_words.specs.Words.{key_at, key_of, more_key_at, name_of, new_cont_at, new_obj_at, obj_at, value_at, word_at}
+use Rattle.script_words.specs.Snaps.{is_snap}
+use Rattle.script_words.specs.Words.{key_at, key_of, more_key_at, name_of, new_cont_at, new_obj_at, new_snap_at, obj_at, value_at, word_at}
 use Rattle.daos_script.specs.Reading.{OnRead, on-bind, on-then, on-unless}
-use Rattle.script_runnable.specs.Keyed.{HasKeys, IsKeyOrNone}
+use Rattle.script_traits.specs.Keyed.{HasKeys, IsKeyOrNone}
 
 -- ---- keys and names
 
@@ -54,6 +55,10 @@ new-cont-at decls ws = on-then (First IsKey) (word_at ws) _ (λ w. on-bind IsKey
 pub new-obj-at : (decls : Decls) (ws : List (List ℕ)) → OnTaken IsKey (new_obj_at decls ws)
 unfolding new_obj_at
 new-obj-at decls ws = on-then (First IsKey) (word_at ws) _ (λ w. on-bind IsKey (First IsKey) (name_of w.0) _ (key-unless w.0 BadName) (λ name k. on-unless (First IsKey) (is_some (obj_named decls.objs name)) BadName (Ok (name, w.1)) k))
+
+pub new-snap-at : (decls : Decls) (ws : List (List ℕ)) → OnTaken IsKey (new_snap_at decls ws)
+unfolding new_snap_at
+new-snap-at decls ws = on-then (First IsKey) (word_at ws) _ (λ w. on-bind IsKey (First IsKey) (name_of w.0) _ (key-unless w.0 BadName) (λ name k. on-unless (First IsKey) (is_snap decls name) BadName (Ok (name, w.1)) k))
 
 -- ---- paths
 

@@ -7,6 +7,7 @@ use Rattle.base_types.specs.declared.script.Command.{Command}
 use Rattle.base_types.specs.declared.script.Script.{Script}
 use Rattle.base_types.specs.Keys.{IsKey}
 use Rattle.base_types.specs.Operations.{write_path}
+use Rattle.base_types.specs.Scripts.{SnapName, all_snaps}
 use Rattle.daos_model.specs.declared.cell.CellValue.{CellValue}
 use Rattle.daos_model.specs.declared.stand.Taken.{Taken}
 use Rattle.daos_model.specs.Accesses.{op_path}
@@ -33,12 +34,13 @@ OpHasKeys op = HasKeys (op_path op)
 abbrev pub CommandHasKeys : Command → Type 0
 CommandHasKeys c = All OpHasKeys (ops_of c)
 
--- What a script has as names of containers and objects, as dkeys and as akeys are keys: 1 to 64 letters, digits, dots,
+-- What a script has as names of containers, objects and snapshots that it makes, as dkeys and as akeys are keys: 1 to 64 letters, digits, dots,
 -- underscores and dashes.
 pub record ScriptHasKeys (s : Script) : Type 0 where
   pub conts : All (λ d. IsKey d.name) s.conts
   pub objs : All (λ d. IsKey d.name) s.objs
   pub commands : All (λ list. All CommandHasKeys list) s.clients
+  pub snaps : All (λ (k : SnapName). IsKey k.0) (all_snaps s.clients)
 
 -- ---- maps
 
