@@ -12,10 +12,11 @@ use Rattle.daos_app.specs.Words.{run_job_of}
 use Rattle.model_reports.specs.Lone.{HasOneClient}
 use Rattle.daos_model.specs.Opening.{Given, fresh}
 use Rattle.report_writer.specs.Forms.{IsReportOf}
+use Rattle.script_traits.specs.Plain.{IsPlain}
 use Rattle.report_writer.specs.Reports.{report_text}
 use Rattle.model_reports.specs.Rooms.{FindsRoom, HasRoom}
 use Rattle.daos_run.specs.Alone.{IsOfLoneClient}
-use Rattle.daos_run.specs.Comes.{FollowsFromZeros}
+use Rattle.daos_run.specs.Comes.{FindsPlaces, FollowsFromZeros}
 use Rattle.daos_run.specs.Legal.{IsInRealTime, IsLegal}
 use Rattle.daos_status.specs.declared.status.Status.{Status}
 use Rattle.daos_status.specs.declared.status.Status.TheVariants as status
@@ -26,16 +27,17 @@ use Rattle.world_plain.specs.lone.LoneRuns.{AreIssuedThere}
 
 -- What the report of a run is: legal for the script by the headline, over regions of zeros that nothing disturbs, whichever attempts are taken
 -- as resolved; and in the form in which a text determines its report.
--- It tells of turns in the order asked; the targets of the run issued all epochs, whose order is that of real time where the clocks keep the bound; where there is room for all that the script writes, no attempt is
--- refused for want of it; and a client that is alone is never told to restart where the script asks for no stop.
+-- It tells of turns in the order asked; the targets of the run issued all epochs; and where there is room for all that the script writes, and places for
+-- its snapshots, no attempt is refused for want of these. Of a script without snapshots the order of epochs is that of real time where the clocks keep the
+-- bound, and a client that is alone is never told to restart where the script asks for no stop.
 pub record IsRunReport (g : Given) (q : Report) : Type 0 where
   pub form : IsReportOf g.script q
   pub legal : IsLegal g q
   pub ordered : FollowsFromZeros g q
   pub issued : AreIssuedThere q
-  pub in_real_time : IsInRealTime g q
-  pub room : HasRoom g.script g.job.attempts g.opening.free → FindsRoom q
-  pub lone : HasOneClient g.script → g.script.stops ≡ [] → IsOfLoneClient g q
+  pub in_real_time : IsPlain g.script → IsInRealTime g q
+  pub room : FindsPlaces g.script g.job.attempts 0 → HasRoom g.script g.job.attempts g.opening.free → FindsRoom q
+  pub lone : IsPlain g.script → HasOneClient g.script → g.script.stops ≡ [] → IsOfLoneClient g q
 
 -- the text of such a report
 pub record IsReported (job : Job) (script : Script) (text : List ℕ) : Type 0 where
@@ -43,7 +45,8 @@ pub record IsReported (job : Job) (script : Script) (text : List ℕ) : Type 0 w
   pub of_run : IsRunReport (fresh script job) report
   pub told : text ≡ report_text script report
 
--- the summary of such a report, of the generated script of so many commands; that asks for no stop, so what is said of a report without stops is said of this one
+-- the summary of such a report, of the generated script of so many commands; that makes no snapshot and asks for no stop, so what is said of a report
+-- without these is said of this one
 pub record IsSummed (job : Job) (count : ℕ) (text : List ℕ) : Type 0 where
   pub report : Report
   pub of_run : IsRunReport (fresh (script_of job.targets count) job) report

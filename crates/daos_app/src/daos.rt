@@ -42,7 +42,7 @@ pub fn run_daos<R: Threads + Wait + Sync, S: Source, K: Sink, B: Rack, G: Gate +
     ensures words { (fault : WordFault) → (result ≡ Status.Words fault) ↔ (run_job_of (map string_bytes words.now) ≡ Err fault) }
 
     // Where a script is refused, the bytes read have, as a script for the targets asked, the first fault
-    // that is told, or have none but aren't run so far, where `NotYet` is told.
+    // that is told.
     ensures script { (fault : ScriptFault) → result ≡ Status.Script fault → RefusesScript (map string_bytes words.now) (S.left source.old) (S.left source.new) fault }
 
     // Faults come only where the outside shows them.

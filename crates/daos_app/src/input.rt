@@ -1,19 +1,18 @@
 // Reads the script from the source.
-ghost use Rattle.std.specs.Prelude.{◌≡◌, ◌≤◌, true, IfOk, IfErr, IsErrOf, length};
+ghost use Rattle.std.specs.Prelude.{◌≤◌, IfOk, IfErr, IsErrOf, length};
 ghost use Rattle.base_outside.specs.Causes.{Rose};
 ghost use Rattle.daos_app.specs.Inputs.{IsRead, IsScriptRefused, RefusesFor};
-ghost use Rattle.script_runnable.specs.Runnable.{IsRunnable, runs};
+ghost use Rattle.base_types.specs.Scripts.{IsInForm};
 ghost use Rattle.daos_script.specs.Grammar.{IsScriptText};
-ghost use Rattle.script_runnable.specs.Keyed.{ScriptHasKeys};
+ghost use Rattle.script_traits.specs.Keyed.{ScriptHasKeys};
 
 use base_outside::source::{ReadNo, Source, read_most};
-use base_types::fault::{ScriptFault, Why};
+use base_types::fault::ScriptFault;
 use base_types::script::Script;
 use daos_script::fault::ScriptNo;
 use daos_script::keys::laws_of_keys;
 use daos_script::laws::texts_are_short;
 use daos_script::script::read_script;
-use script_runnable::runnable::runs;
 use std::alloc::Global;
 use thiserror::Error;
 
@@ -26,7 +25,7 @@ pub enum InputNo {
     /// The source failed.
     #[error("read fault")]
     Fault,
-    /// The bytes have a fault, or are a script that the program doesn't run yet.
+    /// The bytes have a fault.
     #[error("no script")]
     Refused(ScriptFault),
     /// There was no memory.
@@ -34,13 +33,12 @@ pub enum InputNo {
     Memory,
 }
 
-// The script of a text, where the program runs it.
-fn runnable(alloc: Global, bytes: &[u8], targets: u8) -> Result<Script, InputNo>
+// The script of a text.
+fn script_in(alloc: Global, bytes: &[u8], targets: u8) -> Result<Script, InputNo>
     requires some { 1 ≤ targets }
     requires few { targets ≤ 64 }
     ensures grammar { IfOk result (λ script. IsScriptText targets bytes.now script) }
-    ensures run { IfOk result (λ script. runs script ≡ true) }
-    ensures form { IfOk result (λ script. IsRunnable targets script) }
+    ensures form { IfOk result (λ script. IsInForm targets script) }
     ensures keys { IfOk result (λ script. ScriptHasKeys script) }
     ensures refused { IfErr result (IsScriptRefused targets bytes.now) }
     ensures short { IfOk result (λ script. length bytes.now ≤ 16777216) }
@@ -48,29 +46,23 @@ fn runnable(alloc: Global, bytes: &[u8], targets: u8) -> Result<Script, InputNo>
     laws_of_keys();
     texts_are_short();
     match read_script(alloc, bytes, targets) {
-        Ok(script) if runs(&script) => Ok(script),
-        Ok(_) => Err(InputNo::Refused(ScriptFault {
-            line: 0,
-            why: Why::NotYet,
-        })),
+        Ok(script) => Ok(script),
         Err(ScriptNo::Fault(fault)) => Err(InputNo::Refused(fault)),
         Err(ScriptNo::Memory) => Err(InputNo::Memory),
     }
 }
 
-/// Reads a source to its end, and the script for so many targets that its bytes are, where the program
-/// runs it.
+/// Reads a source to its end, and the script for so many targets that its bytes are.
 ///
 /// # Errors
 ///
 /// `Fault` only where the source's count of faults rose in this call. `Refused` exactly where the
-/// bytes, to the source's end or to 16,777,217 of them, are no script, with the first fault, or
-/// are one that the program doesn't run yet, with `NotYet` at line 0.
+/// bytes, to the source's end or to 16,777,217 of them, are no script, with the first fault.
 pub fn read_input<S: Source>(alloc: Global, source: &mut S, targets: u8) -> Result<Script, InputNo>
     requires some { 1 ≤ targets }
     requires few { targets ≤ 64 }
     ensures script { IfOk result (λ script. IsRead targets (S.left source.old) (S.left source.new) script) }
-    ensures form { IfOk result (λ script. IsRunnable targets script) }
+    ensures form { IfOk result (λ script. IsInForm targets script) }
     ensures keys { IfOk result (λ script. ScriptHasKeys script) }
     ensures refused { IfErr result (RefusesFor targets (S.left source.old) (S.left source.new)) }
     ensures fault { IsErrOf result InputNo.Fault → Rose (S.count source.old) (S.count source.new) }
@@ -81,5 +73,5 @@ pub fn read_input<S: Source>(alloc: Global, source: &mut S, targets: u8) -> Resu
         Err(ReadNo::Fault) => return Err(InputNo::Fault),
         Err(ReadNo::TooLong | ReadNo::Memory) => return Err(InputNo::Memory),
     };
-    runnable(alloc, &bytes, targets)
+    script_in(alloc, &bytes, targets)
 }

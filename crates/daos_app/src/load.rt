@@ -1,8 +1,8 @@
 // Generates the script of a load.
 ghost use Rattle.std.specs.Prelude.{◌≡◌, ◌<◌, ◌≤◌, IfOk};
 ghost use Rattle.daos_gen.specs.Scripts.{script_of};
-ghost use Rattle.script_runnable.specs.Runnable.{IsRunnable};
-ghost use Rattle.script_runnable.specs.Keyed.{ScriptHasKeys};
+ghost use Rattle.base_types.specs.Scripts.{IsInForm};
+ghost use Rattle.script_traits.specs.Keyed.{ScriptHasKeys};
 
 use base_types::items::Memory;
 use base_types::script::Script;
@@ -21,7 +21,7 @@ pub fn load_script(alloc: Global, count: u32, targets: u8) -> Result<Script, Mem
     requires some_targets { 1 ≤ targets }
     requires few_targets { targets ≤ 64 }
     ensures exact { IfOk result (λ script. script ≡ script_of targets count) }
-    ensures form { IfOk result (λ script. IsRunnable targets script) }
+    ensures form { IfOk result (λ script. IsInForm targets script) }
     ensures keys { IfOk result (λ script. ScriptHasKeys script) }
 {
     laws_of_loads();

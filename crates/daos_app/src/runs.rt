@@ -1,9 +1,9 @@
 // Runs a script and makes the text that is told of its report.
 ghost use Rattle.std.specs.Prelude.{◌≡◌, ◌<◌, ◌≤◌, IfOk, IsOkUnless};
 ghost use Rattle.daos_app.specs.Answers.{IsReported, IsSummed};
-ghost use Rattle.script_runnable.specs.Runnable.{IsRunnable};
+ghost use Rattle.base_types.specs.Scripts as scripts;
 ghost use Rattle.daos_words.specs.Laws.{IsInForm};
-ghost use Rattle.script_runnable.specs.Keyed.{ScriptHasKeys};
+ghost use Rattle.script_traits.specs.Keyed.{ScriptHasKeys};
 
 use crate::load::load_script;
 use base_outside::gate::Gate;
@@ -33,7 +33,7 @@ pub fn run_text<R: Threads + Wait + Sync, B: Rack, G: Gate + Sync>(
     gate: &G,
 ) -> Result<Vec<u8>, RunStop>
     requires job { IsInForm job.now }
-    requires script { IsRunnable job.now.targets script.now }
+    requires script { scripts.IsInForm job.now.targets script.now }
     requires keys { ScriptHasKeys script.now }
     ensures reported { IfOk result (λ text. IsReported job.now script.now text.items) }
     ensures refusals { IsOkUnless result RunStop.Memory }

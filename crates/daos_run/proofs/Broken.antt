@@ -10,7 +10,7 @@ use Rattle.run_starts.specs.Starts.{MayOpenAgain}
 
 -- the stores are as an opening left them
 pub left-off : (g : Given) (B lasts : List Durable) → IsLeftOf g.script B lasts → MayOpenAgain B lasts → BreaksOff g B lasts
-left-off g B lasts left again = record { stand = inl left; sound = left.sound; opens = again }
+left-off g B lasts left again = record { stand = inl left; opens = again.opens }
 
 -- whatever the reason
 pub whatever-stopped : {S T E : Type 0} (may : S → Durable → Type 0) (g : Given) (B : List Durable) (new : List S) (r : Result T E) → ((lasts : List Durable) → MayBeFound may new lasts → BreaksOff g B lasts)

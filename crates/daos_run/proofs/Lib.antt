@@ -11,4 +11,5 @@ pub mod Begun
 pub mod Whole
 pub mod Lone
 pub mod Unstopped
+pub mod Issued
 pub mod Plain

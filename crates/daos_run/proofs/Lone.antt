@@ -1,7 +1,7 @@
--- A script that is run so far runs transactions alone; so what follows from a legal report of room follows of its run, and where no target
+-- A script without snapshots runs transactions alone; so what follows from a legal report of room follows of its run, and where no target
 -- is stopped what follows of a lone client.
-use Rattle.std.specs.Prelude.{ℕ, ◌≡◌, ◌≤◌, ◌<◌, Bool, true, false, List, [], is_some, Option, None, refl}
-use Rattle.std.proofs.Common.{arith}
+use Rattle.std.specs.Prelude.{ℕ, ◌≡◌, ◌≤◌, ◌<◌, Bool, true, false, List, [], is_some, length, Option, None, refl}
+use Rattle.std.proofs.Common.{arith, inl, inr}
 use Rattle.base_types.specs.declared.id.AttemptId.{AttemptId}
 use Rattle.base_types.specs.declared.job.Job.{Job}
 use Rattle.base_types.specs.declared.report.Report.{Report}
@@ -14,34 +14,37 @@ use Rattle.model_reports.specs.Lone.{HasOneClient, IsLone}
 use Rattle.model_reports.specs.Once.{rise, try-once}
 use Rattle.model_reports.specs.Restarts.{never-restart}
 use Rattle.daos_model.specs.declared.durable.Durable.{Durable}
+use Rattle.base_types.specs.Scripts.{IsInForm}
 use Rattle.daos_model.specs.Family.{resolved}
+use Rattle.daos_model.specs.Finals.{opening_of}
 use Rattle.daos_model.specs.Headline.{Headline}
 use Rattle.daos_model.specs.Opening.{Opening, Outside, fresh, undisturbed}
 use Rattle.daos_model.specs.Stops.{stop_numbers}
 use Rattle.model_reports.specs.Lines.{lists-of-transactions}
-use Rattle.model_reports.specs.RoomLaws.{transactions-find-room}
+use Rattle.model_reports.specs.RoomLaws.{room-is-found, transactions-find-room}
 use Rattle.model_reports.specs.Rooms.{FindsRoom, HasRoom, OnlyTransactions, is_transaction}
-use Rattle.daos_run.proofs.Begun.{lists-run}
+use Rattle.daos_run.proofs.Begun.{is-simple, lists-plain}
 use Rattle.daos_run.specs.Alone.{IsOfLoneClient}
-use Rattle.daos_run.specs.Comes.{ComesFrom}
-use Rattle.run_opening.specs.All.{MayBeFound}
+use Rattle.daos_run.specs.Comes.{ComesFrom, FindsPlaces}
+use Rattle.run_opening.specs.All.{AreKept, MayBeFound}
+use Rattle.run_opening.specs.Opened.{lasting_snaps}
 use Rattle.run_targets.specs.Ends.{IsLegal, IsOutside, TellsOfLoneClient, given_by, some-may_be, some_lasts}
 use Rattle.run_laws.specs.shows.Going.{AreAlike, AreFindable}
-use Rattle.script_runnable.specs.Runnable.{IsRunnable, is_run}
+use Rattle.script_traits.specs.Plain.{IsPlain, is_plain_command}
 use Rattle.vos_store.specs.Calls.{State}
 
-transaction-if-run : (c : Command) → is_run c ≡ true → is_numbered c ≡ true → is_transaction c ≡ true
-transaction-if-run (Run ops skips snapshot) run number = run
-transaction-if-run (Snap name cont) run number = run
-transaction-if-run (Aggregate cont) run number = run
-transaction-if-run (Tell client) run number = number
-transaction-if-run (Skip turns) run number = number
+transaction-if-plain : (c : Command) → is_plain_command c ≡ true → is_numbered c ≡ true → is_transaction c ≡ true
+transaction-if-plain (Run ops skips snapshot) run number = run
+transaction-if-plain (Snap name cont) run number = run
+transaction-if-plain (Aggregate cont) run number = run
+transaction-if-plain (Tell client) run number = number
+transaction-if-plain (Skip turns) run number = number
 
-pub only-transactions : (n : ℕ) (s : Script) → IsRunnable n s → OnlyTransactions s
-only-transactions n s F = lists-of-transactions s is_run transaction-if-run (lists-run s F.run)
+pub only-transactions : (s : Script) → IsPlain s → OnlyTransactions s
+only-transactions s plain = lists-of-transactions s is_plain_command transaction-if-plain (lists-plain s plain)
 
-pub is-lone : (n : ℕ) (s : Script) → IsRunnable n s → HasOneClient s → s.stops ≡ [] → IsLone s undisturbed
-is-lone n s F one none = record { one = one; plain = only-transactions n s F; no_stops = none; undisturbed = λ t. refl }
+pub is-lone : (s : Script) → IsPlain s → HasOneClient s → s.stops ≡ [] → IsLone s undisturbed
+is-lone s plain one none = record { one = one; plain = only-transactions s plain; no_stops = none; undisturbed = λ t. refl }
 
 -- whichever attempts are taken as resolved
 nobody : AttemptId → Bool
@@ -51,29 +54,30 @@ some-targets : (m n : ℕ) → m ≡ n → 1 ≤ n → 0 < m
 some-targets m n same some = omega (arith, same, some)
 
 -- whatever the outside did
-pub room-found : (s : Script) (j : Job) (opening : Opening) (o : Outside) (done : AttemptId → Bool) (q : Report) → IsRunnable j.targets s → 1 ≤ j.targets → 1 ≤ j.attempts → HasRoom s j.attempts opening.free → Headline (given_by s j opening) o done q → FindsRoom q
-room-found s j opening o done q F some least room legal = transactions-find-room (given_by s j opening) o done q (some-targets s.targets j.targets F.form.read_for some) least room (only-transactions j.targets s F) legal
+pub room-found : (s : Script) (j : Job) (opening : Opening) (o : Outside) (done : AttemptId → Bool) (q : Report) → IsInForm j.targets s → FindsPlaces s j.attempts (length opening.stand.snaps) → 1 ≤ j.targets → 1 ≤ j.attempts → HasRoom s j.attempts opening.free → Headline (given_by s j opening) o done q → FindsRoom q
+room-found s j opening o done q F (inl plain) some least room legal = transactions-find-room (given_by s j opening) o done q (some-targets s.targets j.targets F.read_for some) least room (only-transactions s plain) legal
+room-found s j opening o done q F (inr places) some least room legal = room-is-found (given_by s j opening) o done q (some-targets s.targets j.targets F.read_for some) least room places legal
 
-pub of-lone-client : (s : Script) (j : Job) (opening : Opening) (q : Report) → IsRunnable j.targets s → 1 ≤ j.targets → 1 ≤ j.attempts → HasOneClient s → s.stops ≡ [] → IsLegal (given_by s j opening) q → TellsOfLoneClient (given_by s j opening) q
-of-lone-client s j opening q F some least one none legal =
+pub of-lone-client : (s : Script) (j : Job) (opening : Opening) (q : Report) → IsInForm j.targets s → IsPlain s → 1 ≤ j.targets → 1 ≤ j.attempts → HasOneClient s → s.stops ≡ [] → IsLegal (given_by s j opening) q → TellsOfLoneClient (given_by s j opening) q
+of-lone-client s j opening q F plain some least one none legal =
     let g = given_by s j opening in
-    let lone = is-lone j.targets s F one none in
+    let lone = is-lone s plain one none in
     record {
       never_restarted = never-restart g undisturbed nobody q lone (legal nobody);
       one_attempt = try-once g undisturbed nobody q lone (legal nobody);
       rising = (rise g undisturbed nobody q lone (legal nobody)).0;
       plainly = end-plainly g undisturbed nobody q lone (legal nobody);
-      committed = λ free room ticks. commit g undisturbed nobody q lone (legal nobody) (some-targets s.targets j.targets F.form.read_for some) least room free ticks;
+      committed = λ free room ticks. commit g undisturbed nobody q lone (legal nobody) (some-targets s.targets j.targets F.read_for some) least room free ticks;
     }
 
 -- over stores that were never used there are ticks
-pub is-of-lone-client : (s : Script) (j : Job) (q : Report) → IsRunnable j.targets s → HasOneClient s → TellsOfLoneClient (fresh s j) q → IsOfLoneClient (fresh s j) q
+pub is-of-lone-client : (s : Script) (j : Job) (q : Report) → IsInForm j.targets s → HasOneClient s → TellsOfLoneClient (fresh s j) q → IsOfLoneClient (fresh s j) q
 is-of-lone-client s j q F one k = record {
   never_restarted = k.never_restarted;
   one_attempt = k.one_attempt;
   rising = k.rising;
   plainly = k.plainly;
-  committed = λ free room. k.committed free room (fresh-ticks j.targets s j F.form one);
+  committed = λ free room. k.committed free room (fresh-ticks j.targets s j F one);
 }
 
 -- ---- whatever is found in the end
@@ -89,12 +93,14 @@ silent-fits state xs ys = record { counts = λ t x y k at to says. let no : ⊥ 
 all-found : {S : Type 0} (durable : S → Option Durable) (may : S → Durable → Type 0) → AreFindable durable may → AreAlike durable → (x : S) → is_some (durable x) ≡ true → (ys : List S) → (lasts : List Durable) × MayBeFound may ys lasts
 all-found durable may findable alike x told ys = (some_lasts durable may findable (λ y. alike x y told) ys, some-may_be durable may findable (λ y. alike x y told) ys)
 
-module _ {S : Type 0} (durable : S → Option Durable) (state : S → State) (may : S → Durable → Type 0) (s : Script) (j : Job) (opening : Opening) (old ys : List S) (q : Report) (F : IsRunnable j.targets s) (some : 1 ≤ j.targets) (least : 1 ≤ j.attempts)
+module _ {S : Type 0} (durable : S → Option Durable) (state : S → State) (may : S → Durable → Type 0) (s : Script) (j : Job) (opening : Opening) (old ys : List S) (q : Report) (F : IsInForm j.targets s) (some : 1 ≤ j.targets) (least : 1 ≤ j.attempts)
     (K : ComesFrom durable state may (given_by s j opening) old ys q) where
-  pub finds-room : AreFindable durable may → AreAlike durable → (x : S) → is_some (durable x) ≡ true → HasRoom s j.attempts opening.free → FindsRoom q
-  finds-room findable alike x told room =
+  pub finds-room : AreFindable durable may → AreAlike durable → (x : S) → is_some (durable x) ≡ true → FindsPlaces s j.attempts (length opening.stand.snaps) → HasRoom s j.attempts opening.free → FindsRoom q
+  finds-room findable alike x told places room =
       let k = all-found durable may findable alike x told ys in
-      room-found s j opening silent (resolved k.0) q F some least room (K.comes.stand k.0 silent k.1 (silent-fits state K.opened ys)).told
+      room-found s j opening silent (resolved k.0) q F places some least room (K.comes.stand k.0 silent k.1 (silent-fits state K.opened ys)).told
 
-  pub tells-of-lone-client : HasOneClient s → s.stops ≡ [] → stop_numbers q.lines ≡ [] → TellsOfLoneClient (given_by s j opening) q
-  tells-of-lone-client one none unstopped = of-lone-client s j opening q F some least one none (K.comes.unstopped unstopped).legal
+  -- where no snapshot lasted over the opening
+  pub tells-of-lone-client : j.targets ≤ 64 → (B : List Durable) (free : ℕ → ℕ) → AreKept durable old B → opening ≡ opening_of s B free → lasting_snaps s B ≡ [] → IsPlain s → HasOneClient s → s.stops ≡ [] → stop_numbers q.lines ≡ [] → TellsOfLoneClient (given_by s j opening) q
+  tells-of-lone-client few B free kept is none plain one stopless unstopped =
+      of-lone-client s j opening q F plain some least one stopless (K.comes.unstopped (K.plain B free kept is none (is-simple s j opening F plain some few least)) unstopped).legal

@@ -5,8 +5,8 @@ use Rattle.std.proofs.lemmas.Option.{slice_get_within}
 use Rattle.base_types.specs.declared.epoch.Epoch.{Epoch}
 use Rattle.base_types.specs.declared.id.ContId.{ContId}
 use Rattle.base_types.specs.declared.script.Script.{Script}
+use Rattle.base_types.specs.declared.snapshot.Snap.{Snap}
 use Rattle.daos_model.specs.declared.durable.Durable.{Durable}
-use Rattle.daos_model.specs.Sound.{Sound}
 use Rattle.daos_run.specs.declared.stop.RunStop.{RunStop}
 use Rattle.daos_run.specs.declared.stop.RunStop.TheVariants.{Memory as NoMemory}
 use Rattle.daos_run.specs.Slots.{AreApart, AreSet, AreSetBack, AreTaken, ClocksStay, EachStore, FromTo, IsAt, stores_in}
@@ -19,7 +19,7 @@ use Rattle.run_opening.specs.All.{AllRun, AreKept, FromTo as ListsFromTo, MayBeF
 use Rattle.run_opening.specs.Left.{IsLeftOf}
 use Rattle.run_opening.specs.LeftLaws.{left-itself}
 use Rattle.run_starts.specs.Calls.{RunAll, WhyNotOpened}
-use Rattle.run_starts.specs.Starts.{MayOpenAgain}
+use Rattle.run_starts.specs.Starts.{CanOpen, MayOpenAgain}
 use Rattle.run_starts.specs.Stops.{is_fault_of as is_start_fault}
 use Rattle.run_starts.specs.declared.stop.StartStop.{StartStop}
 use Rattle.run_starts.specs.declared.stop.StartStop.TheVariants as start
@@ -87,22 +87,22 @@ module _ {S C : Type 0} (targets : ℕ) (old : List (Option (S × C))) (stores :
         one-there stores' t x p.0 at p.2 ∙ one-there (stores_in new) t p.0 y (store-at targets new set-again t (p.0, p.1) p.4) to)
 
     module _ (durable : S → Option Durable) (state : S → State) where
-      pub called-ok : (tracker : Epoch) → RunAll durable state (Ok tracker) stores stores' → ArePartsCalled durable state targets (Ok tracker) old new
-      called-ok tracker k = record {
+      pub called-ok : (opened : Epoch × List Snap) → RunAll durable state (Ok opened) stores stores' → ArePartsCalled durable state targets (Ok opened) old new
+      called-ok opened k = record {
         set = set-again;
         clocks = clocks-again;
-        runs = places-from (λ t a b. Runs (is_fault_of t) (Ok tracker) (state a) (state b) (durable a) (durable b))
-            (λ t a b at to. runs_as (is_start_fault t) (Ok tracker) (is_fault_of t) (Ok tracker) (state a) (state b) (durable a) (durable b) refl (k.each t a b at to));
+        runs = places-from (λ t a b. Runs (is_fault_of t) (Ok opened) (state a) (state b) (durable a) (durable b))
+            (λ t a b at to. runs_as (is_start_fault t) (Ok opened) (is_fault_of t) (Ok opened) (state a) (state b) (durable a) (durable b) refl (k.each t a b at to));
         free = places-from (λ t a b. (state a).free ≤ (state b).free) k.free;
         still = places-from _ k.still;
       }
 
-      pub called-err : (why : StartStop) (stop : RunStop) → stop ≡ stopped_by why → RunAll {T = Epoch} durable state (Err why) stores stores' → ArePartsCalled {T = Epoch} durable state targets (Err stop) old new
-      called-err why stop is k = subst (λ w. ArePartsCalled {T = Epoch} durable state targets (Err w) old new) (sym is) (record {
+      pub called-err : (why : StartStop) (stop : RunStop) → stop ≡ stopped_by why → RunAll {T = Epoch × List Snap} durable state (Err why) stores stores' → ArePartsCalled {T = Epoch × List Snap} durable state targets (Err stop) old new
+      called-err why stop is k = subst (λ w. ArePartsCalled {T = Epoch × List Snap} durable state targets (Err w) old new) (sym is) (record {
         set = set-again;
         clocks = clocks-again;
-        runs = places-from (λ t a b. Runs {T = Epoch} (is_fault_of t) (Err (stopped_by why)) (state a) (state b) (durable a) (durable b))
-            (λ t a b at to. runs_as {T = Epoch} {U = Epoch} (is_start_fault t) (Err why) (is_fault_of t) (Err (stopped_by why)) (state a) (state b) (durable a) (durable b) (fault-same t why) (k.each t a b at to));
+        runs = places-from (λ t a b. Runs {T = Epoch × List Snap} (is_fault_of t) (Err (stopped_by why)) (state a) (state b) (durable a) (durable b))
+            (λ t a b at to. runs_as {T = Epoch × List Snap} {U = Epoch × List Snap} (is_start_fault t) (Err why) (is_fault_of t) (Err (stopped_by why)) (state a) (state b) (durable a) (durable b) (fault-same t why) (k.each t a b at to));
         free = places-from (λ t a b. (state a).free ≤ (state b).free) k.free;
         still = λ t a b at to. tt;
       })
@@ -121,12 +121,12 @@ module _ {S C : Type 0} (durable : S → Option Durable) (state : S → State) (
   same-from : (P : ℕ → S → S → Type 0) → ((t : ℕ) (x : S × C) → IsAt old t x → P t x.0 x.0) → FromTo old old P
   same-from P k t x z at to = subst (λ w. P t x.0 w.0) (same-pair old t x z at to) (k t x at)
 
-  pub called-none : EachStore (λ t store. (state store).stopped ≡ false) old → (new : List (Option (S × C))) → new ≡ old → ArePartsCalled {T = Epoch} durable state targets (Err NoMemory) old new
-  called-none run new is = subst (ArePartsCalled {T = Epoch} durable state targets (Err NoMemory) old) (sym is) (record {
+  pub called-none : EachStore (λ t store. (state store).stopped ≡ false) old → (new : List (Option (S × C))) → new ≡ old → ArePartsCalled {T = Epoch × List Snap} durable state targets (Err NoMemory) old new
+  called-none run new is = subst (ArePartsCalled {T = Epoch × List Snap} durable state targets (Err NoMemory) old) (sym is) (record {
     set = before;
     clocks = λ t x z at to. ap (λ w. w.1) (same-pair old t z x to at);
-    runs = same-from (λ t a b. Runs {T = Epoch} (is_fault_of t) (Err NoMemory) (state a) (state b) (durable a) (durable b))
-        (λ t x at. runs_as {T = Unit {0}} {U = Epoch} always_stop (Ok (tt {0})) (is_fault_of t) (Err NoMemory) (state x.0) (state x.0) (durable x.0) (durable x.0) refl (runs_first (state x.0) (durable x.0) (run t x at)));
+    runs = same-from (λ t a b. Runs {T = Epoch × List Snap} (is_fault_of t) (Err NoMemory) (state a) (state b) (durable a) (durable b))
+        (λ t x at. runs_as {T = Unit {0}} {U = Epoch × List Snap} always_stop (Ok (tt {0})) (is_fault_of t) (Err NoMemory) (state x.0) (state x.0) (durable x.0) (durable x.0) refl (runs_first (state x.0) (durable x.0) (run t x at)));
     free = same-from (λ t a b. (state a).free ≤ (state b).free) (λ t x at. omega arith);
     still = λ t x z at to. tt;
   })
@@ -140,12 +140,12 @@ module _ {S C : Type 0} (durable : S → Option Durable) (state : S → State) (
       let there = store-at targets old before t p.0 p.1 in
       sym (steady p.0.0 b g (run t p.0 p.1) (kept.each t p.0.0 b there at) (found.each t p.0.0 g there to)))
 
-  module _ (new : List (Option (S × C))) (is : new ≡ old) (B : List Durable) (kept : AreKept durable (stores_in old) B) (sound : Sound B) (lasts : List Durable) (found : MayBeFound may (stores_in new) lasts) where
+  module _ (new : List (Option (S × C))) (is : new ≡ old) (B : List Durable) (kept : AreKept durable (stores_in old) B) (can : CanOpen B) (lasts : List Durable) (found : MayBeFound may (stores_in new) lasts) where
     same-found : B ≡ lasts
     same-found = none-found B lasts kept (subst (λ l. MayBeFound may (stores_in l) lasts) is found)
 
     pub none-left : (s : Script) → IsLeftOf s B lasts
-    none-left s = subst (IsLeftOf s B) same-found (left-itself s B sound)
+    none-left s = subst (IsLeftOf s B) same-found (left-itself s B can.sound)
 
     pub none-again : MayOpenAgain B lasts
-    none-again = subst (MayOpenAgain B) same-found (λ other none. record { sound = sound; unsnapped = none })
+    none-again = subst (MayOpenAgain B) same-found (record { opens = can; unsnapped = λ other none. none })

@@ -1,10 +1,16 @@
 -- Runs over empty stores in memory.
-use Rattle.std.specs.Prelude.{ℕ, ◌≡◌, ◌≤◌, ◌<◌, ◌+◌, ◌*◌, ◌-◌, ◌^◌, true, IfErr, IfOk, IsOkUnless, List, [], ◌∷◌, filter, length, map, slice_get, Option, Some, None, Result, Ok, Err, refl}
+use Rattle.std.specs.Prelude.{ℕ, ◌≡◌, ◌≤◌, ◌<◌, ◌+◌, ◌*◌, ◌-◌, ◌^◌, ◌++◌, true, All, IfErr, IfOk, IsOkUnless, List, [], ◌∷◌, filter, length, map, slice_get, Option, Some, None, Result, Ok, Err, refl}
+use Rattle.std.specs.List.{list_all}
 use Rattle.std.proofs.Common.{inl, inr, ◌∙◌, ap, arith, subst, sym}
 use Rattle.std.proofs.lemmas.Bool.{true≢false}
 use Rattle.base_types.specs.declared.job.Job.{Job}
 use Rattle.base_types.specs.declared.report.Report.{Report}
+use Rattle.base_types.specs.declared.script.Command.{Command}
+use Rattle.base_types.specs.declared.script.Command.TheVariants.{Aggregate, Run, Skip, Snap, Tell}
 use Rattle.base_types.specs.declared.script.Script.{Script}
+use Rattle.base_types.specs.Keys.{IsKey}
+use Rattle.base_types.specs.Scripts.{SnapName, all_snaps, snap_of, snaps_of}
+use Rattle.daos_model.specs.BoolLaws.{and_left, and_right}
 use Rattle.daos_model.specs.declared.durable.Durable.{Durable}
 use Rattle.daos_model.specs.Finals.{HeadlineOver}
 use Rattle.daos_model.specs.Changes.{enlisted}
@@ -21,24 +27,27 @@ use Rattle.daos_run.specs.Opens.{MayRun, given}
 use Rattle.daos_run.specs.Slots.{AreFree, AreSet, HaveStores, IsAt, StoresAreServed, stores_in}
 use Rattle.daos_run.specs.Starts.{IsNewStore}
 use Rattle.daos_run.specs.Stops.{HasRisen, IsOpeningFault, MayStop}
+use Rattle.daos_run.proofs.Issued.{all-issued}
 use Rattle.daos_run.proofs.Places.{in-place, store-at, stores-many}
 use Rattle.daos_run.proofs.Unstopped.{no-down-told, no-stops-told}
-use Rattle.run_targets.specs.Ends.{AreIssuedThere, IsInRealTime, IsLegal, IsOrdered, IsOutside, from-map, given_by, legal-by-any, one-there}
+use Rattle.run_targets.specs.Ends.{IsInRealTime, IsLegal, IsOrdered, IsOutside, RunsPlainly, from-map, given_by, legal-by-any, one-there}
 use Rattle.run_opening.specs.All.{AreKept}
 use Rattle.run_opening.specs.Laws.{AreUnused}
 use Rattle.run_opening.specs.Opened.{enlisted_family, keeps, lasting_snaps}
+use Rattle.run_opening.specs.FloorLaws.{unused-floored}
 use Rattle.run_opening.specs.UnusedLaws.{unused-open, unused-sound, unused-stand}
 use Rattle.run_starts.specs.Starts.{CanOpen}
 use Rattle.model_laws.specs.Lists.{at-within}
 use Rattle.std.proofs.lemmas.Option.{slice_get_within}
-use Rattle.script_runnable.specs.Keyed.{CellHasKeys, ScriptHasKeys}
+use Rattle.script_traits.specs.Keyed.{CellHasKeys, ScriptHasKeys}
 use Rattle.report_writer.specs.Forms.{IsReportOf}
 use Rattle.std.proofs.lemmas.List.Elements.{All-nil}
 use Rattle.vos_store.specs.Calls.{State}
 use Rattle.vos_plain.specs.Plain.{plain_durable, plain_state}
 use Rattle.vos_plain.specs.declared.store.PlainStore.{PlainStore}
-use Rattle.world_plain.specs.ends.Ends.{durables_of}
-use Rattle.world_plain.specs.whole.Begins.{declared_conts}
+use Rattle.world_plain.specs.ends.Ends.{durables_of, rules_of}
+use Rattle.world_plain.specs.lone.LoneRuns.{AreIssuedThere}
+use Rattle.world_plain.specs.whole.Begins.{IsSimple, declared_conts}
 use Rattle.world_plain.specs.whole.Fresh.{fresh-opens}
 
 -- it tells what it keeps
@@ -58,12 +67,12 @@ may-run targets size_mib store few new = record {
 -- ---- stores that were never used
 
 -- a script finds no snapshot to last
-none-lasts : (s : Script) (B : List Durable) → AreUnused B → lasting_snaps s B ≡ []
+pub none-lasts : (s : Script) (B : List Durable) → AreUnused B → lasting_snaps s B ≡ []
 none-lasts s [] unused = refl
 none-lasts s (d ∷ B) unused = ap (λ y. filter (keeps s) (filter is_created y.snaps)) (unused 0 d refl).1
 
-can-open : (s : Script) (B : List Durable) → AreUnused B → CanOpen s B
-can-open s B unused = record { sound = unused-sound B unused; unsnapped = none-lasts s B unused }
+can-open : (B : List Durable) → AreUnused B → CanOpen B
+can-open B unused = record { sound = unused-sound B unused; floored = unused-floored B unused }
 
 -- with a script's containers they have no more than 256
 few-together : (s : Script) (incarnation : ℕ) → length s.conts ≤ 256 → length (enlisted (declared_conts s) (empty_durable incarnation)).conts ≤ 256
@@ -101,8 +110,8 @@ module _ {C : Type 0} (targets size_mib : ℕ) (slots : List (Option (PlainStore
       let p = H.set.each t (subst (λ n. t < n) (k.many ∙ stores-many targets slots H.set) (slice_get_within B t d bt)) in
       (1, same-kept (plain_durable p.0.0) d (empty_durable 1) (H.each t p.0 p.1).kept (k.each t p.0.0 d (store-at targets slots H.set t p.0 p.1) bt))
 
-  pub all-open : (s : Script) (B : List Durable) → AreKept told_by (stores_in slots) B → CanOpen s B
-  all-open s B k = can-open s B (are-unused B k)
+  pub all-open : (B : List Durable) → AreKept told_by (stores_in slots) B → CanOpen B
+  all-open B k = can-open B (are-unused B k)
 
   -- all their blocks are free
   pub all-free : AreFree plain_state slots (λ t. size_mib * 4096 - 1264)
@@ -204,11 +213,17 @@ module _ {C : Type 0} (targets size_mib : ℕ) (slots : List (Option (PlainStore
         from-zeros same = record {
           follows = ordered.follows;
           opened = λ t z here.
-              let low : t < length K.opened = subst (λ n. t < n) (ordered.follows.begun.targets ∙ same ∙ sym (K.many ∙ stores-many targets slots H.set)) (slice_get_within ordered.follows.first.targets t z here) in
+              let low : t < length K.opened = subst (λ n. t < n) (ordered.follows.begins.begins.targets ∙ same ∙ sym (K.many ∙ stores-many targets slots H.set)) (slice_get_within ordered.follows.first.targets t z here) in
               let y = at-within K.opened t low in
               let kept : plain_durable y.0 ≡ z.durable = let two : Some (plain_durable y.0) ≡ Some z.durable = (ordered.begins t y.0 z y.1 here).kept in cc in
               sym kept ∙ opened-so t y.0 y.1;
         }
+
+        -- no snapshot lasts
+        plainly : IsSimple (rules_of (fresh s j)) → RunsPlainly told_by (fresh s j) K.opened
+        plainly simple =
+            K.plain (map plain_durable (stores_in slots)) (λ t. size_mib * 4096 - 1264) all-kept (sym (ap (λ g. g.opening) is-fresh))
+            (none-lasts s (map plain_durable (stores_in slots)) (are-unused (map plain_durable (stores_in slots)) all-kept)) simple
 
         unstopped : s.stops ≡ [] → stop_numbers q.lines ≡ []
         unstopped none = no-stops-told (fresh s j) (resolved (durables_of ordered.follows.last)) q headline.told none
@@ -217,17 +232,21 @@ module _ {C : Type 0} (targets size_mib : ℕ) (slots : List (Option (PlainStore
         pub legal : IfOk result (IsLegal (fresh s j))
         legal = on-ok result (λ q K by. legal-by-any (fresh s j) undisturbed (resolved (durables_of (ordered q K).follows.last)) by q (no-down-told (fresh s j) (resolved (durables_of (ordered q K).follows.last)) q (headline q K).told) (headline q K).told) R
 
-        pub in-form : ScriptHasKeys s → IfOk result (IsReportOf s)
-        in-form keys = on-ok result (λ q K. K.comes.form keys (All-nil CellHasKeys)) R
+        pub in-form : j.attempts ≤ 256 → ScriptHasKeys s → IfOk result (IsReportOf s)
+        in-form byte keys = on-ok result (λ q K. K.comes.form (record {
+          script = keys;
+          opening = record { now = All-nil CellHasKeys; snaps = All-nil _ };
+          byte = byte;
+        })) R
 
         pub follows-order : s.targets ≡ targets → IfOk result (FollowsFromZeros (fresh s j))
         follows-order same = on-ok result (λ q K. from-zeros q K same) R
 
         pub issued-there : IfOk result AreIssuedThere
-        issued-there = on-ok result (λ q K. K.comes.issued) R
+        issued-there = on-ok result (λ q K. all-issued (fresh s j) undisturbed (resolved (durables_of (ordered q K).follows.last)) q refl (headline q K).told K.comes.issued) R
 
-        pub in-real-time : IfOk result (IsInRealTime (fresh s j))
-        in-real-time = on-ok result (λ q K. K.comes.in_real_time) R
+        pub in-real-time : IsSimple (rules_of (fresh s j)) → IfOk result (IsInRealTime (fresh s j))
+        in-real-time simple = on-ok result (λ q K. K.comes.in_real_time (plainly q K simple)) R
 
         pub none-down : IfOk result (λ q. q.down ≡ None)
         none-down = on-ok result (λ q K. no-down-told (fresh s j) (resolved (durables_of (ordered q K).follows.last)) q (headline q K).told) R

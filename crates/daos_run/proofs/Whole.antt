@@ -1,5 +1,5 @@
 -- A run of targets that started over stores which were opened for it, from the clients' first turns to the report.
-use Rattle.std.specs.Prelude.{ℕ, ◌≡◌, ◌≤◌, ◌<◌, ◌+◌, ◌^◌, Bool, true, false, List, filter, length, map, slice_get, Option, Some, None, is_some, Ok, refl}
+use Rattle.std.specs.Prelude.{ℕ, ◌≡◌, ◌≤◌, ◌<◌, ◌+◌, ◌^◌, Bool, true, false, List, [], length, map, slice_get, Option, Some, None, is_some, Ok, refl}
 use Rattle.std.proofs.Common.{inr, sym, ◌∙◌, ap, subst, arith}
 use Rattle.std.proofs.lemmas.Bool.{true≢false}
 use Rattle.std.proofs.lemmas.Option.{slice_get_within}
@@ -8,36 +8,39 @@ use Rattle.base_types.specs.declared.epoch.Epoch.{Epoch}
 use Rattle.base_types.specs.declared.job.Job.{Job}
 use Rattle.base_types.specs.declared.report.Report.{Report}
 use Rattle.base_types.specs.declared.script.Script.{Script}
+use Rattle.base_types.specs.declared.snapshot.Snap.{Snap}
 use Rattle.base_types.specs.Epochs.{restart_floor}
 use Rattle.daos_model.specs.declared.durable.Durable.{Durable}
+use Rattle.base_types.specs.Scripts.{IsInForm}
 use Rattle.daos_model.specs.AsOf.{empty_stand}
 use Rattle.daos_model.specs.Family.{greatest_lease}
 use Rattle.daos_model.specs.Finals.{opening_of}
 use Rattle.daos_model.specs.FormLaws.{length-map}
 use Rattle.daos_model.specs.Opening.{Opening, Outside}
-use Rattle.daos_model.specs.Sound.{Sound}
 use Rattle.daos_run.specs.Comes.{BreaksOff, ComesFrom, IsOpenedFrom}
 use Rattle.daos_run.specs.Opens.{AreFirst, CanStart, MayRun, given}
 use Rattle.daos_run.specs.Slots.{AreBack, AreFree, AreSet, EachStore, FromTo, HasNoFuse, HaveStores, IsAt, stores_in}
 use Rattle.daos_run.specs.Starts.{AreStarted, StartsOver}
 use Rattle.daos_run.specs.Stops.{ArePartsCalled, is_fault_of}
-use Rattle.daos_run.proofs.Begun.{IsReady, have-started, is-heard}
+use Rattle.daos_run.proofs.Begun.{IsReady, are-in_form, first-states, have-started, is-heard}
 use Rattle.daos_run.proofs.Disarmed.{kept-from, unfused-free, unfused-may_run, unfused-served}
 use Rattle.daos_run.proofs.Places.{at-low, in-place, store-at, stores-back, stores-many}
 use Rattle.daos_run.proofs.Slots.{same-pair}
 use Rattle.model_laws.specs.Lists.{at-within}
-use Rattle.run_targets.specs.Ends.{AllTell, BreaksOffSo, ComesTo, HaveStarted, IsOutside, from-map, given_by, one-there, same-lists, stores_of}
+use Rattle.run_targets.specs.Ends.{AllTell, BeginsSo, BreaksOffSo, ComesTo, HaveStarted, IsOutside, IsSoundAgain, RunsPlainly, first_world, from-map, given_by, one-there, or_empty, same-lists, state_now, stores_of}
 use Rattle.run_opening.specs.All.{AreKept, FromTo as ListsFromTo, MayBeFound}
-use Rattle.run_opening.specs.EnlistLaws.{enlisting-sound}
-use Rattle.run_opening.specs.Opened.{enlisted_family, keeps}
-use Rattle.run_opening.specs.SoundLaws.{opened-sound}
+use Rattle.run_opening.specs.Opened.{lasting_snaps}
 use Rattle.run_laws.specs.shows.Going.{AreAlike}
 use Rattle.run_laws.specs.shows.Serving.{served-by-runs, served-on}
-use Rattle.run_starts.specs.Starts.{AreOpened, BeginsAs, begun_family}
-use Rattle.script_runnable.specs.Runnable.{IsRunnable}
+use Rattle.run_starts.specs.Runs.{IsNew as IsNewTarget, IsNewWorld, opened-runs-begin}
+use Rattle.run_starts.specs.Starts.{AreOpened, BeginsAs, CanOpen, begun_family}
 use Rattle.target_core.specs.Targets.{TargetOf}
 use Rattle.vos_store.specs.Calls.{State}
-use Rattle.world_plain.specs.whole.Begins.{OpensWith, declared_conts}
+use Rattle.world_base.specs.declared.world.World.{World}
+use Rattle.world_base.specs.Events.{Rules}
+use Rattle.world_plain.specs.ends.Ends.{durable_of, durables_of, rules_of}
+use Rattle.world_plain.specs.whole.Begins.{IsSimple}
+use Rattle.world_upheld.specs.upheld.Begins.{AreRulesInForm}
 
 -- ---- what stores keep that tell it
 
@@ -73,10 +76,10 @@ told-first durable targets slots set some B k =
 abbrev untold : ℕ → Opening
 untold lease = record { stand = empty_stand; lease = lease; free = λ t. 0 }
 
-module _ {S C : Type 0} (durable : S → Option Durable) (state : S → State) (may : S → Durable → Type 0) (s : Script) (j : Job) (old mid opened : List (Option (S × C))) (F : IsRunnable j.targets s)
+module _ {S C : Type 0} (durable : S → Option Durable) (state : S → State) (may : S → Durable → Type 0) (s : Script) (j : Job) (old mid opened : List (Option (S × C))) (F : IsInForm j.targets s)
     (some : 1 ≤ j.targets) (few : j.targets ≤ 64) (least : 1 ≤ j.attempts) (before : AreSet j.targets old) (between : AreSet j.targets mid) (D : FromTo old mid (λ t a b. HasNoFuse durable state may a b))
-    (R : EachStore (λ t store. MayRun durable state j.targets store) old) (tracker : Epoch) (P : ArePartsCalled durable state j.targets (Ok tracker) mid opened)
-    (O : (B : List Durable) → AreKept durable (stores_in mid) B → AreOpened durable state s B (stores_in opened) tracker) where
+    (R : EachStore (λ t store. MayRun durable state j.targets store) old) (tracker : Epoch) (held : List Snap) (P : ArePartsCalled {T = Epoch × List Snap} durable state j.targets (Ok (tracker, held)) mid opened)
+    (O : (B : List Durable) → AreKept durable (stores_in mid) B → AreOpened durable state s B (stores_in opened) tracker held) where
   -- the store that was in a place before it was opened
   record WasThere (t : ℕ) (z : S × C) : Type 0 where
     pub pair : S × C
@@ -99,7 +102,7 @@ module _ {S C : Type 0} (durable : S → Option Durable) (state : S → State) (
         at = x.1;
         opened_from = record {
           served = served-on (state x.0.0) (state y.0.0) (state z.0) (durable x.0.0) (durable y.0.0) (durable z.0) (unfused-served durable state may x.0.0 y.0.0 f)
-              (served-by-runs (is_fault_of t) (Ok tracker) (state y.0.0) (state z.0) (durable y.0.0) (durable z.0) r);
+              (served-by-runs {T = Epoch × List Snap} (is_fault_of t) (Ok (tracker, held)) (state y.0.0) (state z.0) (durable y.0.0) (durable z.0) r);
           free = omega (arith, same, more);
           still = λ d told none. P.still t y.0 z y.1 at d (f.kept ∙ told) none ∙ same;
         };
@@ -120,11 +123,11 @@ module _ {S C : Type 0} (durable : S → Option Durable) (state : S → State) (
         let f = at-within (begun_family s B) t (subst (λ n. t < n) (sym (a.kept.many ∙ stores-many j.targets opened P.set)) (at-low j.targets opened P.set t z at)) in
         (f.0, f.1, a.kept.each t z.0 f.0 (store-at j.targets opened P.set t z at) f.1)
 
+    there-at : (t : ℕ) (z : S × C) (d : Durable) → IsAt opened t z → durable z.0 ≡ Some d → slice_get (begun_family s B) t ≡ Some d
+    there-at t z d at told = let f = begun-at t z at in f.1 ∙ (sym f.2 ∙ told)
+
     begins-at : (t : ℕ) (z : S × C) (d : Durable) → IsAt opened t z → durable z.0 ≡ Some d → BeginsAs s B t d
-    begins-at t z d at told =
-        let f = begun-at t z at in
-        let same : f.0 ≡ d = let e : Some f.0 ≡ Some d = sym f.2 ∙ told in cc in
-        subst (BeginsAs s B t) same ((O B k).each t f.0 f.1)
+    begins-at t z d at told = (O B k).begins.each t d (there-at t z d at told)
 
   pub can-start : AreAlike durable → HaveStores (λ t store. CanStart durable state j.targets store) j.targets opened
   can-start alike = record {
@@ -136,16 +139,16 @@ module _ {S C : Type 0} (durable : S → Option Durable) (state : S → State) (
           made = w.made;
           heard = λ d told.
               let B = all-kept durable (λ y. alike z.0 y (ap is_some told)) (stores_in mid) in
-              is-heard (length B.0) t (opening_of s B.0 (λ u. 0)) d ((begins-at B.0 B.1 t z d at told).opens (λ u. 0));
+              is-heard (begun_family s B.0) t d (O B.0 B.1).begins.sound (there-at B.0 B.1 t z d at told);
           bare = λ d told.
               let B = all-kept durable (λ y. alike z.0 y (ap is_some told)) (stores_in mid) in
-              ((begins-at B.0 B.1 t z d at told).opens (λ u. 0)).entries;
+              (begins-at B.0 B.1 t z d at told).lasts.entries;
         };
   }
 
   -- ---- clients and targets
 
-  module _ (cs : List ClientNow) (xs : List (TargetOf S C)) (K : AreFirst s j.attempts tracker cs) (A : AreStarted durable j j.targets opened xs) where
+  module _ (cs : List ClientNow) (xs : List (TargetOf S C)) (K : AreFirst s held j.attempts tracker cs) (A : AreStarted durable j j.targets opened xs) where
     -- the store over which a target started
     over : (t : ℕ) (x : TargetOf S C) → slice_get xs t ≡ Some x → (z : S × C) × IsAt opened t z × StartsOver durable j t z x
     over t x at =
@@ -163,55 +166,120 @@ module _ {S C : Type 0} (durable : S → Option Durable) (state : S → State) (
       now-kept : AreKept durable (stores_in mid) B
       now-kept = kept-from durable state may j.targets old mid before between D B k
 
+      so : AreOpened durable state s B (stores_in opened) tracker held
+      so = O B now-kept
+
       seldom-kept : (t : ℕ) (b : Durable) → slice_get B t ≡ Some b → b.incarnation ≤ 2 ^ 63 + 1
       seldom-kept t b bt =
           let x = before.each t (subst (λ n. t < n) (many-kept B now-kept) (slice_get_within B t b bt)) in
           (R t x.0 x.1).seldom b (k.each t x.0.0 b (store-at j.targets old before t x.0 x.1) bt)
 
-      ready : (free : ℕ → ℕ) → AreFree state old free → (t : ℕ) (x : TargetOf S C) → slice_get xs t ≡ Some x → IsReady durable state s j (opening_of s B free) tracker cs xs F K (O B now-kept).tracker_is A.many t x
-      ready free room t x at =
+      ready : (free : ℕ → ℕ) (t : ℕ) (x : TargetOf S C) → slice_get xs t ≡ Some x → IsReady durable state s j (opening_of s B free) tracker held cs xs F K so.tracker_is A.many t x
+      ready free t x at =
           let z = over t x at in
-          let w = was-there t z.0 z.1 in
           record {
             new = z.2.new;
-            running = subst (λ y. (state y).stopped ≡ false) (sym z.2.store) w.running;
-            kept = λ d told.
-                let begins = begins-at B now-kept t z.0 d z.1 (ap durable (sym z.2.store) ∙ told) in
+            running = subst (λ y. (state y).stopped ≡ false) (sym z.2.store) (was-there t z.0 z.1).running;
+            seldom = λ d told.
                 let b = at-within B t (subst (λ n. t < n) (sym (many-kept B now-kept)) (at-low j.targets opened P.set t z.0 z.1)) in
-                let low = room t w.pair w.at in
-                let more = w.opened_from.free in
-                record {
-                  opens = subst (λ n. OpensWith n t (opening_of s B free) d) (many-kept B now-kept) (begins.opens free);
-                  enlisted = begins.enlisted;
-                  seldom = subst (λ n. n ≤ 2 ^ 63 + 1) (sym (begins.incarnation b.0 b.1)) (seldom-kept t b.0 b.1);
-                  room = subst (λ y. free t ≤ (state y).free) (sym z.2.store) (let le : free t ≤ (state z.0.0).free = omega (arith, low, more) in le);
-                  floor = subst (λ y. (state y).opening.0.0 ≤ restart_floor (greatest_lease B)) (sym z.2.store) ((O B now-kept).covered t z.0.0 (store-at j.targets opened P.set t z.0 z.1));
-                };
+                subst (λ n. n ≤ 2 ^ 63 + 1) (sym ((begins-at B now-kept t z.0 d z.1 (ap durable (sym z.2.store) ∙ told)).incarnation b.0 b.1)) (seldom-kept t b.0 b.1);
           }
 
-      -- they have started as those of a run of the script over what was kept, with so many blocks free on each
-      pub started : (free : ℕ → ℕ) → AreFree state old free → HaveStarted durable state (given s j B free) cs xs
-      started free room = have-started durable state s j (opening_of s B free) tracker cs xs F K (O B now-kept).tracker_is A.many ((O B now-kept).plain free) some few least (ready free room)
+      -- what a target keeps when it starts
+      begun-there : (t : ℕ) (x : TargetOf S C) → slice_get xs t ≡ Some x → (d : Durable) × (slice_get (begun_family s B) t ≡ Some d) × (durable x.store ≡ Some d)
+      begun-there t x at = let z = over t x at in let d = begun-at B now-kept t z.0 z.1 in (d.0, d.1, ap durable z.2.store ∙ d.2)
 
       pub all-tell : AllTell durable (stores_of xs)
       all-tell t y at =
           let x = from-map (λ z. z.store) xs t y at in
-          let z = over t x.of_it x.at in
-          ap (λ w. is_some (durable w)) (x.is ∙ z.2.store) ∙ ap is_some (begun-at B now-kept t z.0 z.1).2
+          ap (λ w. is_some (durable w)) x.is ∙ ap is_some (begun-there t x.of_it x.at).2
+
+      -- ---- the first world
+
+      abbrev w : World
+      w = first_world durable state cs xs
+
+      keeps-begun : durables_of w ≡ begun_family s B
+      keeps-begun = same-lists (durables_of w) (begun_family s B)
+          (length-map durable_of w.targets ∙ length-map (state_now durable state) xs ∙ A.many ∙ sym (stores-many j.targets opened P.set) ∙ sym so.kept.many)
+          (λ t a b at to.
+          let y = from-map durable_of w.targets t a at in
+          let x = from-map (state_now durable state) xs t y.of_it y.at in
+          let d = begun-there t x.of_it x.at in
+          let same : d.0 ≡ b = let e : Some d.0 ≡ Some b = sym d.1 ∙ to in cc in
+          y.is ∙ ap durable_of x.is ∙ ap or_empty d.2 ∙ same)
+
+      module _ (free : ℕ → ℕ) (room : AreFree state old free) where
+        abbrev r : Rules
+        r = rules_of (given s j B free)
+
+        new-target : (t : ℕ) (x : TargetOf S C) → slice_get xs t ≡ Some x → IsNewTarget (opening_of s B free) t (state_now durable state x)
+        new-target t x at =
+            let z = over t x at in
+            let p = was-there t z.0 z.1 in
+            let d = begun-there t x at in
+            let new = z.2.new in
+            let low = room t p.pair p.at in
+            let more = p.opened_from.free in
+            record {
+              free = subst (λ y. free t ≤ (state y).free) (sym z.2.store) (let le : free t ≤ (state z.0.0).free = omega (arith, low, more) in le);
+              floor = subst (λ y. (state y).opening.0.0 ≤ restart_floor (greatest_lease B)) (sym z.2.store) (so.covered t z.0.0 (store-at j.targets opened P.set t z.0 z.1));
+              runs = refl;
+              ticks = let same : x.memory.ticks ≡ (or_empty (durable x.store)).lease = new.ticks d.0 d.2 ∙ ap (λ y. (or_empty y).lease) (sym d.2) in omega (arith, same);
+              stamps = new.unread;
+              leader = new.leads;
+              member = new.joins;
+              collecting = new.making;
+            }
+
+        new-world : IsNewWorld r (opening_of s B free) held w
+        new-world = record {
+          targets = λ t z here. let x = from-map (state_now durable state) xs t z here in subst (IsNewTarget (opening_of s B free) t) (sym x.is) (new-target t x.of_it x.at);
+          clients = first-states durable state s j (opening_of s B free) tracker held cs xs F K so.tracker_is A.many;
+          messages = refl;
+          asked = refl;
+          issued = refl;
+          lines = refl;
+        }
+
+        form : AreRulesInForm r
+        form = are-in_form s j (opening_of s B free) F some few least
+
+        begins-so : BeginsSo (given s j B free) w
+        begins-so =
+            let k = opened-runs-begin r B free held w form.some_target (many-kept B now-kept ∙ sym F.read_for) so.begins so.held_is keeps-begun new-world in
+            record { begins = record { form = form; begins = k.begins; few = k.few }; holds = k.holds }
+
+        -- they have started as those of a run of the script over what was kept, with so many blocks free on each
+        pub started : HaveStarted durable state (given s j B free) cs xs
+        started = have-started durable state s j (opening_of s B free) tracker held cs xs F K so.tracker_is A.many some few least (ready free) (λ told. begins-so)
+
+        -- and where no snapshot lasts over the opening, and the script makes none, as if there were no snapshots
+        pub runs-plainly : lasting_snaps s B ≡ [] → IsSimple r → RunsPlainly durable (given s j B free) (stores_in opened)
+        runs-plainly none simple =
+            let plain = so.begins.plain none free in
+            record {
+              simple = simple;
+              opening = plain.plain;
+              unsnapped = λ t x d at told.
+                  let f = at-within (begun_family s B) t (subst (λ n. t < n) (sym so.kept.many) (slice_get_within (stores_in opened) t x at)) in
+                  let same : f.0 ≡ d = let e : Some f.0 ≡ Some d = sym (so.kept.each t x f.0 at f.1) ∙ told in cc in
+                  subst (λ y. y.snaps ≡ []) same (plain.each t f.0 f.1).snaps;
+            }
 
     -- whether or not they tell what they keep
-    module _ (alike : AreAlike durable) (lease : ℕ) (low : lease < 2 ^ 56) (is : tracker ≡ record { 0 = restart_floor lease }) where
+    module _ (alike : AreAlike durable) (lease : ℕ) (is : tracker ≡ record { 0 = restart_floor lease }) where
       started-untold : ((y : S) → is_some (durable y) ≡ true → ⊥) → HaveStarted durable state (given_by s j (untold lease)) cs xs
       started-untold none =
-          have-started durable state s j (untold lease) tracker cs xs F K is A.many (record { unowned = λ c no. refl; no_snaps = refl; lease = low }) some few least
+          have-started durable state s j (untold lease) tracker held cs xs F K is A.many some few least
           (λ t x at.
           let z = over t x at in
-          let w = was-there t z.0 z.1 in
           record {
             new = z.2.new;
-            running = subst (λ y. (state y).stopped ≡ false) (sym z.2.store) w.running;
-            kept = λ d told. absurd (none x.store (ap is_some told));
+            running = subst (λ y. (state y).stopped ≡ false) (sym z.2.store) (was-there t z.0 z.1).running;
+            seldom = λ d told. absurd (none x.store (ap is_some told));
           })
+          (λ told. let x = at-within (stores_of xs) 0 (subst (λ n. 0 < n) (sym (length-map (λ y. y.store) xs ∙ A.many)) (omega (arith, some))) in absurd (none x.0 (told 0 x.0 x.1)))
 
       pub may-start : (o : Opening) × HaveStarted durable state (given_by s j o) cs xs
       may-start =
@@ -253,29 +321,32 @@ module _ {S C : Type 0} (durable : S → Option Durable) (state : S → State) (
           subst (λ l. ComesTo durable state may (given s j L free) (stores_in opened) l q) (stores-back j.targets ys slots new after (many ∙ A.many) B)
           (subst (λ l. ComesTo durable state may (given s j L free) l (stores_of ys) q) their-stores c)
 
-      pub come-from : (L : List Durable) (free : ℕ → ℕ) (q : Report) → ComesTo durable state may (given s j L free) (stores_of xs) (stores_of ys) q → ComesFrom durable state may (given s j L free) (stores_in old) (stores_in new) q
-      come-from L free q c = record {
+      -- what is left after it is what another run may begin with
+      again-so : (L : List Durable) → IsSoundAgain L → CanOpen L
+      again-so L k = record { sound = k.sound; floored = k.floored }
+
+      pub come-from : (L : List Durable) (free : ℕ → ℕ) (q : Report) → AreKept durable (stores_in old) L → AreFree state old free → ComesTo durable state may (given s j L free) (stores_of xs) (stores_of ys) q → ComesFrom durable state may (given s j L free) (stores_in old) (stores_in new) q
+      come-from L free q kept room c = record {
         opened = stores_in opened;
         many = stores-many j.targets opened P.set ∙ sym (stores-many j.targets old before);
         each = opened-from;
         kept = λ B k. (O B (now-kept B k)).kept;
         since = since;
         comes = ends-so L free q c;
-        sound = λ F k sound lasts found other.
-            let begun = (O F (now-kept F k)).kept in
-            let again = (ends-so L free q c).sound (begun_family s F) (record { many = begun.many; each = begun.each }) (opened-sound s (enlisted_family (declared_conts s) F) (enlisting-sound (declared_conts s) F sound)) lasts found in
-            record { sound = again.sound; unsnapped = ap (filter (keeps other)) again.unsnapped };
+        plain = λ B other k is none simple.
+            (let same : B ≡ L = same-lists B L (k.many ∙ sym kept.many) (λ t d e at to.
+            let x = at-within (stores_in old) t (subst (λ n. t < n) k.many (slice_get_within B t d at)) in
+            let two : Some d ≡ Some e = sym (k.each t x.0 d x.1 at) ∙ kept.each t x.0 e x.1 to in
+            let one : d ≡ e = cc in one) in
+            runs-plainly L kept free room (ap (lasting_snaps s) (sym same) ∙ none) simple);
+        sound = λ E k can lasts found.
+            again-so lasts ((ends-so L free q c).sound (begun_family s E) (record { many = (O E (now-kept E k)).kept.many; each = (O E (now-kept E k)).kept.each }) (O E (now-kept E k)).begins.sound lasts found);
       }
 
       -- it broke off
-      pub break-off : (L : List Durable) (free : ℕ → ℕ) → AreKept durable (stores_in old) L → Sound L → BreaksOffSo durable may (given s j L free) (stores_of xs) (stores_of ys)
+      pub break-off : (L : List Durable) (free : ℕ → ℕ) → AreKept durable (stores_in old) L → CanOpen L → BreaksOffSo durable may (given s j L free) (stores_of xs) (stores_of ys)
           → (lasts : List Durable) → MayBeFound may (stores_in new) lasts → BreaksOff (given s j L free) L lasts
-      break-off L free k sound b lasts found =
+      break-off L free k can b lasts found =
           let there = subst (λ l. MayBeFound may l lasts) (sym (stores-back j.targets ys slots new after (many ∙ A.many) B)) found in
           let begun = subst (λ l. AreKept durable l (begun_family s L)) (sym their-stores) (O L (now-kept L k)).kept in
-          let again = b.sound (begun_family s L) begun (opened-sound s (enlisted_family (declared_conts s) L) (enlisting-sound (declared_conts s) L sound)) lasts there in
-          record {
-            stand = inr (b.stand lasts there);
-            sound = again.sound;
-            opens = λ other none. record { sound = again.sound; unsnapped = ap (filter (keeps other)) again.unsnapped };
-          }
+          record { stand = inr (b.stand lasts there); opens = again-so lasts (b.sound (begun_family s L) begun (O L (now-kept L k)).begins.sound lasts there) }

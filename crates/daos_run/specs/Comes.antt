@@ -1,20 +1,28 @@
 -- What a run comes to from stores that are opened for it.
 use Rattle.std.specs.Prelude.{ℕ, ◌≡◌, ◌≤◌, ◌⊎◌, slice_get, List, [], length, Option, Some}
 use Rattle.base_types.specs.declared.report.Report.{Report}
+use Rattle.base_types.specs.declared.script.Script.{Script}
 use Rattle.daos_model.specs.declared.durable.Durable.{Durable}
 use Rattle.daos_model.specs.Changes.{enlisted}
 use Rattle.daos_model.specs.Durables.{empty_durable}
 use Rattle.daos_model.specs.Opening.{Given, Outside}
-use Rattle.daos_model.specs.Sound.{Sound}
-use Rattle.base_types.specs.declared.script.Script.{Script}
-use Rattle.run_targets.specs.Ends.{ComesTo, FollowsOrder, IsOutside, StandsForResolved}
+use Rattle.daos_model.specs.Finals.{opening_of}
+use Rattle.model_reports.specs.Rooms.{HasPlaces}
+use Rattle.run_targets.specs.Ends.{ComesTo, FollowsOrder, IsOutside, RunsPlainly, StandsForAttempts}
 use Rattle.run_opening.specs.All.{AreKept, FromTo, MayBeFound}
 use Rattle.run_opening.specs.Left.{IsLeftOf}
+use Rattle.run_opening.specs.Opened.{lasting_snaps}
 use Rattle.run_laws.specs.shows.Accounts.{IsServed}
-use Rattle.run_starts.specs.Starts.{CanOpen, MayOpenAgain, begun_family}
+use Rattle.run_starts.specs.Starts.{CanOpen, begun_family}
+use Rattle.script_traits.specs.Plain.{IsPlain}
 use Rattle.vos_store.specs.Calls.{State}
 use Rattle.world_base.specs.declared.target.TargetState.{TargetState}
-use Rattle.world_plain.specs.whole.Begins.{declared_conts}
+use Rattle.world_plain.specs.ends.Ends.{rules_of}
+use Rattle.world_plain.specs.whole.Begins.{IsSimple, declared_conts}
+
+-- A script makes no snapshot, or beside so many there is a place for each that it makes, each attempted as often as is allowed.
+abbrev pub FindsPlaces : Script → ℕ → ℕ → Type 0
+FindsPlaces s attempts snaps = IsPlain s ⊎ HasPlaces s attempts snaps
 
 -- a store once it was opened for a run: it had calls, by which it has no fewer free blocks, and as many where it kept no entries
 pub record IsOpenedFrom {S : Type 0} (durable : S → Option Durable) (state : S → State) (old new : S) : Type 0 where
@@ -23,8 +31,8 @@ pub record IsOpenedFrom {S : Type 0} (durable : S → Option Durable) (state : S
   pub still : (d : Durable) → durable old ≡ Some d → d.entries ≡ [] → (state new).free ≡ (state old).free
 
 -- What a run comes to from these stores: what it comes to from them once they got the script's containers and were opened together. An outside
--- that may have failed them since before may have failed them since. Whatever the next openings find, another run of any script may begin with it,
--- where these stores were sound together.
+-- that may have failed them since before may have failed them since. Where no snapshot lasts over the opening, and the script makes none, it runs as
+-- if there were no snapshots. Whatever the next openings find, another run of any script may begin with it, where one might begin with these stores.
 pub record ComesFrom {S : Type 0} (durable : S → Option Durable) (state : S → State) (may : S → Durable → Type 0) (g : Given) (old new : List S) (q : Report) : Type 0 where
   pub opened : List S
   pub many : length opened ≡ length old
@@ -32,15 +40,15 @@ pub record ComesFrom {S : Type 0} (durable : S → Option Durable) (state : S �
   pub kept : (B : List Durable) → AreKept durable old B → AreKept durable opened (begun_family g.script B)
   pub since : (o : Outside) → IsOutside state o old new → IsOutside state o opened new
   pub comes : ComesTo durable state may g opened new q
-  pub sound : (B : List Durable) → AreKept durable old B → Sound B → (lasts : List Durable) → MayBeFound may new lasts → (s : Script) → CanOpen s lasts
+  pub plain : (B : List Durable) (free : ℕ → ℕ) → AreKept durable old B → g.opening ≡ opening_of g.script B free → lasting_snaps g.script B ≡ [] → IsSimple (rules_of g) → RunsPlainly durable g opened
+  pub sound : (B : List Durable) → AreKept durable old B → CanOpen B → (lasts : List Durable) → MayBeFound may new lasts → CanOpen lasts
 
 -- What the next openings find, of stores that kept B, after a run that gives no report. Either its opening came to no more than a part of what an opening
--- leaves, and that stands for what B stood for; or the run broke off, and it stands for the opening and the attempts that are resolved there. It is sound
--- together, and may be opened for each script for which B might have been.
+-- leaves, and that stands for what B stood for; or the run broke off, and it stands for the opening, the attempts that are resolved there, and snapshots
+-- that were made. Another run of any script may begin with it.
 pub record BreaksOff (g : Given) (B lasts : List Durable) : Type 0 where
-  pub stand : IsLeftOf g.script B lasts ⊎ StandsForResolved g.script g.opening lasts
-  pub sound : Sound lasts
-  pub opens : MayOpenAgain B lasts
+  pub stand : IsLeftOf g.script B lasts ⊎ StandsForAttempts (rules_of g) g.opening lasts
+  pub opens : CanOpen lasts
 
 -- A report over regions of zeros tells of the turns in the order asked, from where each target keeps the script's containers alone and was opened once.
 pub record FollowsFromZeros (g : Given) (q : Report) : Type 0 where

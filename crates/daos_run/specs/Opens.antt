@@ -6,6 +6,7 @@ use Rattle.base_types.specs.declared.epoch.Epoch.{Epoch}
 use Rattle.base_types.specs.declared.job.Job.{Job}
 use Rattle.base_types.specs.declared.script.Command.{Command}
 use Rattle.base_types.specs.declared.script.Script.{Script}
+use Rattle.base_types.specs.declared.snapshot.Snap.{Snap}
 use Rattle.daos_model.specs.declared.durable.Durable.{Durable}
 use Rattle.daos_model.specs.Finals.{opening_of}
 use Rattle.daos_model.specs.Opening.{Given}
@@ -46,8 +47,8 @@ pub record IsNew {S C : Type 0} (durable : S → Option Durable) (targets epsilo
   pub making : x.memory.collecting ≡ []
   pub has_opened : x.opened ≡ true
 
--- the clients of a script before their first turns
-pub record AreFirst (s : Script) (attempts : ℕ) (tracker : Epoch) (clients : List ClientNow) : Type 0 where
+-- the clients of a script before their first turns, where target 0 holds these snapshots
+pub record AreFirst (s : Script) (held : List Snap) (attempts : ℕ) (tracker : Epoch) (clients : List ClientNow) : Type 0 where
   pub many : length clients ≡ length s.clients
   pub plans : (n : ℕ) (c : ClientNow) → slice_get clients n ≡ Some c → (list : List Command) × (slice_get s.clients n ≡ Some list) × (c.plan ≡ plan_of s n attempts list)
-  pub states : (n : ℕ) (c : ClientNow) → slice_get clients n ≡ Some c → c.state ≡ at_first s [] tracker
+  pub states : (n : ℕ) (c : ClientNow) → slice_get clients n ≡ Some c → c.state ≡ at_first s held tracker

@@ -1,16 +1,18 @@
 // Runs a script on targets.
 ghost use Rattle.std.specs.Prelude.{◌≡◌, ◌≤◌, [], replicate, IfOk, IsOkUnless, None, OnOk};
 ghost use Rattle.daos_model.specs.Opening.{fresh};
-ghost use Rattle.daos_run.specs.Comes.{FollowsFromZeros};
-ghost use Rattle.run_targets.specs.Ends.{AreIssuedThere, IsInRealTime, IsLegal};
+ghost use Rattle.daos_run.specs.Comes.{FindsPlaces, FollowsFromZeros};
+ghost use Rattle.run_targets.specs.Ends.{IsInRealTime, IsLegal};
+ghost use Rattle.world_plain.specs.lone.LoneRuns.{AreIssuedThere};
 ghost use Rattle.report_writer.specs.Forms.{IsReportOf};
 ghost use Rattle.model_reports.specs.Lone.{HasOneClient};
 ghost use Rattle.model_reports.specs.Rooms.{FindsRoom, HasRoom};
 ghost use Rattle.daos_run.specs.Alone.{IsOfLoneClient};
-ghost use Rattle.script_runnable.specs.Runnable.{IsRunnable};
+ghost use Rattle.base_types.specs.Scripts.{IsInForm};
+ghost use Rattle.script_traits.specs.Plain.{IsPlain};
 ghost use Rattle.daos_run.specs.Slots.{HaveStores};
 ghost use Rattle.daos_run.specs.Starts.{IsNewStore};
-ghost use Rattle.script_runnable.specs.Keyed.{ScriptHasKeys};
+ghost use Rattle.script_traits.specs.Keyed.{ScriptHasKeys};
 
 use crate::parts::Parts;
 use crate::run_on::run_on;
@@ -48,7 +50,8 @@ fn set_all<B: Rack>(
 
 /// Runs a script and reports what became of its commands. So far the store of each target is a list in
 /// memory: the rack gives its clock alone. The outside can't fail such a store, so only stop lines stop a
-/// target, and none is given up.
+/// target, and none is given up. The script may make snapshots, read at them and aggregate;
+/// `in_real_time` and `lone` are of scripts that don't.
 ///
 /// # Errors
 ///
@@ -67,15 +70,15 @@ pub fn run_script<R: Threads + Wait + Sync, B: Rack, G: Gate + Sync>(
     requires most_size { job.now.size_mib ≤ 32 }
     requires least { 1 ≤ job.now.attempts }
     requires most { job.now.attempts ≤ 100 }
-    requires script { IsRunnable job.now.targets script.now }
+    requires script { IsInForm job.now.targets script.now }
     ensures legal { IfOk result (IsLegal (fresh script.now job.now)) }
     ensures form { ScriptHasKeys script.now → IfOk result (IsReportOf script.now) }
     ensures ordered { IfOk result (FollowsFromZeros (fresh script.now job.now)) }
     ensures issued { IfOk result AreIssuedThere }
-    ensures in_real_time { IfOk result (IsInRealTime (fresh script.now job.now)) }
+    ensures in_real_time { IsPlain script.now → IfOk result (IsInRealTime (fresh script.now job.now)) }
     ensures none_down { IfOk result (λ report. report.down ≡ None) }
-    ensures room { HasRoom script.now job.now.attempts (fresh script.now job.now).opening.free → IfOk result FindsRoom }
-    ensures lone { HasOneClient script.now → script.now.stops ≡ [] → IfOk result (IsOfLoneClient (fresh script.now job.now)) }
+    ensures room { FindsPlaces script.now job.now.attempts 0 → HasRoom script.now job.now.attempts (fresh script.now job.now).opening.free → IfOk result FindsRoom }
+    ensures lone { IsPlain script.now → HasOneClient script.now → script.now.stops ≡ [] → IfOk result (IsOfLoneClient (fresh script.now job.now)) }
     ensures refusals { IsOkUnless result RunStop.Memory }
     ensures rack { B.count rack.new ≡ B.count rack.old }
 {

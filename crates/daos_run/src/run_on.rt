@@ -1,8 +1,8 @@
 // Runs a script on stores.
-ghost use Rattle.std.specs.Prelude.{◌≡◌, ◌≤◌, ℕ, List, [], IfErr, IfOk};
+ghost use Rattle.std.specs.Prelude.{◌≡◌, ◌≤◌, ℕ, List, [], length, IfErr, IfOk};
 ghost use Rattle.daos_model.specs.declared.durable.Durable.{Durable};
 ghost use Rattle.daos_model.specs.Stops.{stop_numbers};
-ghost use Rattle.daos_run.specs.Comes.{BreaksOff, ComesFrom};
+ghost use Rattle.daos_run.specs.Comes.{BreaksOff, ComesFrom, FindsPlaces};
 ghost use Rattle.daos_run.specs.Opens.{MayRun, given};
 ghost use Rattle.daos_run.specs.Slots.{AreFree, AreSet, ClocksAreRead, FusesAreGone, HaveStores, StoresAreServed, stores_in};
 ghost use Rattle.daos_run.specs.Stops.{IsOpeningFault, MayStop};
@@ -13,8 +13,10 @@ ghost use Rattle.world_ended.specs.Clients.{AllEndWell};
 ghost use Rattle.world_letters.specs.kinds.Fitting.{AllAnswersFit};
 ghost use Rattle.run_targets.specs.Ends.{IsReportOfLines, TellsOfLoneClient};
 ghost use Rattle.run_opening.specs.All.{AreKept, MayBeFound};
+ghost use Rattle.run_opening.specs.Opened.{lasting_snaps};
 ghost use Rattle.run_starts.specs.Starts.{CanOpen};
-ghost use Rattle.script_runnable.specs.Runnable.{IsRunnable};
+ghost use Rattle.base_types.specs.Scripts.{IsInForm};
+ghost use Rattle.script_traits.specs.Plain.{IsPlain};
 ghost use Rattle.world_plain.specs.whole.Begins.{declared_conts};
 
 use crate::opening::{clients_of, open_parts};
@@ -33,13 +35,16 @@ use std::thread::Threads;
 use vos_store::store::Fuse;
 
 /// Runs a script on the stores of its targets, and reports what became of its commands. What the stores keep
-/// is sound together, as runs leave it behind; each was opened at most 2^63 + 1 times; and no snapshot lasts
-/// after those that the script drops. They are opened first: they get the script's containers, and nothing is
-/// left to settle. Fuses that are set are taken away; while the script runs, a store has those of its
-/// target's stop lines, one after another; in the end it has none. The stores and the clocks are set again at
-/// every ending, each at its place; a clock is then the one that was given, after so many readings. Where a
-/// store tells nothing of what it keeps, only `told`, `in_turn`, `kinds` and `ends` bind what the report tells; the
-/// run is safe, and errors are told as of any others.
+/// is sound together, with each frozen snapshot at or below the floor of its container, as runs leave it behind;
+/// and each was opened at most 2^63 + 1 times. They are opened first: they get the script's containers, nothing
+/// is left to settle, and each target holds, frozen, the snapshots that target 0 held as created and that the
+/// script doesn't drop; clients may read those that the script names. Fuses that are set are taken away; while
+/// the script runs, a store has those of its target's stop lines, one after another; in the end it has none. The
+/// stores and the clocks are set again at every ending, each at its place; a clock is then the one that was
+/// given, after so many readings. Where a store tells nothing of what it keeps, only `told`, `in_turn`, `kinds`
+/// and `ends` bind what the report tells; the run is safe, and errors are told as of any others.
+///
+/// The script may make snapshots, read at them and aggregate; `lone` is of scripts that don't.
 ///
 /// The report names the least of the targets that were given up, if one was; the store of such a one is
 /// stopped.
@@ -63,17 +68,18 @@ pub fn run_on<R: Threads + Wait + Sync, S: Fuse + Send, C: Clock + Send, G: Gate
     requires most_targets { job.now.targets ≤ 64 }
     requires least { 1 ≤ job.now.attempts }
     requires most { job.now.attempts ≤ 100 }
-    requires script { IsRunnable job.now.targets script.now }
+    requires script { IsInForm job.now.targets script.now }
     requires stores { HaveStores (λ t store. MayRun S.durable S.state job.now.targets store) job.now.targets parts.old }
-    requires sound { (B : List Durable) → AreKept S.durable (stores_in parts.old) B → CanOpen script.now B }
+    requires sound { (B : List Durable) → AreKept S.durable (stores_in parts.old) B → CanOpen B }
     ensures comes { (B : List Durable) → AreKept S.durable (stores_in parts.old) B → (free : ℕ → ℕ) → AreFree S.state parts.old free → IfOk result
         (ComesFrom S.durable S.state S.may (given script.now job.now B free) (stores_in parts.old) (stores_in parts.new)) }
     ensures broke { (B : List Durable) → AreKept S.durable (stores_in parts.old) B → (free : ℕ → ℕ) → AreFree S.state parts.old free → IfErr result
         (λ stop. (lasts : List Durable) → MayBeFound S.may (stores_in parts.new) lasts → BreaksOff (given script.now job.now B free) B lasts) }
     ensures room { (B : List Durable) → AreKept S.durable (stores_in parts.old) B → (free : ℕ → ℕ) → AreFree S.state parts.old free
-        → HasRoom script.now job.now.attempts free → IfOk result FindsRoom }
+        → FindsPlaces script.now job.now.attempts (length (given script.now job.now B free).opening.stand.snaps) → HasRoom script.now job.now.attempts free → IfOk result FindsRoom }
     ensures lone { (B : List Durable) → AreKept S.durable (stores_in parts.old) B → (free : ℕ → ℕ) → AreFree S.state parts.old free
-        → HasOneClient script.now → script.now.stops ≡ [] → IfOk result (λ report. stop_numbers report.lines ≡ [] → TellsOfLoneClient (given script.now job.now B free) report) }
+        → lasting_snaps script.now B ≡ [] → IsPlain script.now → HasOneClient script.now → script.now.stops ≡ []
+        → IfOk result (λ report. stop_numbers report.lines ≡ [] → TellsOfLoneClient (given script.now job.now B free) report) }
     ensures told { IfOk result (IsReportOfLines script.now) }
     ensures in_turn { IfOk result (λ report. AllBeginInTurn job.now.attempts script.now report.lines) }
     ensures kinds { IfOk result (λ report. AllAnswersFit script.now report.lines) }
@@ -86,8 +92,8 @@ pub fn run_on<R: Threads + Wait + Sync, S: Fuse + Send, C: Clock + Send, G: Gate
     ensures set { AreSet job.now.targets parts.new }
 {
     disarm(parts, job.targets);
-    let tracker = open_parts(alloc, script, parts, job.targets)?;
-    let clients = clients_of(alloc, script, tracker, job.attempts)?;
+    let (tracker, held) = open_parts(alloc, script, parts, job.targets)?;
+    let clients = clients_of(alloc, script, &held, tracker, job.attempts)?;
     let targets = start_all(alloc, job, parts)?;
     let (targets, ran) = run_targets(rt, alloc, job, script, clients, targets, gate);
     hand_back(parts, targets);

@@ -1,13 +1,13 @@
 -- Two new stores.
 use Rattle.std.specs.Prelude.{ℕ, Bool, ◌≡◌, ◌≤◌, ◌<◌, ◌+◌, ◌*◌, ◌-◌, ◌^◌, List, [], ◌∷◌, replicate, slice_set, Option, Some, None, refl}
 use Rattle.std.proofs.Common.{suc, zero, sym, ◌∙◌, ap, subst, arith}
-use Rattle.base_types.specs.declared.script.Script.{Script}
 use Rattle.daos_model.specs.Durables.{empty_durable}
 use Rattle.daos_model.specs.declared.durable.Durable.{Durable}
 use Rattle.daos_run.specs.Opens.{MayRun}
 use Rattle.daos_run.specs.Slots.{IsAt}
 use Rattle.run_opening.specs.All.{AreKept}
 use Rattle.run_opening.specs.Laws.{AreUnused}
+use Rattle.run_opening.specs.FloorLaws.{unused-floored}
 use Rattle.run_opening.specs.UnusedLaws.{unused-sound}
 use Rattle.run_starts.specs.Starts.{CanOpen}
 use Rattle.run_tests.proofs.Places.{same-some}
@@ -24,8 +24,8 @@ fresh-unused zero d at = (1, sym (same-some (empty_durable 1) d at))
 fresh-unused (suc zero) d at = (1, sym (same-some (empty_durable 1) d at))
 fresh-unused (suc (suc t)) d at = absurd (let e : None ≡ Some d = at in cc)
 
-fresh-opens : (s : Script) → CanOpen s fresh
-fresh-opens s = record { sound = unused-sound fresh fresh-unused; unsnapped = refl }
+fresh-opens : CanOpen fresh
+fresh-opens = record { sound = unused-sound fresh fresh-unused; floored = unused-floored fresh fresh-unused }
 
 -- a new store, whatever fails it
 pub record IsFresh (store : PlainStore) : Type 0 where
@@ -66,7 +66,7 @@ module _ {C : Type 0} (a b : PlainStore) (u v : C) (k : IsFresh a) (l : IsFresh 
   both-ready : AreReady 2 both
   both-ready = record {
     have = record { set = record { many = refl; each = there }; each = runs };
-    open_any = λ s B kept. subst (CanOpen s) (sym (kept-fresh B kept)) (fresh-opens s);
+    open_any = λ B kept. subst CanOpen (sym (kept-fresh B kept)) fresh-opens;
   }
 
   pub pair-ready : (parts mid slots : List (Option (PlainStore × C))) → parts ≡ replicate 2 None → mid ≡ slice_set parts 0 (Some (a, u)) → slots ≡ slice_set mid 1 (Some (b, v)) → AreReady 2 slots

@@ -12,8 +12,8 @@ use Rattle.daos_run.specs.Opens.{MayRun}
 use Rattle.daos_run.specs.Slots.{AreFree, AreSet, HaveStores, stores_in}
 use Rattle.run_opening.specs.All.{AreKept, MayBeFound}
 use Rattle.run_opening.specs.AlikeSound.{reopening-sound}
+use Rattle.run_opening.specs.FloorLaws.{reopening-floored, unused-floored}
 use Rattle.run_opening.specs.Laws.{AreUnused}
-use Rattle.run_opening.specs.Opened.{keeps}
 use Rattle.run_opening.specs.UnusedLaws.{unused-sound}
 use Rattle.run_starts.specs.Starts.{CanOpen}
 use Rattle.run_tests.specs.Lone.{CanOpenAny, IsLeft, IsOver, IsReady}
@@ -29,7 +29,7 @@ none-used zero d at = (1, sym (same-some (empty_durable 1) d at))
 none-used (suc t) d at = absurd (let e : None ≡ Some d = at in cc)
 
 pub new-opens : CanOpenAny (empty_durable 1)
-new-opens s = record { sound = unused-sound (empty_durable 1 ∷ []) none-used; unsnapped = refl }
+new-opens = record { sound = unused-sound (empty_durable 1 ∷ []) none-used; floored = unused-floored (empty_durable 1 ∷ []) none-used }
 
 -- ---- before a run
 
@@ -47,8 +47,8 @@ module _ {C : Type 0} (slots : List (Option (PlainStore × C))) (k : IsOver IsRe
   stores : stores_in slots ≡ k.store ∷ []
   stores = ap stores_in k.is
 
-  pub can-open-all : (s : Script) (B : List Durable) → AreKept told_by (stores_in slots) B → CanOpen s B
-  can-open-all s B kept = subst (CanOpen s) (sym (kept-is k.store B (subst (λ ys. AreKept told_by ys B) stores kept))) (k.so.opens s)
+  pub can-open-all : (B : List Durable) → AreKept told_by (stores_in slots) B → CanOpen B
+  can-open-all B kept = subst CanOpen (sym (kept-is k.store B (subst (λ ys. AreKept told_by ys B) stores kept))) k.so.opens
 
   pub all-kept : AreKept told_by (stores_in slots) (plain_durable k.store ∷ [])
   all-kept = subst (λ ys. AreKept told_by ys (plain_durable k.store ∷ [])) (sym stores) (kept-one k.store)
@@ -79,16 +79,14 @@ module _ {C : Type 0} (slots : List (Option (PlainStore × C))) (k : IsOver IsRe
       is = is;
       so = record {
         reopens = c.comes.reopens 0 x.0 (ap (λ ys. slice_get (stores_in ys) 0) is) (plain_durable x.0) refl (plain_durable x.0) refl;
-        opens = λ s. c.sound (plain_durable k.store ∷ []) all-kept (k.so.opens s).sound (plain_durable x.0 ∷ []) (subst (λ ys. MayBeFound found_in ys (plain_durable x.0 ∷ [])) (ap stores_in (sym is)) found) s;
+        opens = c.sound (plain_durable k.store ∷ []) all-kept k.so.opens (plain_durable x.0 ∷ []) (subst (λ ys. MayBeFound found_in ys (plain_durable x.0 ∷ [])) (ap stores_in (sym is)) found);
       };
     }
 
 -- ---- a store that is opened again
 
 pub reopened-opens : (d : Durable) → CanOpenAny d → CanOpenAny (reopened d)
-reopened-opens d k s =
-    let so = reopening-sound (d ∷ []) (k s).sound in
-    record { sound = so.sound; unsnapped = ap (filter (keeps s)) so.created ∙ (k s).unsnapped }
+reopened-opens d k = record { sound = (reopening-sound (d ∷ []) k.sound).sound; floored = reopening-floored (d ∷ []) k.floored }
 
 module _ {C : Type 0} where
   pub new-left : (parts slots : List (Option (PlainStore × C))) (store : PlainStore) (clock : C) (fails : Bool) → parts ≡ replicate 1 None → slots ≡ slice_set parts 0 (Some (store, clock)) → plain_durable store ≡ empty_durable 1 → plain_state store ≡ record (new_state (2 * 4096 - 1264)) { may_fail = fails }

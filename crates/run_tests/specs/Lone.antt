@@ -1,6 +1,5 @@
 -- The store of one target before a run, and what a run leaves.
 use Rattle.std.specs.Prelude.{◌≡◌, ◌≤◌, ◌<◌, ◌+◌, ◌^◌, false, List, [], ◌∷◌, Option, Some}
-use Rattle.base_types.specs.declared.script.Script.{Script}
 use Rattle.daos_model.specs.declared.durable.Durable.{Durable}
 use Rattle.run_starts.specs.Starts.{CanOpen}
 use Rattle.vos_plain.specs.Plain.{plain_durable, plain_state}
@@ -8,7 +7,7 @@ use Rattle.vos_plain.specs.declared.store.PlainStore.{PlainStore}
 
 -- what is kept is what a run of any script may begin with
 abbrev pub CanOpenAny : Durable → Type 0
-CanOpenAny d = (s : Script) → CanOpen s (d ∷ [])
+CanOpenAny d = CanOpen (d ∷ [])
 
 -- any script may be run over the store
 pub record IsReady (store : PlainStore) : Type 0 where

@@ -1,6 +1,5 @@
 -- The stores of several targets before a run.
 use Rattle.std.specs.Prelude.{ℕ, List, Option, Some}
-use Rattle.base_types.specs.declared.script.Script.{Script}
 use Rattle.daos_model.specs.declared.durable.Durable.{Durable}
 use Rattle.daos_run.specs.Opens.{MayRun}
 use Rattle.daos_run.specs.Slots.{HaveStores, stores_in}
@@ -16,4 +15,4 @@ told_by store = Some (plain_durable store)
 -- any script may be run over the stores of so many targets
 pub record AreReady {C : Type 0} (targets : ℕ) (slots : List (Option (PlainStore × C))) : Type 0 where
   pub have : HaveStores (λ t store. MayRun told_by plain_state targets store) targets slots
-  pub open_any : (s : Script) (B : List Durable) → AreKept told_by (stores_in slots) B → CanOpen s B
+  pub open_any : (B : List Durable) → AreKept told_by (stores_in slots) B → CanOpen B

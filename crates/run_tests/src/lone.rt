@@ -1,7 +1,7 @@
 // One target, over whose store one script after another is run.
 ghost use Rattle.std.specs.Prelude.{◌≡◌, ◌≤◌, IfOk, OnOk};
 ghost use Rattle.run_tests.specs.Lone.{IsLeft, IsOver, IsReady};
-ghost use Rattle.script_runnable.specs.Runnable.{IsRunnable};
+ghost use Rattle.base_types.specs.Scripts.{IsInForm};
 
 use base_outside::clock::Clock;
 use base_outside::gate::FreeGate;
@@ -13,7 +13,6 @@ use daos_run::run_on::run_on;
 use daos_run::stop::RunStop;
 use daos_script::script::read_script;
 use report_writer::text::report_text;
-use script_runnable::runnable::runs;
 use std::alloc::Global;
 use std::sync::Wait;
 use std::thread::Threads;
@@ -73,11 +72,11 @@ pub(crate) fn spent_parts<C: Clock + Drop>(
 pub(crate) fn script_of(alloc: Global, text: &[u8], targets: u8) -> Result<Script, LoneNo>
     requires some { 1 ≤ targets }
     requires few { targets ≤ 64 }
-    ensures { IfOk result (IsRunnable targets) }
+    ensures { IfOk result (IsInForm targets) }
 {
     match read_script(alloc, text, targets) {
-        Ok(script) if runs(&script) => Ok(script),
-        _ => Err(LoneNo::Script),
+        Ok(script) => Ok(script),
+        Err(_) => Err(LoneNo::Script),
     }
 }
 

@@ -1,8 +1,5 @@
-use Rattle.daos_app.proofs.Generated.{generated_has_keys, generated_is_run}
+use Rattle.daos_app.proofs.Generated.{generated_has_keys}
 use Rattle.daos_app.proofs.load.load_script.Goals as goal
-
-pub returns-clause-form : goal.returns-clause-form
-returns-clause-form c = generated_is_run c.args.targets c.args.count c.make_script.result c.make_script.ensures.exact c.make_script.ensures.form (c.laws_of_loads.ensures.run c.args.targets c.args.count)
 
 pub returns-clause-keys : goal.returns-clause-keys
 returns-clause-keys c = generated_has_keys c.args.targets c.args.count c.make_script.result c.make_script.ensures.exact (c.laws_of_loads.ensures.keys c.args.targets c.args.count)

@@ -1,9 +1,7 @@
-use Rattle.std.proofs.Common.{◌∙◌, [], ap, rules}
 use Rattle.daos_run.proofs.Firsts.{one-more}
-use Rattle.world_base.specs.ClientTurns.{at_first}
 use Rattle.daos_run.proofs.opening.clients_of.Goals as goal
 
 pub loop-number-preserved : goal.loop-number-preserved
 loop-number-preserved c =
-    one-more c.args.script.now c.args.attempts c.args.tracker c.loop-number.clients.items c.push.new.self.items c.loop-number.number c.in_ok-client.client c.in_ok-client.client.plan.commands c.loop-number.invariant c.in_ok-push.ensures.items c.in_ok-client.ensures.commands
-    c.in_ok-client.ensures.plan (c.in_ok-client.ensures.state ∙ ap (λ o. at_first c.args.script.now o c.args.tracker) {y = []} (search rules))
+    one-more c.args.script.now c.args.held.now c.args.attempts c.args.tracker c.loop-number.clients.items c.push.new.self.items c.loop-number.number c.in_ok-client.client c.in_ok-client.client.plan.commands c.loop-number.invariant c.in_ok-push.ensures.items c.in_ok-client.ensures.commands
+    c.in_ok-client.ensures.plan c.in_ok-client.ensures.state

@@ -25,7 +25,7 @@ returns-in-Ok-clause-calls g c =
     (let held = c.in_ok-stores.stores.ok.0 in let long : length c.open_stores-opened.new.stores ≡ length c.in_ok-stores.stores.items = c.in-Ok.ensures.calls.many ∙ ap length c.deref_mut.ensures.value in
     subst (λ l. AreSetBack l c.in_ok-stores.clocks.items c.take_all.new.parts c.set_back.new.parts) (take-first c.open_stores-opened.new.stores _ c.in_ok-stores.stores.len (omega (arith, held, long))) c.set_back.ensures) in
     called-ok c.args.targets c.args.parts.now c.deref_mut.result.now c.in_ok-stores.clocks.items c.requires.set apart c.take_all.new.parts c.set_back.new.parts c.open_stores-opened.new.stores c.in-Ok.ensures.calls.many c.in_ok-stores.ensures.taken back
-    g.S.Store.durable g.S.Store.state c.in-Ok.tracker c.in-Ok.ensures.calls
+    g.S.Store.durable g.S.Store.state c.in-Ok.opened c.in-Ok.ensures.calls
 
 pub returns-in-Ok-clause-opened : goal.returns-in-Ok-clause-opened
 returns-in-Ok-clause-opened g c B kept =
@@ -34,7 +34,7 @@ returns-in-Ok-clause-opened g c B kept =
     (let held = c.in_ok-stores.stores.ok.0 in let long : length c.open_stores-opened.new.stores ≡ length c.in_ok-stores.stores.items = c.in-Ok.ensures.calls.many ∙ ap length c.deref_mut.ensures.value in
     subst (λ l. AreSetBack l c.in_ok-stores.clocks.items c.take_all.new.parts c.set_back.new.parts) (take-first c.open_stores-opened.new.stores _ c.in_ok-stores.stores.len (omega (arith, held, long))) c.set_back.ensures) in
     let there = subst (λ l. AreKept g.S.Store.durable l B) (sym (are-stores c.args.targets c.args.parts.now c.deref_mut.result.now c.in_ok-stores.clocks.items c.requires.set apart)) kept in
-    subst (λ l. AreOpened g.S.Store.durable g.S.Store.state c.args.script.now B l c.in-Ok.tracker)
+    subst (λ l. AreOpened g.S.Store.durable g.S.Store.state c.args.script.now B l c.in-Ok.opened.0 c.in-Ok.opened.1)
     (are-new c.args.targets c.args.parts.now c.deref_mut.result.now c.in_ok-stores.clocks.items c.requires.set apart c.take_all.new.parts c.set_back.new.parts c.open_stores-opened.new.stores c.in-Ok.ensures.calls.many c.in_ok-stores.ensures.taken back)
     (c.in-Ok.ensures.opened B there)
 
@@ -75,11 +75,11 @@ returns-in-Err-clause-refusals g c =
 
 pub returns-in_err-stores-clause-left : goal.returns-in_err-stores-clause-left
 returns-in_err-stores-clause-left g c B kept lasts found =
-    none-left g.S.Store.durable g.S.Store.state g.S.Store.may g.met.S.Store.steady c.args.targets c.args.parts.now c.requires.set c.requires.running c.take_all.new.parts c.in_err-stores.ensures.kept B kept (c.requires.sound B kept).sound lasts found c.args.script.now
+    none-left g.S.Store.durable g.S.Store.state g.S.Store.may g.met.S.Store.steady c.args.targets c.args.parts.now c.requires.set c.requires.running c.take_all.new.parts c.in_err-stores.ensures.kept B kept (c.requires.sound B kept) lasts found c.args.script.now
 
 pub returns-in_err-stores-clause-again : goal.returns-in_err-stores-clause-again
 returns-in_err-stores-clause-again g c B kept lasts found =
-    none-again g.S.Store.durable g.S.Store.state g.S.Store.may g.met.S.Store.steady c.args.targets c.args.parts.now c.requires.set c.requires.running c.take_all.new.parts c.in_err-stores.ensures.kept B kept (c.requires.sound B kept).sound lasts found
+    none-again g.S.Store.durable g.S.Store.state g.S.Store.may g.met.S.Store.steady c.args.targets c.args.parts.now c.requires.set c.requires.running c.take_all.new.parts c.in_err-stores.ensures.kept B kept (c.requires.sound B kept) lasts found
 
 pub returns-in-Err-clause-left : goal.returns-in-Err-clause-left
 returns-in-Err-clause-left g c B kept lasts found =

@@ -1,7 +1,10 @@
-use Rattle.std.specs.Prelude.{◌*◌, ◌-◌, IfOk, refl}
-use Rattle.std.proofs.Common.{subst}
+use Rattle.std.specs.Prelude.{◌*◌, ◌-◌, IfOk, length, refl}
+use Rattle.std.proofs.Common.{arith, subst, sym}
+use Rattle.daos_model.specs.Opening.{fresh}
+use Rattle.daos_run.proofs.Begun.{is-simple}
+use Rattle.daos_run.specs.Comes.{FindsPlaces}
 use Rattle.daos_run.proofs.Lone.{is-of-lone-client}
-use Rattle.daos_run.proofs.Plain.{all-come, all-free, all-kept, all-open, all-run, follows-order, in-form, in-real-time, is-fresh, issued-there, legal, none-down, of-lone, on-ok, only-memory}
+use Rattle.daos_run.proofs.Plain.{all-come, all-free, all-kept, all-open, all-run, are-unused, follows-order, in-form, in-real-time, is-fresh, issued-there, legal, none-down, none-lasts, of-lone, on-ok, only-memory}
 use Rattle.run_targets.specs.Ends.{TellsOfLoneClient}
 use Rattle.daos_run.proofs.run.run_script.Goals as goal
 
@@ -9,7 +12,7 @@ pub run_on-requires-clause-stores : goal.run_on-requires-clause-stores
 run_on-requires-clause-stores g c κs within = all-run c.args.job.now.targets c.args.job.now.size_mib c.set_all.new.parts c.in_ok-set_all.ensures.set c.requires.most_targets
 
 pub run_on-requires-clause-sound : goal.run_on-requires-clause-sound
-run_on-requires-clause-sound g c κs within = all-open c.args.job.now.targets c.args.job.now.size_mib c.set_all.new.parts c.in_ok-set_all.ensures.set c.args.script.now
+run_on-requires-clause-sound g c κs within = all-open c.args.job.now.targets c.args.job.now.size_mib c.set_all.new.parts c.in_ok-set_all.ensures.set
 
 pub returns-clause-legal : goal.returns-clause-legal
 returns-clause-legal g c =
@@ -17,14 +20,14 @@ returns-clause-legal g c =
     legal c.args.job.now.targets c.args.job.now.size_mib c.set_all.new.parts new c.run_on.new.parts c.run_on.ensures.set c.run_on.ensures.served c.args.script.now c.args.job.now refl c.run_on.result (all-come c.args.job.now.targets c.args.job.now.size_mib c.set_all.new.parts new c.run_on.new.parts c.run_on.ensures.set c.run_on.ensures.served c.args.script.now c.args.job.now refl c.run_on.result (c.run_on.ensures.comes _ (all-kept c.args.job.now.targets c.args.job.now.size_mib c.set_all.new.parts new) (λ t. c.args.job.now.size_mib * 4096 - 1264) (all-free c.args.job.now.targets c.args.job.now.size_mib c.set_all.new.parts new)))
 
 pub returns-clause-form : goal.returns-clause-form
-returns-clause-form g c =
+returns-clause-form g c keys =
     let new = c.in_ok-set_all.ensures.set in
-    in-form c.args.job.now.targets c.args.job.now.size_mib c.set_all.new.parts new c.run_on.new.parts c.run_on.ensures.set c.run_on.ensures.served c.args.script.now c.args.job.now refl c.run_on.result (all-come c.args.job.now.targets c.args.job.now.size_mib c.set_all.new.parts new c.run_on.new.parts c.run_on.ensures.set c.run_on.ensures.served c.args.script.now c.args.job.now refl c.run_on.result (c.run_on.ensures.comes _ (all-kept c.args.job.now.targets c.args.job.now.size_mib c.set_all.new.parts new) (λ t. c.args.job.now.size_mib * 4096 - 1264) (all-free c.args.job.now.targets c.args.job.now.size_mib c.set_all.new.parts new)))
+    in-form c.args.job.now.targets c.args.job.now.size_mib c.set_all.new.parts new c.run_on.new.parts c.run_on.ensures.set c.run_on.ensures.served c.args.script.now c.args.job.now refl c.run_on.result (all-come c.args.job.now.targets c.args.job.now.size_mib c.set_all.new.parts new c.run_on.new.parts c.run_on.ensures.set c.run_on.ensures.served c.args.script.now c.args.job.now refl c.run_on.result (c.run_on.ensures.comes _ (all-kept c.args.job.now.targets c.args.job.now.size_mib c.set_all.new.parts new) (λ t. c.args.job.now.size_mib * 4096 - 1264) (all-free c.args.job.now.targets c.args.job.now.size_mib c.set_all.new.parts new))) (let most = c.requires.most in omega (arith, most)) keys
 
 pub returns-clause-ordered : goal.returns-clause-ordered
 returns-clause-ordered g c =
     let new = c.in_ok-set_all.ensures.set in
-    follows-order c.args.job.now.targets c.args.job.now.size_mib c.set_all.new.parts new c.run_on.new.parts c.run_on.ensures.set c.run_on.ensures.served c.args.script.now c.args.job.now refl c.run_on.result (all-come c.args.job.now.targets c.args.job.now.size_mib c.set_all.new.parts new c.run_on.new.parts c.run_on.ensures.set c.run_on.ensures.served c.args.script.now c.args.job.now refl c.run_on.result (c.run_on.ensures.comes _ (all-kept c.args.job.now.targets c.args.job.now.size_mib c.set_all.new.parts new) (λ t. c.args.job.now.size_mib * 4096 - 1264) (all-free c.args.job.now.targets c.args.job.now.size_mib c.set_all.new.parts new))) c.requires.script.form.read_for
+    follows-order c.args.job.now.targets c.args.job.now.size_mib c.set_all.new.parts new c.run_on.new.parts c.run_on.ensures.set c.run_on.ensures.served c.args.script.now c.args.job.now refl c.run_on.result (all-come c.args.job.now.targets c.args.job.now.size_mib c.set_all.new.parts new c.run_on.new.parts c.run_on.ensures.set c.run_on.ensures.served c.args.script.now c.args.job.now refl c.run_on.result (c.run_on.ensures.comes _ (all-kept c.args.job.now.targets c.args.job.now.size_mib c.set_all.new.parts new) (λ t. c.args.job.now.size_mib * 4096 - 1264) (all-free c.args.job.now.targets c.args.job.now.size_mib c.set_all.new.parts new))) c.requires.script.read_for
 
 pub returns-clause-issued : goal.returns-clause-issued
 returns-clause-issued g c =
@@ -32,9 +35,9 @@ returns-clause-issued g c =
     issued-there c.args.job.now.targets c.args.job.now.size_mib c.set_all.new.parts new c.run_on.new.parts c.run_on.ensures.set c.run_on.ensures.served c.args.script.now c.args.job.now refl c.run_on.result (all-come c.args.job.now.targets c.args.job.now.size_mib c.set_all.new.parts new c.run_on.new.parts c.run_on.ensures.set c.run_on.ensures.served c.args.script.now c.args.job.now refl c.run_on.result (c.run_on.ensures.comes _ (all-kept c.args.job.now.targets c.args.job.now.size_mib c.set_all.new.parts new) (λ t. c.args.job.now.size_mib * 4096 - 1264) (all-free c.args.job.now.targets c.args.job.now.size_mib c.set_all.new.parts new)))
 
 pub returns-clause-in_real_time : goal.returns-clause-in_real_time
-returns-clause-in_real_time g c =
+returns-clause-in_real_time g c plain =
     let new = c.in_ok-set_all.ensures.set in
-    in-real-time c.args.job.now.targets c.args.job.now.size_mib c.set_all.new.parts new c.run_on.new.parts c.run_on.ensures.set c.run_on.ensures.served c.args.script.now c.args.job.now refl c.run_on.result (all-come c.args.job.now.targets c.args.job.now.size_mib c.set_all.new.parts new c.run_on.new.parts c.run_on.ensures.set c.run_on.ensures.served c.args.script.now c.args.job.now refl c.run_on.result (c.run_on.ensures.comes _ (all-kept c.args.job.now.targets c.args.job.now.size_mib c.set_all.new.parts new) (λ t. c.args.job.now.size_mib * 4096 - 1264) (all-free c.args.job.now.targets c.args.job.now.size_mib c.set_all.new.parts new)))
+    in-real-time c.args.job.now.targets c.args.job.now.size_mib c.set_all.new.parts new c.run_on.new.parts c.run_on.ensures.set c.run_on.ensures.served c.args.script.now c.args.job.now refl c.run_on.result (all-come c.args.job.now.targets c.args.job.now.size_mib c.set_all.new.parts new c.run_on.new.parts c.run_on.ensures.set c.run_on.ensures.served c.args.script.now c.args.job.now refl c.run_on.result (c.run_on.ensures.comes _ (all-kept c.args.job.now.targets c.args.job.now.size_mib c.set_all.new.parts new) (λ t. c.args.job.now.size_mib * 4096 - 1264) (all-free c.args.job.now.targets c.args.job.now.size_mib c.set_all.new.parts new))) (is-simple c.args.script.now c.args.job.now (fresh c.args.script.now c.args.job.now).opening c.requires.script plain c.requires.least_targets c.requires.most_targets c.requires.least)
 
 pub returns-clause-none_down : goal.returns-clause-none_down
 returns-clause-none_down g c =
@@ -42,18 +45,19 @@ returns-clause-none_down g c =
     none-down c.args.job.now.targets c.args.job.now.size_mib c.set_all.new.parts new c.run_on.new.parts c.run_on.ensures.set c.run_on.ensures.served c.args.script.now c.args.job.now refl c.run_on.result (all-come c.args.job.now.targets c.args.job.now.size_mib c.set_all.new.parts new c.run_on.new.parts c.run_on.ensures.set c.run_on.ensures.served c.args.script.now c.args.job.now refl c.run_on.result (c.run_on.ensures.comes _ (all-kept c.args.job.now.targets c.args.job.now.size_mib c.set_all.new.parts new) (λ t. c.args.job.now.size_mib * 4096 - 1264) (all-free c.args.job.now.targets c.args.job.now.size_mib c.set_all.new.parts new)))
 
 pub returns-clause-room : goal.returns-clause-room
-returns-clause-room g c has =
+returns-clause-room g c places has =
     let new = c.in_ok-set_all.ensures.set in
-    c.run_on.ensures.room _ (all-kept c.args.job.now.targets c.args.job.now.size_mib c.set_all.new.parts new) (λ t. c.args.job.now.size_mib * 4096 - 1264) (all-free c.args.job.now.targets c.args.job.now.size_mib c.set_all.new.parts new) has
+    c.run_on.ensures.room _ (all-kept c.args.job.now.targets c.args.job.now.size_mib c.set_all.new.parts new) (λ t. c.args.job.now.size_mib * 4096 - 1264) (all-free c.args.job.now.targets c.args.job.now.size_mib c.set_all.new.parts new)
+    (subst (λ o. FindsPlaces c.args.script.now c.args.job.now.attempts (length o.opening.stand.snaps)) (sym (is-fresh c.args.job.now.targets c.args.job.now.size_mib c.set_all.new.parts new c.run_on.new.parts c.run_on.ensures.set c.run_on.ensures.served c.args.script.now c.args.job.now refl)) places) has
 
 pub returns-clause-lone : goal.returns-clause-lone
-returns-clause-lone g c one none =
+returns-clause-lone g c plain one none =
     let new = c.in_ok-set_all.ensures.set in
     on-ok c.run_on.result (λ q k. is-of-lone-client c.args.script.now c.args.job.now q c.requires.script one k)
     (subst (λ o. IfOk c.run_on.result (TellsOfLoneClient o)) (is-fresh c.args.job.now.targets c.args.job.now.size_mib c.set_all.new.parts new c.run_on.new.parts c.run_on.ensures.set c.run_on.ensures.served c.args.script.now c.args.job.now refl)
-    (of-lone c.args.job.now.targets c.args.job.now.size_mib c.set_all.new.parts new c.run_on.new.parts c.run_on.ensures.set c.run_on.ensures.served c.args.script.now c.args.job.now refl c.run_on.result (all-come c.args.job.now.targets c.args.job.now.size_mib c.set_all.new.parts new c.run_on.new.parts c.run_on.ensures.set c.run_on.ensures.served c.args.script.now c.args.job.now refl c.run_on.result (c.run_on.ensures.comes _ (all-kept c.args.job.now.targets c.args.job.now.size_mib c.set_all.new.parts new) (λ t. c.args.job.now.size_mib * 4096 - 1264) (all-free c.args.job.now.targets c.args.job.now.size_mib c.set_all.new.parts new))) none _ (c.run_on.ensures.lone _ (all-kept c.args.job.now.targets c.args.job.now.size_mib c.set_all.new.parts new) (λ t. c.args.job.now.size_mib * 4096 - 1264) (all-free c.args.job.now.targets c.args.job.now.size_mib c.set_all.new.parts new) one none)))
+    (of-lone c.args.job.now.targets c.args.job.now.size_mib c.set_all.new.parts new c.run_on.new.parts c.run_on.ensures.set c.run_on.ensures.served c.args.script.now c.args.job.now refl c.run_on.result (all-come c.args.job.now.targets c.args.job.now.size_mib c.set_all.new.parts new c.run_on.new.parts c.run_on.ensures.set c.run_on.ensures.served c.args.script.now c.args.job.now refl c.run_on.result (c.run_on.ensures.comes _ (all-kept c.args.job.now.targets c.args.job.now.size_mib c.set_all.new.parts new) (λ t. c.args.job.now.size_mib * 4096 - 1264) (all-free c.args.job.now.targets c.args.job.now.size_mib c.set_all.new.parts new))) none _ (c.run_on.ensures.lone _ (all-kept c.args.job.now.targets c.args.job.now.size_mib c.set_all.new.parts new) (λ t. c.args.job.now.size_mib * 4096 - 1264) (all-free c.args.job.now.targets c.args.job.now.size_mib c.set_all.new.parts new) (none-lasts c.args.script.now _ (are-unused c.args.job.now.targets c.args.job.now.size_mib c.set_all.new.parts new _ (all-kept c.args.job.now.targets c.args.job.now.size_mib c.set_all.new.parts new))) plain one none)))
 
 pub returns-clause-refusals : goal.returns-clause-refusals
 returns-clause-refusals g c =
     let new = c.in_ok-set_all.ensures.set in
-    only-memory c.args.job.now.targets c.args.job.now.size_mib c.set_all.new.parts new c.run_on.new.parts c.run_on.ensures.set c.run_on.ensures.served c.args.script.now c.run_on.result c.requires.script.form.declared.conts c.run_on.ensures.fault c.run_on.ensures.refusals
+    only-memory c.args.job.now.targets c.args.job.now.size_mib c.set_all.new.parts new c.run_on.new.parts c.run_on.ensures.set c.run_on.ensures.served c.args.script.now c.run_on.result c.requires.script.declared.conts c.run_on.ensures.fault c.run_on.ensures.refusals

@@ -1,6 +1,7 @@
-use Rattle.std.specs.Prelude.{◌≡◌, ◌<◌, Err, IfErr, IfOk, Ok, length}
+use Rattle.std.specs.Prelude.{◌≡◌, ◌<◌, Err, IfErr, IfOk, List, Ok, length, refl}
 use Rattle.std.proofs.Common.{arith, rules, subst, sym}
 use Rattle.base_types.specs.declared.epoch.Epoch.{Epoch}
+use Rattle.base_types.specs.declared.snapshot.Snap.{Snap}
 use Rattle.daos_model.specs.Finals.{opening_of}
 use Rattle.daos_run.specs.Opens.{given}
 use Rattle.daos_run.specs.Slots.{stores_in}
@@ -26,11 +27,11 @@ open_parts-requires-clause-sound g c B kept =
 
 pub returns-in_err-tracker-clause-served : goal.returns-in_err-tracker-clause-served
 returns-in_err-tracker-clause-served g c =
-    served-through g.S.Store.durable g.S.Store.state c.args.job.now.targets c.args.parts.now c.disarm.new.parts c.open_parts.new.parts c.requires.stores.set c.disarm.ensures.set (all-served g.S.Store.durable g.S.Store.state g.S.Store.may c.args.job.now.targets c.args.parts.now c.disarm.new.parts c.requires.stores.set c.disarm.ensures.set c.disarm.ensures.fuses) (calls-served {T = Epoch} g.S.Store.durable g.S.Store.state c.args.job.now.targets c.disarm.new.parts c.open_parts.new.parts (Err c.in_err-tracker.field-0.0) c.disarm.ensures.set c.in_err-tracker.ensures.calls.set c.in_err-tracker.ensures.calls.runs)
+    served-through g.S.Store.durable g.S.Store.state c.args.job.now.targets c.args.parts.now c.disarm.new.parts c.open_parts.new.parts c.requires.stores.set c.disarm.ensures.set (all-served g.S.Store.durable g.S.Store.state g.S.Store.may c.args.job.now.targets c.args.parts.now c.disarm.new.parts c.requires.stores.set c.disarm.ensures.set c.disarm.ensures.fuses) (calls-served {T = Epoch × List Snap} g.S.Store.durable g.S.Store.state c.args.job.now.targets c.disarm.new.parts c.open_parts.new.parts (Err c.in_err-tracker.field-0.0) c.disarm.ensures.set c.in_err-tracker.ensures.calls.set c.in_err-tracker.ensures.calls.runs)
 
 pub returns-in_err-tracker-clause-unfused : goal.returns-in_err-tracker-clause-unfused
 returns-in_err-tracker-clause-unfused g c =
-    calls-gone {T = Epoch} g.S.Store.durable g.S.Store.state c.args.job.now.targets c.disarm.new.parts c.open_parts.new.parts (Err c.in_err-tracker.field-0.0) c.disarm.ensures.set c.in_err-tracker.ensures.calls.set c.in_err-tracker.ensures.calls.runs (all-gone g.S.Store.durable g.S.Store.state g.S.Store.may c.args.job.now.targets c.args.parts.now c.disarm.new.parts c.requires.stores.set c.disarm.ensures.set c.disarm.ensures.fuses)
+    calls-gone {T = Epoch × List Snap} g.S.Store.durable g.S.Store.state c.args.job.now.targets c.disarm.new.parts c.open_parts.new.parts (Err c.in_err-tracker.field-0.0) c.disarm.ensures.set c.in_err-tracker.ensures.calls.set c.in_err-tracker.ensures.calls.runs (all-gone g.S.Store.durable g.S.Store.state g.S.Store.may c.args.job.now.targets c.args.parts.now c.disarm.new.parts c.requires.stores.set c.disarm.ensures.set c.disarm.ensures.fuses)
 
 pub returns-in_err-tracker-clause-clocks : goal.returns-in_err-tracker-clause-clocks
 returns-in_err-tracker-clause-clocks g c =
@@ -39,7 +40,7 @@ returns-in_err-tracker-clause-clocks g c =
 pub returns-in_err-tracker-clause-fault : goal.returns-in_err-tracker-clause-fault
 returns-in_err-tracker-clause-fault g c =
     let is : c.from_residual.result ≡ Err c.in_err-tracker.field-0.0 = search rules in
-    subst (λ r. IfErr r (IsOpeningFault g.S.Store.state c.args.parts.now c.open_parts.new.parts)) (sym is) (opening-fault g.S.Store.durable g.S.Store.state c.args.job.now.targets c.args.parts.now c.disarm.new.parts c.open_parts.new.parts c.requires.stores.set c.disarm.ensures.set {T = Epoch} g.S.Store.may c.in_err-tracker.field-0.0 c.disarm.ensures.fuses c.in_err-tracker.ensures.calls.runs)
+    subst (λ r. IfErr r (IsOpeningFault g.S.Store.state c.args.parts.now c.open_parts.new.parts)) (sym is) (opening-fault g.S.Store.durable g.S.Store.state c.args.job.now.targets c.args.parts.now c.disarm.new.parts c.open_parts.new.parts c.requires.stores.set c.disarm.ensures.set {T = Epoch × List Snap} g.S.Store.may c.in_err-tracker.field-0.0 c.disarm.ensures.fuses c.in_err-tracker.ensures.calls.runs)
 
 pub returns-in_err-tracker-clause-refusals : goal.returns-in_err-tracker-clause-refusals
 returns-in_err-tracker-clause-refusals g c =
@@ -54,11 +55,11 @@ returns-in_err-tracker-clause-broke g c B kept free room =
 
 pub returns-in_err-clients-clause-served : goal.returns-in_err-clients-clause-served
 returns-in_err-clients-clause-served g c =
-    served-through g.S.Store.durable g.S.Store.state c.args.job.now.targets c.args.parts.now c.disarm.new.parts c.open_parts.new.parts c.requires.stores.set c.disarm.ensures.set (all-served g.S.Store.durable g.S.Store.state g.S.Store.may c.args.job.now.targets c.args.parts.now c.disarm.new.parts c.requires.stores.set c.disarm.ensures.set c.disarm.ensures.fuses) (calls-served {T = Epoch} g.S.Store.durable g.S.Store.state c.args.job.now.targets c.disarm.new.parts c.open_parts.new.parts (Ok c.in_ok-tracker.tracker) c.disarm.ensures.set c.in_ok-tracker.ensures.calls.set c.in_ok-tracker.ensures.calls.runs)
+    served-through g.S.Store.durable g.S.Store.state c.args.job.now.targets c.args.parts.now c.disarm.new.parts c.open_parts.new.parts c.requires.stores.set c.disarm.ensures.set (all-served g.S.Store.durable g.S.Store.state g.S.Store.may c.args.job.now.targets c.args.parts.now c.disarm.new.parts c.requires.stores.set c.disarm.ensures.set c.disarm.ensures.fuses) (calls-served {T = Epoch × List Snap} g.S.Store.durable g.S.Store.state c.args.job.now.targets c.disarm.new.parts c.open_parts.new.parts (Ok (c.in_ok-tracker.tracker, c.in_ok-tracker.held)) c.disarm.ensures.set c.in_ok-tracker.ensures.calls.set c.in_ok-tracker.ensures.calls.runs)
 
 pub returns-in_err-clients-clause-unfused : goal.returns-in_err-clients-clause-unfused
 returns-in_err-clients-clause-unfused g c =
-    calls-gone {T = Epoch} g.S.Store.durable g.S.Store.state c.args.job.now.targets c.disarm.new.parts c.open_parts.new.parts (Ok c.in_ok-tracker.tracker) c.disarm.ensures.set c.in_ok-tracker.ensures.calls.set c.in_ok-tracker.ensures.calls.runs (all-gone g.S.Store.durable g.S.Store.state g.S.Store.may c.args.job.now.targets c.args.parts.now c.disarm.new.parts c.requires.stores.set c.disarm.ensures.set c.disarm.ensures.fuses)
+    calls-gone {T = Epoch × List Snap} g.S.Store.durable g.S.Store.state c.args.job.now.targets c.disarm.new.parts c.open_parts.new.parts (Ok (c.in_ok-tracker.tracker, c.in_ok-tracker.held)) c.disarm.ensures.set c.in_ok-tracker.ensures.calls.set c.in_ok-tracker.ensures.calls.runs (all-gone g.S.Store.durable g.S.Store.state g.S.Store.may c.args.job.now.targets c.args.parts.now c.disarm.new.parts c.requires.stores.set c.disarm.ensures.set c.disarm.ensures.fuses)
 
 pub returns-in_err-clients-clause-clocks : goal.returns-in_err-clients-clause-clocks
 returns-in_err-clients-clause-clocks g c =
@@ -73,15 +74,15 @@ returns-in_err-clients-clause-broke g c B kept free room =
 pub start_all-requires-clause-stores : goal.start_all-requires-clause-stores
 start_all-requires-clause-stores g c =
     let laws = g.met.S.Store g.world.𝓛 g.world.𝓜 g.world.𝓡 ((λ s x. x), (λ x. x), (λ x. x), λ x. x) in
-    can-start g.S.Store.durable g.S.Store.state g.S.Store.may c.args.script.now c.args.job.now c.args.parts.now c.disarm.new.parts c.open_parts.new.parts c.requires.script c.requires.least_targets c.requires.most_targets c.requires.least c.requires.stores.set c.disarm.ensures.set c.disarm.ensures.fuses c.requires.stores.each c.in_ok-tracker.tracker c.in_ok-tracker.ensures.calls c.in_ok-tracker.ensures.opened laws.alike
+    can-start g.S.Store.durable g.S.Store.state g.S.Store.may c.args.script.now c.args.job.now c.args.parts.now c.disarm.new.parts c.open_parts.new.parts c.requires.script c.requires.least_targets c.requires.most_targets c.requires.least c.requires.stores.set c.disarm.ensures.set c.disarm.ensures.fuses c.requires.stores.each c.in_ok-tracker.tracker c.in_ok-tracker.held c.in_ok-tracker.ensures.calls c.in_ok-tracker.ensures.opened laws.alike
 
 pub returns-in_err-targets-clause-served : goal.returns-in_err-targets-clause-served
 returns-in_err-targets-clause-served g c =
-    served-through g.S.Store.durable g.S.Store.state c.args.job.now.targets c.args.parts.now c.open_parts.new.parts c.start_all.new.parts c.requires.stores.set c.in_ok-tracker.ensures.calls.set (served-through g.S.Store.durable g.S.Store.state c.args.job.now.targets c.args.parts.now c.disarm.new.parts c.open_parts.new.parts c.requires.stores.set c.disarm.ensures.set (all-served g.S.Store.durable g.S.Store.state g.S.Store.may c.args.job.now.targets c.args.parts.now c.disarm.new.parts c.requires.stores.set c.disarm.ensures.set c.disarm.ensures.fuses) (calls-served {T = Epoch} g.S.Store.durable g.S.Store.state c.args.job.now.targets c.disarm.new.parts c.open_parts.new.parts (Ok c.in_ok-tracker.tracker) c.disarm.ensures.set c.in_ok-tracker.ensures.calls.set c.in_ok-tracker.ensures.calls.runs)) (again-served g.S.Store.durable g.S.Store.state c.args.job.now.targets c.open_parts.new.parts c.start_all.new.parts c.in_ok-tracker.ensures.calls.set c.in_err-targets.ensures.back)
+    served-through g.S.Store.durable g.S.Store.state c.args.job.now.targets c.args.parts.now c.open_parts.new.parts c.start_all.new.parts c.requires.stores.set c.in_ok-tracker.ensures.calls.set (served-through g.S.Store.durable g.S.Store.state c.args.job.now.targets c.args.parts.now c.disarm.new.parts c.open_parts.new.parts c.requires.stores.set c.disarm.ensures.set (all-served g.S.Store.durable g.S.Store.state g.S.Store.may c.args.job.now.targets c.args.parts.now c.disarm.new.parts c.requires.stores.set c.disarm.ensures.set c.disarm.ensures.fuses) (calls-served {T = Epoch × List Snap} g.S.Store.durable g.S.Store.state c.args.job.now.targets c.disarm.new.parts c.open_parts.new.parts (Ok (c.in_ok-tracker.tracker, c.in_ok-tracker.held)) c.disarm.ensures.set c.in_ok-tracker.ensures.calls.set c.in_ok-tracker.ensures.calls.runs)) (again-served g.S.Store.durable g.S.Store.state c.args.job.now.targets c.open_parts.new.parts c.start_all.new.parts c.in_ok-tracker.ensures.calls.set c.in_err-targets.ensures.back)
 
 pub returns-in_err-targets-clause-unfused : goal.returns-in_err-targets-clause-unfused
 returns-in_err-targets-clause-unfused g c =
-    again-gone g.S.Store.durable g.S.Store.state c.args.job.now.targets c.open_parts.new.parts c.start_all.new.parts c.in_ok-tracker.ensures.calls.set c.in_err-targets.ensures.back (calls-gone {T = Epoch} g.S.Store.durable g.S.Store.state c.args.job.now.targets c.disarm.new.parts c.open_parts.new.parts (Ok c.in_ok-tracker.tracker) c.disarm.ensures.set c.in_ok-tracker.ensures.calls.set c.in_ok-tracker.ensures.calls.runs (all-gone g.S.Store.durable g.S.Store.state g.S.Store.may c.args.job.now.targets c.args.parts.now c.disarm.new.parts c.requires.stores.set c.disarm.ensures.set c.disarm.ensures.fuses))
+    again-gone g.S.Store.durable g.S.Store.state c.args.job.now.targets c.open_parts.new.parts c.start_all.new.parts c.in_ok-tracker.ensures.calls.set c.in_err-targets.ensures.back (calls-gone {T = Epoch × List Snap} g.S.Store.durable g.S.Store.state c.args.job.now.targets c.disarm.new.parts c.open_parts.new.parts (Ok (c.in_ok-tracker.tracker, c.in_ok-tracker.held)) c.disarm.ensures.set c.in_ok-tracker.ensures.calls.set c.in_ok-tracker.ensures.calls.runs (all-gone g.S.Store.durable g.S.Store.state g.S.Store.may c.args.job.now.targets c.args.parts.now c.disarm.new.parts c.requires.stores.set c.disarm.ensures.set c.disarm.ensures.fuses))
 
 pub returns-in_err-targets-clause-clocks : goal.returns-in_err-targets-clause-clocks
 returns-in_err-targets-clause-clocks g c =
@@ -94,11 +95,13 @@ returns-in_err-targets-clause-broke g c B kept free room =
     let there = subst (λ l. MayBeFound g.S.Store.may l lasts) (again-stores g.S.Store.durable g.S.Store.state c.args.job.now.targets c.open_parts.new.parts c.start_all.new.parts c.in_ok-tracker.ensures.calls.set c.in_err-targets.ensures.back) found in
     left-off (given c.args.script.now c.args.job.now B free) B lasts (c.in_ok-tracker.ensures.left B mid lasts there) (c.in_ok-tracker.ensures.again B mid lasts there))
 
-pub run_targets-targets-requires-clause-started : goal.run_targets-targets-requires-clause-started
-run_targets-targets-requires-clause-started g c =
-    let laws = g.met.S.Store g.world.𝓛 g.world.𝓜 g.world.𝓡 ((λ s x. x), (λ x. x), (λ x. x), λ x. x) in
-    let k = c.in_ok-tracker.ensures.bounded in
-    may-start g.S.Store.durable g.S.Store.state g.S.Store.may c.args.script.now c.args.job.now c.args.parts.now c.disarm.new.parts c.open_parts.new.parts c.requires.script c.requires.least_targets c.requires.most_targets c.requires.least c.requires.stores.set c.disarm.ensures.set c.disarm.ensures.fuses c.requires.stores.each c.in_ok-tracker.tracker c.in_ok-tracker.ensures.calls c.in_ok-tracker.ensures.opened c.in_ok-clients.clients.items c.in_ok-targets.targets.items c.in_ok-clients.ensures c.in_ok-targets.ensures.started laws.alike k.0 k.1 k.2
+pub run_targets-targets-requires : goal.run_targets-targets-requires
+run_targets-targets-requires g c = record {
+  started =
+      let laws = g.met.S.Store g.world.𝓛 g.world.𝓜 g.world.𝓡 ((λ s x. x), (λ x. x), (λ x. x), λ x. x) in
+      let k = c.in_ok-tracker.ensures.bounded in
+      may-start g.S.Store.durable g.S.Store.state g.S.Store.may c.args.script.now c.args.job.now c.args.parts.now c.disarm.new.parts c.open_parts.new.parts c.requires.script c.requires.least_targets c.requires.most_targets c.requires.least c.requires.stores.set c.disarm.ensures.set c.disarm.ensures.fuses c.requires.stores.each c.in_ok-tracker.tracker c.in_ok-tracker.held c.in_ok-tracker.ensures.calls c.in_ok-tracker.ensures.opened c.in_ok-clients.clients.items c.in_ok-targets.targets.items c.in_ok-clients.ensures c.in_ok-targets.ensures.started laws.alike k.0 k.2;
+}
 
 pub hand_back-requires-clause-taken : goal.hand_back-requires-clause-taken
 hand_back-requires-clause-taken g c t low =
@@ -115,7 +118,7 @@ returns-in_err-ran-clause-set g c =
 
 pub returns-in_err-ran-clause-served : goal.returns-in_err-ran-clause-served
 returns-in_err-ran-clause-served g c =
-    served-through g.S.Store.durable g.S.Store.state c.args.job.now.targets c.args.parts.now c.open_parts.new.parts c.hand_back.new.parts c.requires.stores.set c.in_ok-tracker.ensures.calls.set (served-through g.S.Store.durable g.S.Store.state c.args.job.now.targets c.args.parts.now c.disarm.new.parts c.open_parts.new.parts c.requires.stores.set c.disarm.ensures.set (all-served g.S.Store.durable g.S.Store.state g.S.Store.may c.args.job.now.targets c.args.parts.now c.disarm.new.parts c.requires.stores.set c.disarm.ensures.set c.disarm.ensures.fuses) (calls-served {T = Epoch} g.S.Store.durable g.S.Store.state c.args.job.now.targets c.disarm.new.parts c.open_parts.new.parts (Ok c.in_ok-tracker.tracker) c.disarm.ensures.set c.in_ok-tracker.ensures.calls.set c.in_ok-tracker.ensures.calls.runs)) (run-served g.S.Store.durable c.args.job.now c.open_parts.new.parts c.start_all.new.parts c.hand_back.new.parts c.in_ok-targets.targets.items c.run_targets-targets.result.0.items c.in_ok-tracker.ensures.calls.set c.in_ok-targets.ensures.started c.in_ok-targets.ensures.taken c.run_targets-targets.ensures.served.many c.hand_back.ensures g.S.Store.state g.C.Clock.is_read c.run_targets-targets.ensures.served)
+    served-through g.S.Store.durable g.S.Store.state c.args.job.now.targets c.args.parts.now c.open_parts.new.parts c.hand_back.new.parts c.requires.stores.set c.in_ok-tracker.ensures.calls.set (served-through g.S.Store.durable g.S.Store.state c.args.job.now.targets c.args.parts.now c.disarm.new.parts c.open_parts.new.parts c.requires.stores.set c.disarm.ensures.set (all-served g.S.Store.durable g.S.Store.state g.S.Store.may c.args.job.now.targets c.args.parts.now c.disarm.new.parts c.requires.stores.set c.disarm.ensures.set c.disarm.ensures.fuses) (calls-served {T = Epoch × List Snap} g.S.Store.durable g.S.Store.state c.args.job.now.targets c.disarm.new.parts c.open_parts.new.parts (Ok (c.in_ok-tracker.tracker, c.in_ok-tracker.held)) c.disarm.ensures.set c.in_ok-tracker.ensures.calls.set c.in_ok-tracker.ensures.calls.runs)) (run-served g.S.Store.durable c.args.job.now c.open_parts.new.parts c.start_all.new.parts c.hand_back.new.parts c.in_ok-targets.targets.items c.run_targets-targets.result.0.items c.in_ok-tracker.ensures.calls.set c.in_ok-targets.ensures.started c.in_ok-targets.ensures.taken c.run_targets-targets.ensures.served.many c.hand_back.ensures g.S.Store.state g.C.Clock.is_read c.run_targets-targets.ensures.served)
 
 pub returns-in_err-ran-clause-unfused : goal.returns-in_err-ran-clause-unfused
 returns-in_err-ran-clause-unfused g c =
@@ -127,9 +130,9 @@ returns-in_err-ran-clause-clocks g c =
 
 pub returns-in_err-ran-clause-broke : goal.returns-in_err-ran-clause-broke
 returns-in_err-ran-clause-broke g c B kept free room =
-    let broke = c.run_targets-targets.ensures.broke (opening_of c.args.script.now B free) (started g.S.Store.durable g.S.Store.state g.S.Store.may c.args.script.now c.args.job.now c.args.parts.now c.disarm.new.parts c.open_parts.new.parts c.requires.script c.requires.least_targets c.requires.most_targets c.requires.least c.requires.stores.set c.disarm.ensures.set c.disarm.ensures.fuses c.requires.stores.each c.in_ok-tracker.tracker c.in_ok-tracker.ensures.calls c.in_ok-tracker.ensures.opened c.in_ok-clients.clients.items c.in_ok-targets.targets.items c.in_ok-clients.ensures c.in_ok-targets.ensures.started B kept free room) (all-tell g.S.Store.durable g.S.Store.state g.S.Store.may c.args.script.now c.args.job.now c.args.parts.now c.disarm.new.parts c.open_parts.new.parts c.requires.script c.requires.least_targets c.requires.most_targets c.requires.least c.requires.stores.set c.disarm.ensures.set c.disarm.ensures.fuses c.requires.stores.each c.in_ok-tracker.tracker c.in_ok-tracker.ensures.calls c.in_ok-tracker.ensures.opened c.in_ok-clients.clients.items c.in_ok-targets.targets.items c.in_ok-clients.ensures c.in_ok-targets.ensures.started B kept) in
+    let broke = c.run_targets-targets.ensures.broke (opening_of c.args.script.now B free) (started g.S.Store.durable g.S.Store.state g.S.Store.may c.args.script.now c.args.job.now c.args.parts.now c.disarm.new.parts c.open_parts.new.parts c.requires.script c.requires.least_targets c.requires.most_targets c.requires.least c.requires.stores.set c.disarm.ensures.set c.disarm.ensures.fuses c.requires.stores.each c.in_ok-tracker.tracker c.in_ok-tracker.held c.in_ok-tracker.ensures.calls c.in_ok-tracker.ensures.opened c.in_ok-clients.clients.items c.in_ok-targets.targets.items c.in_ok-clients.ensures c.in_ok-targets.ensures.started B kept free room) (all-tell g.S.Store.durable g.S.Store.state g.S.Store.may c.args.script.now c.args.job.now c.args.parts.now c.disarm.new.parts c.open_parts.new.parts c.requires.script c.requires.least_targets c.requires.most_targets c.requires.least c.requires.stores.set c.disarm.ensures.set c.disarm.ensures.fuses c.requires.stores.each c.in_ok-tracker.tracker c.in_ok-tracker.held c.in_ok-tracker.ensures.calls c.in_ok-tracker.ensures.opened c.in_ok-clients.clients.items c.in_ok-targets.targets.items c.in_ok-clients.ensures c.in_ok-targets.ensures.started B kept) in
     whatever-stopped g.S.Store.may (given c.args.script.now c.args.job.now B free) B (stores_in c.hand_back.new.parts) c.from_residual-in_err-ran.result
-    (break-off g.S.Store.durable g.S.Store.state g.S.Store.may c.args.script.now c.args.job.now c.args.parts.now c.disarm.new.parts c.open_parts.new.parts c.requires.script c.requires.least_targets c.requires.most_targets c.requires.least c.requires.stores.set c.disarm.ensures.set c.disarm.ensures.fuses c.requires.stores.each c.in_ok-tracker.tracker c.in_ok-tracker.ensures.calls c.in_ok-tracker.ensures.opened c.in_ok-clients.clients.items c.in_ok-targets.targets.items c.in_ok-clients.ensures c.in_ok-targets.ensures.started c.start_all.new.parts c.hand_back.new.parts c.run_targets-targets.result.0.items (returns-in_err-ran-clause-set g c) c.run_targets-targets.ensures.served.many c.hand_back.ensures B free kept (c.requires.sound B kept).sound
+    (break-off g.S.Store.durable g.S.Store.state g.S.Store.may c.args.script.now c.args.job.now c.args.parts.now c.disarm.new.parts c.open_parts.new.parts c.requires.script c.requires.least_targets c.requires.most_targets c.requires.least c.requires.stores.set c.disarm.ensures.set c.disarm.ensures.fuses c.requires.stores.each c.in_ok-tracker.tracker c.in_ok-tracker.held c.in_ok-tracker.ensures.calls c.in_ok-tracker.ensures.opened c.in_ok-clients.clients.items c.in_ok-targets.targets.items c.in_ok-clients.ensures c.in_ok-targets.ensures.started c.start_all.new.parts c.hand_back.new.parts c.run_targets-targets.result.0.items (returns-in_err-ran-clause-set g c) c.run_targets-targets.ensures.served.many c.hand_back.ensures B free kept (c.requires.sound B kept)
     (subst (λ r. IfErr r (λ error. BreaksOffSo g.S.Store.durable g.S.Store.may (given c.args.script.now c.args.job.now B free) (stores_of c.in_ok-targets.targets.items) (stores_of c.run_targets-targets.result.0.items))) c.in_err-ran.was broke))
 
 pub returns-clause-set : goal.returns-clause-set
@@ -138,7 +141,7 @@ returns-clause-set g c =
 
 pub returns-clause-served : goal.returns-clause-served
 returns-clause-served g c =
-    served-through g.S.Store.durable g.S.Store.state c.args.job.now.targets c.args.parts.now c.open_parts.new.parts c.hand_back.new.parts c.requires.stores.set c.in_ok-tracker.ensures.calls.set (served-through g.S.Store.durable g.S.Store.state c.args.job.now.targets c.args.parts.now c.disarm.new.parts c.open_parts.new.parts c.requires.stores.set c.disarm.ensures.set (all-served g.S.Store.durable g.S.Store.state g.S.Store.may c.args.job.now.targets c.args.parts.now c.disarm.new.parts c.requires.stores.set c.disarm.ensures.set c.disarm.ensures.fuses) (calls-served {T = Epoch} g.S.Store.durable g.S.Store.state c.args.job.now.targets c.disarm.new.parts c.open_parts.new.parts (Ok c.in_ok-tracker.tracker) c.disarm.ensures.set c.in_ok-tracker.ensures.calls.set c.in_ok-tracker.ensures.calls.runs)) (run-served g.S.Store.durable c.args.job.now c.open_parts.new.parts c.start_all.new.parts c.hand_back.new.parts c.in_ok-targets.targets.items c.run_targets-targets.result.0.items c.in_ok-tracker.ensures.calls.set c.in_ok-targets.ensures.started c.in_ok-targets.ensures.taken c.run_targets-targets.ensures.served.many c.hand_back.ensures g.S.Store.state g.C.Clock.is_read c.run_targets-targets.ensures.served)
+    served-through g.S.Store.durable g.S.Store.state c.args.job.now.targets c.args.parts.now c.open_parts.new.parts c.hand_back.new.parts c.requires.stores.set c.in_ok-tracker.ensures.calls.set (served-through g.S.Store.durable g.S.Store.state c.args.job.now.targets c.args.parts.now c.disarm.new.parts c.open_parts.new.parts c.requires.stores.set c.disarm.ensures.set (all-served g.S.Store.durable g.S.Store.state g.S.Store.may c.args.job.now.targets c.args.parts.now c.disarm.new.parts c.requires.stores.set c.disarm.ensures.set c.disarm.ensures.fuses) (calls-served {T = Epoch × List Snap} g.S.Store.durable g.S.Store.state c.args.job.now.targets c.disarm.new.parts c.open_parts.new.parts (Ok (c.in_ok-tracker.tracker, c.in_ok-tracker.held)) c.disarm.ensures.set c.in_ok-tracker.ensures.calls.set c.in_ok-tracker.ensures.calls.runs)) (run-served g.S.Store.durable c.args.job.now c.open_parts.new.parts c.start_all.new.parts c.hand_back.new.parts c.in_ok-targets.targets.items c.run_targets-targets.result.0.items c.in_ok-tracker.ensures.calls.set c.in_ok-targets.ensures.started c.in_ok-targets.ensures.taken c.run_targets-targets.ensures.served.many c.hand_back.ensures g.S.Store.state g.C.Clock.is_read c.run_targets-targets.ensures.served)
 
 pub returns-clause-unfused : goal.returns-clause-unfused
 returns-clause-unfused g c =
@@ -150,17 +153,18 @@ returns-clause-clocks g c =
 
 pub returns-clause-comes : goal.returns-clause-comes
 returns-clause-comes g c B kept free room =
-    come-from g.S.Store.durable g.S.Store.state g.S.Store.may c.args.script.now c.args.job.now c.args.parts.now c.disarm.new.parts c.open_parts.new.parts c.requires.script c.requires.least_targets c.requires.most_targets c.requires.least c.requires.stores.set c.disarm.ensures.set c.disarm.ensures.fuses c.requires.stores.each c.in_ok-tracker.tracker c.in_ok-tracker.ensures.calls c.in_ok-tracker.ensures.opened c.in_ok-clients.clients.items c.in_ok-targets.targets.items c.in_ok-clients.ensures c.in_ok-targets.ensures.started c.start_all.new.parts c.hand_back.new.parts c.run_targets-targets.result.0.items (returns-clause-set g c) c.run_targets-targets.ensures.served.many c.hand_back.ensures B free c.in_ok-ran.field-0
+    come-from g.S.Store.durable g.S.Store.state g.S.Store.may c.args.script.now c.args.job.now c.args.parts.now c.disarm.new.parts c.open_parts.new.parts c.requires.script c.requires.least_targets c.requires.most_targets c.requires.least c.requires.stores.set c.disarm.ensures.set c.disarm.ensures.fuses c.requires.stores.each c.in_ok-tracker.tracker c.in_ok-tracker.held c.in_ok-tracker.ensures.calls c.in_ok-tracker.ensures.opened c.in_ok-clients.clients.items c.in_ok-targets.targets.items c.in_ok-clients.ensures c.in_ok-targets.ensures.started c.start_all.new.parts c.hand_back.new.parts c.run_targets-targets.result.0.items (returns-clause-set g c) c.run_targets-targets.ensures.served.many c.hand_back.ensures B free c.in_ok-ran.field-0 kept room
     (subst (λ r. IfOk r (ComesTo g.S.Store.durable g.S.Store.state g.S.Store.may (given c.args.script.now c.args.job.now B free) (stores_of c.in_ok-targets.targets.items) (stores_of c.run_targets-targets.result.0.items))) c.in_ok-ran.was
-    (c.run_targets-targets.ensures.comes (opening_of c.args.script.now B free) (started g.S.Store.durable g.S.Store.state g.S.Store.may c.args.script.now c.args.job.now c.args.parts.now c.disarm.new.parts c.open_parts.new.parts c.requires.script c.requires.least_targets c.requires.most_targets c.requires.least c.requires.stores.set c.disarm.ensures.set c.disarm.ensures.fuses c.requires.stores.each c.in_ok-tracker.tracker c.in_ok-tracker.ensures.calls c.in_ok-tracker.ensures.opened c.in_ok-clients.clients.items c.in_ok-targets.targets.items c.in_ok-clients.ensures c.in_ok-targets.ensures.started B kept free room) (all-tell g.S.Store.durable g.S.Store.state g.S.Store.may c.args.script.now c.args.job.now c.args.parts.now c.disarm.new.parts c.open_parts.new.parts c.requires.script c.requires.least_targets c.requires.most_targets c.requires.least c.requires.stores.set c.disarm.ensures.set c.disarm.ensures.fuses c.requires.stores.each c.in_ok-tracker.tracker c.in_ok-tracker.ensures.calls c.in_ok-tracker.ensures.opened c.in_ok-clients.clients.items c.in_ok-targets.targets.items c.in_ok-clients.ensures c.in_ok-targets.ensures.started B kept)))
+    (c.run_targets-targets.ensures.comes (opening_of c.args.script.now B free) (started g.S.Store.durable g.S.Store.state g.S.Store.may c.args.script.now c.args.job.now c.args.parts.now c.disarm.new.parts c.open_parts.new.parts c.requires.script c.requires.least_targets c.requires.most_targets c.requires.least c.requires.stores.set c.disarm.ensures.set c.disarm.ensures.fuses c.requires.stores.each c.in_ok-tracker.tracker c.in_ok-tracker.held c.in_ok-tracker.ensures.calls c.in_ok-tracker.ensures.opened c.in_ok-clients.clients.items c.in_ok-targets.targets.items c.in_ok-clients.ensures c.in_ok-targets.ensures.started B kept free room) (all-tell g.S.Store.durable g.S.Store.state g.S.Store.may c.args.script.now c.args.job.now c.args.parts.now c.disarm.new.parts c.open_parts.new.parts c.requires.script c.requires.least_targets c.requires.most_targets c.requires.least c.requires.stores.set c.disarm.ensures.set c.disarm.ensures.fuses c.requires.stores.each c.in_ok-tracker.tracker c.in_ok-tracker.held c.in_ok-tracker.ensures.calls c.in_ok-tracker.ensures.opened c.in_ok-clients.clients.items c.in_ok-targets.targets.items c.in_ok-clients.ensures c.in_ok-targets.ensures.started B kept)))
 
 pub returns-clause-room : goal.returns-clause-room
-returns-clause-room g c B kept free room has =
+returns-clause-room g c B kept free room places has =
     let laws = g.met.S.Store g.world.𝓛 g.world.𝓜 g.world.𝓡 ((λ s x. x), (λ x. x), (λ x. x), λ x. x) in
     let first = told-first g.S.Store.durable c.args.job.now.targets c.args.parts.now c.requires.stores.set c.requires.least_targets B kept in
     finds-room g.S.Store.durable g.S.Store.state g.S.Store.may c.args.script.now c.args.job.now (opening_of c.args.script.now B free) (stores_in c.args.parts.now) (stores_in c.hand_back.new.parts) c.in_ok-ran.field-0 c.requires.script c.requires.least_targets c.requires.least (returns-clause-comes g c B kept free room)
-    laws.findable laws.alike first.0 first.1 has
+    laws.findable laws.alike first.0 first.1 places has
 
 pub returns-clause-lone : goal.returns-clause-lone
-returns-clause-lone g c B kept free room one none unstopped =
-    tells-of-lone-client g.S.Store.durable g.S.Store.state g.S.Store.may c.args.script.now c.args.job.now (opening_of c.args.script.now B free) (stores_in c.args.parts.now) (stores_in c.hand_back.new.parts) c.in_ok-ran.field-0 c.requires.script c.requires.least_targets c.requires.least (returns-clause-comes g c B kept free room) one none unstopped
+returns-clause-lone g c B kept free room none plain one stopless unstopped =
+    tells-of-lone-client g.S.Store.durable g.S.Store.state g.S.Store.may c.args.script.now c.args.job.now (opening_of c.args.script.now B free) (stores_in c.args.parts.now) (stores_in c.hand_back.new.parts) c.in_ok-ran.field-0 c.requires.script c.requires.least_targets c.requires.least (returns-clause-comes g c B kept free room)
+    c.requires.most_targets B free kept refl none plain one stopless unstopped

@@ -5,7 +5,7 @@ pub run_on-requires-clause-stores : goal.run_on-requires-clause-stores
 run_on-requires-clause-stores g c κs within = may-run-all c.args.parts.now c.requires.ready
 
 pub run_on-requires-clause-sound : goal.run_on-requires-clause-sound
-run_on-requires-clause-sound g c κs within = can-open-all c.args.parts.now c.requires.ready _
+run_on-requires-clause-sound g c κs within = can-open-all c.args.parts.now c.requires.ready
 
 pub returns-in-Ok : goal.returns-in-Ok
 returns-in-Ok g c =
