@@ -31,8 +31,6 @@ pub enum Why {
     TooMany(u32),
     /// More bytes than there may be.
     TooLong(u32),
-    /// Nothing: the program doesn't run such a script yet.
-    NotYet,
 }
 
 /// The first line with a fault, counted from 1, or 0 where no line is told.

@@ -28,7 +28,6 @@ why_text why.BadRecord = codes "BadRecord"
 why_text why.BadBlock = codes "BadBlock"
 why_text (why.TooMany limit) = codes "TooMany " ++ decimal limit
 why_text (why.TooLong limit) = codes "TooLong " ++ decimal limit
-why_text why.NotYet = codes "NotYet"
 
 -- the name of what is wrong with a word
 abbrev pub kind_text : WordKind → List ℕ

@@ -104,7 +104,6 @@ fn why_text(alloc: Global, why: Why) -> Result<String, Memory>
         Why::BadBlock => String::from_str(alloc, "BadBlock"),
         Why::TooMany(limit) => format!(in alloc; "TooMany {limit}"),
         Why::TooLong(limit) => format!(in alloc; "TooLong {limit}"),
-        Why::NotYet => String::from_str(alloc, "NotYet"),
     }
 }
 

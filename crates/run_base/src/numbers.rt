@@ -1,5 +1,5 @@
 // The number of the next aggregation.
-ghost use Rattle.std.specs.Prelude.{◌≡◌, ◌<◌, ◌^◌, IfOk, Some, filter, length, true};
+ghost use Rattle.std.specs.Prelude.{◌≡◌, ◌≤◌, ◌<◌, ◌^◌, IfErr, IfOk, None, Some, Ok, false, filter, length, true};
 ghost use Rattle.run_base.specs.Numbers.{is_aggregation, next_aggregate};
 ghost use Rattle.world_base.specs.Stops.{is_prune_message};
 
@@ -49,6 +49,7 @@ impl Between {
     fn next_aggregate(&self) -> Result<u32, Memory>
         ensures number { IfOk result (λ number. number ≡ next_aggregate self.now.lines) }
         ensures few { IfOk result (λ number. next_aggregate self.now.lines < 2 ^ 32) }
+        ensures many { IfErr result (λ _. 2 ^ 32 ≤ next_aggregate self.now.lines) }
     {
         match u32::try_from(next_number(&self.lines)) {
             Ok(number) => Ok(number),
@@ -64,6 +65,8 @@ impl Between {
     pub fn number_for(&self, message: &Message) -> Result<Option<u32>, Memory>
         ensures drawn { IfOk result (λ number. is_prune_message message.now ≡ true → number ≡ Some (next_aggregate self.now.lines)) }
         ensures few { IfOk result (λ number. is_prune_message message.now ≡ true → next_aggregate self.now.lines < 2 ^ 32) }
+        ensures none { is_prune_message message.now ≡ false → result ≡ Ok None }
+        ensures many { IfErr result (λ _. 2 ^ 32 ≤ next_aggregate self.now.lines) }
     {
         if asks_aggregation(message) {
             Ok(Some(self.next_aggregate()?))

@@ -12,7 +12,7 @@ ghost use Rattle.target_parts.specs.Knowing.{memory_of};
 ghost use Rattle.target_core.specs.Targets.{CanHear, HasForm, HearsOrStops, IsInForm, has_epoch, is_collecting, is_held, is_making, is_of_client, is_of_command};
 ghost use Rattle.target_parts.specs.Parts.{Runs};
 ghost use Rattle.target_parts.specs.Standing.{IsTarget, TurnRuns};
-ghost use Rattle.target_parts.specs.Stops.{stop_foreign, stop_store};
+ghost use Rattle.target_parts.specs.Stops.{IsSilent, stop_foreign, stop_store};
 ghost use Rattle.target_snaps.specs.Following.{IsWithin, TellsNoAttempt};
 ghost use Rattle.target_snaps.specs.HeldTurns.{AreFrozenHere, IsSnapsOf};
 ghost use Rattle.target_parts.specs.Readings.{IsReadUpTo, most_readings};
@@ -302,6 +302,7 @@ pub(crate) fn hear_message<S: Store, C: Clock>(
     ensures reads { IfOk result (λ did. AnswersOnce (message ∷ []) knows.old.member.memory knows.new.member.memory did.posts) }
     ensures ends { (asked : Asked) → GoesWith asked message → IfOk result (λ did. TurnsEndAsked asked (remembered (memory_of knows.old) snaps.old) (remembered (memory_of knows.new) snaps.new) did.posts) }
     ensures told { TellsNoAttempt result }
+    ensures silent { is_making message ≡ false → IsSilent result }
     ensures within { OnErr result (IsWithin snaps.new.collecting snaps.old.collecting) }
     ensures own { IsSnapsOf plan snaps.new }
     ensures target { IsTarget plan (S.state store.new) (S.durable store.new) knows.new }

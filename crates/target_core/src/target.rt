@@ -18,7 +18,7 @@ ghost use Rattle.target_parts.specs.Readings.{IsReadUpTo, most_readings};
 ghost use Rattle.target_parts.specs.Stops.{IsSilent, stop_foreign, stop_store};
 ghost use Rattle.target_snaps.specs.Following.{TellsNoAttempt};
 ghost use Rattle.target_resync.specs.Openings.{IsBare, Left, Reopens, TellsRestart};
-ghost use Rattle.target_core.specs.Targets.{CanHear, HearsOrStops, IdlesOrStops, IsInForm, OpensAs, has_epoch, is_held, is_of_client};
+ghost use Rattle.target_core.specs.Targets.{CanHear, HearsOrStops, IdlesOrStops, IsInForm, OpensAs, has_epoch, is_held, is_making, is_of_client};
 
 use crate::hearing::hear_message;
 use base_messages::actor::ActorId;
@@ -167,6 +167,7 @@ impl<S: Store, C: Clock> Target<S, C> {
             (S.durable self.new.store) (S.state self.new.store) (S.may self.new.store) self.new.memory result) }
         ensures native { says stop_foreign result ≡ false }
         ensures told { TellsNoAttempt result }
+        ensures silent { is_making message ≡ false → IsSilent result }
         ensures clock { IsReadUpTo C.is_read (most_readings (has_epoch message)) self.old.clock self.new.clock }
         ensures unread { has_epoch message ≡ true → self.new.clock ≡ self.old.clock }
         ensures posts { is_of_client message ≡ from.client → IfOk result (λ did. TurnsPostInForm self.old.plan.targets self.old.memory self.new.memory did.posts) }

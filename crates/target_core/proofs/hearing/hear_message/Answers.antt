@@ -22,3 +22,6 @@ returns-else-is_making-clause-ends g c asked goes = leads-end asked (memory_of c
 pub returns-else-is_making-clause-told : goal.returns-else-is_making-clause-told
 returns-else-is_making-clause-told g c =
     turn-tells c.hear_led.result (g.S.Store.state c.args.store.now) (g.S.Store.state c.hear_led.new.store) (g.S.Store.durable c.args.store.now) (g.S.Store.durable c.hear_led.new.store) c.hear_led.ensures.stopped
+
+pub returns-else-is_making-clause-silent : goal.returns-else-is_making-clause-silent
+returns-else-is_making-clause-silent g c led = c.hear_led.ensures.stopped.silent
