@@ -11,5 +11,4 @@ pub mod Begun
 pub mod Whole
 pub mod Lone
 pub mod Unstopped
-pub mod Issued
 pub mod Plain

@@ -27,7 +27,6 @@ use Rattle.daos_run.specs.Opens.{MayRun, given}
 use Rattle.daos_run.specs.Slots.{AreFree, AreSet, HaveStores, IsAt, StoresAreServed, stores_in}
 use Rattle.daos_run.specs.Starts.{IsNewStore}
 use Rattle.daos_run.specs.Stops.{HasRisen, IsOpeningFault, MayStop}
-use Rattle.daos_run.proofs.Issued.{all-issued}
 use Rattle.daos_run.proofs.Places.{in-place, store-at, stores-many}
 use Rattle.daos_run.proofs.Unstopped.{no-down-told, no-stops-told}
 use Rattle.run_targets.specs.Ends.{IsInRealTime, IsLegal, IsOrdered, IsOutside, RunsPlainly, from-map, given_by, legal-by-any, one-there}
@@ -243,7 +242,7 @@ module _ {C : Type 0} (targets size_mib : ℕ) (slots : List (Option (PlainStore
         follows-order same = on-ok result (λ q K. from-zeros q K same) R
 
         pub issued-there : IfOk result AreIssuedThere
-        issued-there = on-ok result (λ q K. all-issued (fresh s j) undisturbed (resolved (durables_of (ordered q K).follows.last)) q refl (headline q K).told K.comes.issued) R
+        issued-there = on-ok result (λ q K. K.comes.issued_there refl) R
 
         pub in-real-time : IsSimple (rules_of (fresh s j)) → IfOk result (IsInRealTime (fresh s j))
         in-real-time simple = on-ok result (λ q K. K.comes.in_real_time (plainly q K simple)) R

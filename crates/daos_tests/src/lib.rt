@@ -6,6 +6,8 @@ mod clocks;
 #[cfg(test)]
 mod faults;
 #[cfg(test)]
+mod full;
+#[cfg(test)]
 mod planned;
 #[cfg(test)]
 mod runs;

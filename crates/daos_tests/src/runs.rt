@@ -13,6 +13,28 @@ fn add_word(alloc: Global, words: &mut Vec<String>, word: &str) -> Option<()> {
     words.push(word).ok()
 }
 
+fn words_of(alloc: Global, given: &[&str]) -> Option<Vec<String>> {
+    let mut words = Vec::new(alloc);
+    for word in given {
+        add_word(alloc, &mut words, word)?;
+    }
+    Some(words)
+}
+
+/// Runs the program with these words: the number of the status.
+pub(crate) fn run_words<R: Threads + Wait + Sync, S: Source, K: Sink, B: Rack>(
+    rt: &R,
+    alloc: Global,
+    given: &[&str],
+    source: &mut S,
+    sink: &mut K,
+    rack: &mut B,
+) -> Option<u8> {
+    let words = words_of(alloc, given)?;
+    let status = run_daos(rt, alloc, &words, source, sink, rack, &FreeGate);
+    Some(status.number())
+}
+
 /// Runs the script that a source gives on one target of a rack: the number of the status.
 pub(crate) fn run<R: Threads + Wait + Sync, S: Source, K: Sink, B: Rack>(
     rt: &R,
@@ -21,10 +43,5 @@ pub(crate) fn run<R: Threads + Wait + Sync, S: Source, K: Sink, B: Rack>(
     sink: &mut K,
     rack: &mut B,
 ) -> Option<u8> {
-    let mut words = Vec::new(alloc);
-    add_word(alloc, &mut words, "run")?;
-    add_word(alloc, &mut words, "--targets")?;
-    add_word(alloc, &mut words, "1")?;
-    let status = run_daos(rt, alloc, &words, source, sink, rack, &FreeGate);
-    Some(status.number())
+    run_words(rt, alloc, &["run", "--targets", "1"], source, sink, rack)
 }

@@ -3,6 +3,7 @@ pub mod Closings
 pub mod Reports
 pub mod Legal
 pub mod Issued
+pub mod IssuedThere
 pub mod Forms
 pub mod Inquiries
 pub mod Middle

@@ -29,6 +29,7 @@ pub use Rattle.run_laws.specs.ends.Standing.{StandsForAttempts}
 pub use Rattle.run_laws.specs.reports.Reports.{AreIssuedSince, IsKeyed}
 use Rattle.run_laws.specs.shows.Beginning.{RunBegins}
 use Rattle.run_opening.specs.Opened.{AreFloored}
+pub use Rattle.world_plain.specs.lone.LoneRuns.{AreIssuedThere}
 use Rattle.world_plain.specs.whole.Begins.{IsOpeningPlain, IsSimple}
 
 -- ---- the report
@@ -159,13 +160,14 @@ IsInRealTime g q = KeepsTheBound g.script g.job.epsilon q.lines → AreExternall
 
 -- What a run of these targets, which begins so, comes to. Whatever the next openings of their stores find, these stand for what the report
 -- tells, which is legal, by the headline, for each outside that may have failed them so. The report is in form where names and keys are keys;
--- one of the targets issued each epoch of which it tells, but for those of snapshots of earlier runs, and conflicting committed attempts have epochs in the order of real time where clocks
+-- one of the targets issued each epoch of which it tells, but for those of snapshots of earlier runs, and so all where there are none; conflicting committed attempts have epochs in the order of real time where clocks
 -- keep the bound; stores of targets that weren't given up run, and nothing is left to settle there; what is kept is sound again, and may be opened
 -- again; and the report tells of the turns in the order asked, where just so many blocks were free at the beginning.
 pub record ComesTo {S : Type 0} (durable : S → Option Durable) (state : S → State) (may : S → Durable → Type 0) (g : Given) (xs ys : List S) (q : Report) : Type 0 where
   pub stand : (lasts : List Durable) (o : Outside) → MayBeFound may ys lasts → IsOutside state o xs ys → HeadlineOver g o lasts q
   pub form : IsKeyed g → IsReportOf g.script q
   pub issued : AreIssuedSince (top g.opening) q
+  pub issued_there : g.opening.stand.snaps ≡ [] → AreIssuedThere q
   pub in_real_time : RunsPlainly durable g xs → IsInRealTime g q
   pub running : LeavesRunning state q ys
   pub settled : LeavesSettled durable may g q ys

@@ -10,6 +10,7 @@ use Rattle.client_core.specs.Clients.{ClientNow}
 use Rattle.daos_model.specs.declared.durable.Durable.{Durable}
 use Rattle.daos_model.specs.Durables.{entry_of}
 use Rattle.daos_model.specs.FormLaws.{length-map}
+use Rattle.daos_model.specs.Family.{resolved}
 use Rattle.daos_model.specs.Finals.{HeadlineOver}
 use Rattle.daos_model.specs.Headline.{Headline}
 use Rattle.daos_model.specs.Opening.{Given, Outside, top, undisturbed}
@@ -21,6 +22,7 @@ use Rattle.model_laws.specs.Members.{contains-from_has, has-from_contains}
 use Rattle.report_writer.specs.Forms.{IsReportOf}
 use Rattle.run_laws.specs.reports.Forms.{orders-report_in_form}
 use Rattle.run_laws.specs.reports.Issued.{orders-issue}
+use Rattle.run_laws.specs.reports.IssuedThere.{all-issued}
 use Rattle.run_laws.specs.reports.Kept.{downs-have_lines, orders-leave}
 use Rattle.run_laws.specs.reports.Legal.{orders-are-legal}
 use Rattle.run_laws.specs.reports.Reports.{AreIssuedSince, AreTyped, EndsPlainlyIn, GoesInOrder, IsKeyed, IsSettledOrLeft, LeavesInTheEnd}
@@ -54,7 +56,7 @@ use Rattle.run_laws.specs.ends.Armed.{before-fuse, fuses-started, fuses-tell, st
 use Rattle.run_laws.specs.ends.Arming.{AreArmed, AreUnfused}
 use Rattle.run_laws.specs.ends.Begun.{told-is}
 use Rattle.run_laws.specs.ends.Caused.{end-caused, stops-caused}
-use Rattle.run_laws.specs.ends.Comes.{AreKept, ComesTo, EndsUnstopped, IsAsStored, IsCommittedIn, IsOrdered, IsOutside, IsSoundAgain, LacksMember, LeavesReopenable, MayBeFound, RunsPlainly, StandPlainly, report_with}
+use Rattle.run_laws.specs.ends.Comes.{AreIssuedThere, AreKept, ComesTo, EndsUnstopped, IsAsStored, IsCommittedIn, IsOrdered, IsOutside, IsSoundAgain, LacksMember, LeavesReopenable, MayBeFound, RunsPlainly, StandPlainly, report_with}
 use Rattle.run_laws.specs.ends.Keeping.{all-tell, begins-plainly, first-keeps, none-created, sound-again}
 use Rattle.run_laws.specs.ends.Lasts.{are-found, found_at, its-target, keeps-lasts, some-may_be, some_lasts}
 use Rattle.run_laws.specs.ends.Places.{IsMapped, from-map}
@@ -147,9 +149,13 @@ module _ {S C : Type 0} (durable : S → Option Durable) (state : S → State) (
       by-outside : (o : Outside) → AreCaused g.script o last → HeadlineOver g o lasts report
       by-outside o caused = subst (HeadlineOver g o lasts) same-report (subst (λ ds. HeadlineOver g o ds (report_over r last)) keeps (orders-are-legal g first last begins.holds goes o caused))
 
+      -- for an outside that may have caused anything
+      by-anything : HeadlineOver g anything lasts report
+      by-anything = by-outside anything (record { stops = λ t. tt; given_up = λ t z here down. tt })
+
       -- each line tells of a target that is there
       bounded : All (HasTarget g.script.targets) lines
-      bounded = (by-outside anything (record { stops = λ t. tt; given_up = λ t z here down. tt })).told.outcomes.stops.bounded
+      bounded = by-anything.told.outcomes.stops.bounded
 
       many : length ys ≡ length xs
       many = e.unfused.many ∙ e.many ∙ e.fuses.fuses.many
@@ -225,6 +231,10 @@ module _ {S C : Type 0} (durable : S → Option Durable) (state : S → State) (
 
       issued : AreIssuedSince (top g.opening) report
       issued = subst (AreIssuedSince (top g.opening)) same-report (orders-issue g first last goes)
+
+      -- of all epochs where the opening keeps no snapshot
+      issued-there : g.opening.stand.snaps ≡ [] → AreIssuedThere report
+      issued-there none = all-issued g anything (resolved lasts) report none by-anything.told issued
 
       -- where the clocks keep the bound, the order of its epochs is that of real time
       in-real-time : RunsPlainly durable g (stores_of xs) → KeepsTheBound g.script g.job.epsilon lines → AreExternallyConsistent g.script lines
@@ -315,6 +325,7 @@ module _ {S C : Type 0} (durable : S → Option Durable) (state : S → State) (
       stand = λ lasts o m outside. stand lasts m o outside;
       form = in-form some so typed;
       issued = issued some so;
+      issued_there = issued-there some so;
       in_real_time = in-real-time some so;
       running = store-runs some so;
       settled = record { entries = entries some so; held = held };

@@ -18,7 +18,7 @@ use Rattle.model_laws.specs.DecidedLaws.{has-all}
 use Rattle.model_laws.specs.Members.{Has, has-from_contains, has-from_filter, has-left, has-right}
 use Rattle.model_reports.specs.Alone.{stands-before}
 use Rattle.model_reports.specs.Lines.{StandsAt, line-of, one-of-any}
-use Rattle.run_targets.specs.Ends.{AreIssuedSince}
+use Rattle.run_laws.specs.reports.Reports.{AreIssuedSince}
 use Rattle.world_plain.specs.lone.LoneRuns.{AreIssuedThere}
 
 -- the epoch of an attempt that reads at no snapshot is among the own ones
