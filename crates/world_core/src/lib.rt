@@ -1,12 +1,15 @@
 // The world of a run under one name: whether a list of events is a run, and the laws of all facts together, whatever crate holds them. Those of
-// world_standing and world_legal are of runs in which targets may stop, those of world_plain of runs without stops.
+// world_upheld and world_closing are of any run: each event, whatever it is, keeps all facts, a run begins with them, and where it has ended its
+// report is legal. Those of world_plain are of runs without stops and snapshots, as the lists of `check_list` are.
 #![tactic(auto)]
 
 pub use world_check::check::check_list;
-pub use world_legal::closing::laws_of_closing;
-pub use world_legal::shown::laws_of_explanations;
+pub use world_closing::forming::laws_of_texts;
+pub use world_closing::laws_of_ended_runs;
+pub use world_closing::stands::laws_of_stands;
 pub use world_plain::whole::{
-    laws_of_beginnings, laws_of_clients, laws_of_forms, laws_of_requests, laws_of_runs,
-    laws_of_stores,
+    laws_of_beginnings, laws_of_clients, laws_of_forms, laws_of_runs, laws_of_stores,
 };
-pub use world_standing::hearable::{laws_of_hearing, laws_of_leases};
+pub use world_upheld::explained::laws_of_explanations;
+pub use world_upheld::hearing::{laws_of_all_hearing, laws_of_all_leases};
+pub use world_upheld::upheld::{laws_of_containers, laws_of_requests, laws_of_upheld};
