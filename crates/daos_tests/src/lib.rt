@@ -8,6 +8,8 @@ mod faults;
 #[cfg(test)]
 mod full;
 #[cfg(test)]
+mod names;
+#[cfg(test)]
 mod planned;
 #[cfg(test)]
 mod runs;

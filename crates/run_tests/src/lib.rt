@@ -4,6 +4,8 @@
 #[cfg(test)]
 mod given_up;
 #[cfg(test)]
+mod kept_snapshots;
+#[cfg(test)]
 mod lone;
 #[cfg(test)]
 mod pair;

@@ -67,8 +67,8 @@ alone_in_form w h = record {
 }
 
 -- one write of an attempt that is led by target 0, its only member
-pub preparable : (s : State) (a : AttemptId) (w : Write) → 1 ≤ s.targets → IsHere w → IsPreparable s (record { attempt = a; epoch = epoch 256; leader = 0; members = 1; confirmed = 0; committed = false }) (alone w)
-preparable s a w some h = record {
+pub preparable : (s : State) (a : AttemptId) (e : ℕ) (w : Write) → 1 ≤ s.targets → IsHere w → IsPreparable s (record { attempt = a; epoch = epoch e; leader = 0; members = 1; confirmed = 0; committed = false }) (alone w)
+preparable s a e w some h = record {
   undecided = refl;
   unconfirmed = refl;
   leader = some;
@@ -106,3 +106,70 @@ enlisted-settled n w = refl
 pub can_commit : (n : ℕ) (w : Write) → CanSettle (attempt n) Commit (staged n w)
 unfolding staged entry_of started enlisted leased
 can_commit n w = record { entry = entry n; here = entry_of-prepared (entry n) (alone w) started refl; fits = refl }
+
+-- ---- values that are put
+
+pub value_here : (bytes : List ℕ) → is_write_in_form (value bytes) ≡ true → IsHere (value bytes)
+value_here bytes h = record { form = h; cont = refl }
+
+pub can_settle-put : (o p : Option Durable) (s : State) (n e : ℕ) (w : Write) → ForSome o (CanPrepare s (entry_at n e) (alone w)) → p ≡ option_map (prepared (entry_at n e) (alone w)) o → ForSome p (CanSettle (attempt n) Commit)
+can_settle-put None p s n e w here is x told = let no : ⊥ = cc (told, is) in absurd no
+can_settle-put (Some d) p s n e w here is x told =
+    subst (CanSettle (attempt n) Commit) (same_Some (prepared (entry_at n e) (alone w) d) x (sym is ∙ told))
+    (record { entry = entry_at n e; here = entry_of-prepared (entry_at n e) (alone w) d (here d refl).absent; fits = refl })
+
+pub put_is : (o p q : Option Durable) (n e : ℕ) (bytes : List ℕ) → p ≡ option_map (prepared (entry_at n e) (alone (value bytes))) o → q ≡ option_map (settled (attempt n) Commit) p → q ≡ option_map (put n e bytes) o
+unfolding put
+put_is None p q n e bytes f g = g ∙ ap (option_map (settled (attempt n) Commit)) f
+put_is (Some d) p q n e bytes f g = g ∙ ap (option_map (settled (attempt n) Commit)) f
+
+one_in_form : is_write_in_form (value one) ≡ true
+unfolding is_write_in_form
+one_in_form = refl
+
+two_in_form : is_write_in_form (value two) ≡ true
+unfolding is_write_in_form
+two_in_form = refl
+
+pub can_put_one : (s : State) → s.opening ≡ unopened → CanPut s 0 256 one started
+can_put_one s o = can_prepare s 0 (value one) o (value_here one one_in_form)
+
+floor-put : (floor_of unopened put_one cont).0.0 < 512
+unfolding floor_of row_of put_one put started enlisted leased prepared settled
+floor-put = omega arith
+
+pub can_put_two : (s : State) → s.opening ≡ unopened → CanPut s 1 512 two put_one
+unfolding entry_of is_enlisted put_one put started enlisted leased prepared settled version_key
+can_put_two s o = record {
+  absent = refl;
+  each = one_passes (CanWrite s (entry_at 1 512) put_one) (record { minor = 0; write = value two }) (record {
+    enlisted = refl;
+    above = subst (λ f. (floor_of f put_one cont).0.0 < 512) (sym o) floor-put;
+    new = one_passes (λ v. version_key v ≢ version_key (version_of (entry_at 1 512) (record { minor = 0; write = value two }))) _ (λ same. let no : ⊥ = cc in absurd no);
+  });
+  leased = omega arith;
+}
+
+pub put_two_is : (o p q : Option Durable) → o ≡ Some started → p ≡ option_map (put 0 256 one) o → q ≡ option_map (put 1 512 two) p → q ≡ Some put_two
+unfolding put_one put_two
+put_two_is o p q e f g = g ∙ ap (option_map (put 1 512 two)) (f ∙ ap (option_map (put 0 256 one)) e)
+
+pub put_one_is : (o p : Option Durable) → o ≡ Some started → p ≡ option_map (put 0 256 one) o → p ≡ Some put_one
+unfolding put_one
+put_one_is o p e f = f ∙ ap (option_map (put 0 256 one)) e
+
+pub enlisted-put : is_enlisted put_two cont ≡ true
+unfolding is_enlisted put_two put_one put started enlisted leased prepared settled
+enlisted-put = refl
+
+pub can_prune : CanPrune cont (epoch 600) put_two
+unfolding is_enlisted put_two put_one put started enlisted leased prepared settled
+can_prune = record {
+  enlisted = refl;
+  settled = All-cons (λ v. (version_path v).cont ≡ cont → v.epoch.0 ≤ 600 → v.done ≡ true) _ _ (λ its low. refl) (one_passes (λ v. (version_path v).cont ≡ cont → v.epoch.0 ≤ 600 → v.done ≡ true) _ (λ its low. refl));
+  leased = omega arith;
+}
+
+pub enlisted-pruned : is_enlisted (pruned cont (epoch 600) 0 put_two) cont ≡ true
+unfolding is_enlisted pruned marked put_two put_one put started enlisted leased prepared settled
+enlisted-pruned = refl

@@ -6,16 +6,19 @@ use Rattle.base_types.specs.declared.id.AttemptId.{AttemptId}
 use Rattle.base_types.specs.declared.id.Class.TheVariants.{S1}
 use Rattle.base_types.specs.declared.id.ContId.{ContId}
 use Rattle.base_types.specs.declared.operation.MinorWrite.{MinorWrite}
+use Rattle.base_types.specs.declared.entry.Settle.TheVariants.{Commit}
 use Rattle.base_types.specs.declared.operation.Write.{Write}
+use Rattle.base_types.specs.declared.operation.Write.TheVariants.{Single}
 use Rattle.base_types.specs.declared.outcome.FloorWhy.{FloorWhy}
 use Rattle.base_types.specs.declared.outcome.FloorWhy.TheVariants.{Opening}
 use Rattle.base_types.specs.declared.path.Path.{Path}
 use Rattle.base_types.specs.Operations.{write_path}
 use Rattle.daos_model.specs.declared.durable.Durable.{Durable}
-use Rattle.daos_model.specs.Changes.{enlisted, leased, prepared}
+use Rattle.daos_model.specs.Changes.{enlisted, leased, prepared, settled}
 use Rattle.daos_model.specs.Durables.{empty_durable}
 use Rattle.daos_model.specs.Forms.{is_write_in_form}
 use Rattle.vos_store.specs.Calls.{State}
+use Rattle.vos_store.specs.Conditions.{CanPrepare}
 
 abbrev pub cont : ContId
 cont = record { 0 = 1 }
@@ -31,8 +34,12 @@ akey = record { cont = cont; obj = Some (record { class = S1; number = 0; unit =
 abbrev pub attempt : ℕ → AttemptId
 attempt n = record { client = 0; command = n; attempt = 0 }
 
+-- what target 0 keeps of an attempt that it leads alone, at an epoch
+abbrev pub entry_at : ℕ → ℕ → Entry
+entry_at n e = record { attempt = attempt n; epoch = epoch e; leader = 0; members = 1; confirmed = 0; committed = false }
+
 abbrev pub entry : ℕ → Entry
-entry n = record { attempt = attempt n; epoch = epoch 256; leader = 0; members = 1; confirmed = 0; committed = false }
+entry n = entry_at n 256
 
 -- the writes of a transaction that has one
 abbrev pub alone : Write → List MinorWrite
@@ -45,6 +52,32 @@ started = leased 65536 (enlisted (cont ∷ []) (empty_durable 1))
 -- a write at 256 is prepared
 unfoldable pub staged : ℕ → Write → Durable
 staged n w = prepared (entry n) (alone w) started
+
+-- a value at the akey
+abbrev pub value : List ℕ → Write
+value bytes = Single akey bytes
+
+-- an attempt put it at an epoch, and is committed
+unfoldable pub put : ℕ → ℕ → List ℕ → Durable → Durable
+put n e bytes d = settled (attempt n) Commit (prepared (entry_at n e) (alone (value bytes)) d)
+
+-- it may be put there
+abbrev pub CanPut : State → ℕ → ℕ → List ℕ → Durable → Type 0
+CanPut s n e bytes d = CanPrepare s (entry_at n e) (alone (value bytes)) d
+
+-- the values `one` and `two`
+abbrev pub one : List ℕ
+one = 111 ∷ 110 ∷ 101 ∷ []
+
+abbrev pub two : List ℕ
+two = 116 ∷ 119 ∷ 111 ∷ []
+
+-- `one` was put at 256, and then `two` at 512
+unfoldable pub put_one : Durable
+put_one = put 0 256 one started
+
+unfoldable pub put_two : Durable
+put_two = put 1 512 two put_one
 
 -- a store that was never opened again
 abbrev pub unopened : Epoch × FloorWhy

@@ -1,9 +1,11 @@
 // The steps of the rows, over any store.
-ghost use Rattle.std.specs.Prelude.{◌≡◌, ◌≤◌, false, IfOk, OnOk, Some};
+ghost use Rattle.std.specs.Prelude.{◌≡◌, ◌≤◌, false, true, IfOk, OnOk, Some};
+ghost use Rattle.std.specs.Option.{ForSome, option_map};
 ghost use Rattle.daos_model.specs.Durables.{empty_durable};
-ghost use Rattle.vos_tests.specs.Rows.{IsHere, RunsOn, akey, attempt, staged, started, unopened};
+ghost use Rattle.daos_model.specs.Forms.{is_write_in_form};
+ghost use Rattle.vos_tests.specs.Rows.{CanPut, IsHere, RunsOn, akey, attempt, put, staged, started, unopened, value};
 
-use base_types::entry::Entry;
+use base_types::entry::{Entry, Settle};
 use base_types::epoch::Epoch;
 use base_types::id::{AttemptId, Class, ContId, ObjId};
 use base_types::items::{Memory, bytes_of};
@@ -80,6 +82,13 @@ pub(crate) fn two_records(alloc: Global) -> Result<Write, KeyNo>
     Ok(Write::Extent(akey(alloc)?, 1, bytes_of(alloc, b"abcdwxyz")?))
 }
 
+/// A value at the akey.
+pub(crate) fn value(alloc: Global, bytes: &[u8]) -> Result<Write, KeyNo>
+    ensures { IfOk result (λ write. write ≡ value bytes.now) }
+{
+    Ok(Write::Single(akey(alloc)?, bytes_of(alloc, bytes)?))
+}
+
 /// The first attempt of a command of the first client.
 pub(crate) fn attempt(number: u32) -> AttemptId
     ensures { result ≡ attempt number }
@@ -122,5 +131,34 @@ pub(crate) fn stage<S: Store>(store: &mut S, number: u32, write: Write) -> Resul
         committed: false,
     };
     store.prepare(&entry, &[MinorWrite { minor: 0, write }])?;
+    Ok(())
+}
+
+/// An attempt puts a value at an epoch, and is committed.
+pub(crate) fn put<S: Store>(
+    alloc: Global,
+    store: &mut S,
+    number: u32,
+    epoch: u64,
+    bytes: &[u8],
+) -> Result<(), StepNo>
+    requires runs { (S.state store.old).stopped ≡ false }
+    requires targets { 1 ≤ (S.state store.old).targets }
+    requires form { is_write_in_form (value bytes.now) ≡ true }
+    requires here { ForSome (S.durable store.old) (CanPut (S.state store.old) number epoch bytes.now) }
+    ensures kept { OnOk result (S.durable store.new ≡ option_map (put number epoch bytes.now) (S.durable store.old)) }
+    ensures state { OnOk result (RunsOn (S.state store.old) (S.state store.new)) }
+{
+    let entry = Entry {
+        attempt: attempt(number),
+        epoch: Epoch(epoch),
+        leader: 0,
+        members: 1,
+        confirmed: 0,
+        committed: false,
+    };
+    let write = value(alloc, bytes)?;
+    store.prepare(&entry, &[MinorWrite { minor: 0, write }])?;
+    store.settle(attempt(number), Settle::Commit)?;
     Ok(())
 }

@@ -1,8 +1,9 @@
 // Rows over stores, with what they show.
-use crate::rows::{Seen, discard_over, read_around};
+use crate::rows::{Seen, discard_over, prune_over, read_around};
 use crate::steps::{CONT, attempt};
 use base_types::answer::{Answer, Piece};
 use base_types::id::{AttemptId, Class};
+use base_types::shown::Shown;
 use std::alloc::Global;
 use vos_plain::store::PlainStore;
 use vos_store::refusal::{DiscardNo, FetchNo};
@@ -55,4 +56,45 @@ fn named(alloc: Global) -> Option<AttemptId> {
 #[test]
 fn a_discard_names_the_unsettled_attempt(rt: HostRuntime) {
     assert!(rt; named(rt.alloc()) == Some(attempt(7)));
+}
+
+// Whether a value is answered.
+fn is_value(answer: &Result<Answer, FetchNo>, wanted: &[u8]) -> bool {
+    match answer {
+        Ok(Answer::Bytes(bytes)) => bytes.as_slice() == wanted,
+        _ => false,
+    }
+}
+
+// Whether a read is refused below what was aggregated up to 600 by the line 0.
+fn is_aggregated(answer: &Result<Answer, FetchNo>) -> bool {
+    match answer {
+        Err(FetchNo::Aggregated(epoch, number)) => epoch.0 == 600 && *number == 0,
+        _ => false,
+    }
+}
+
+// Whether the write of the second attempt at 512 is shown.
+fn is_second(later: &Option<Shown>) -> bool {
+    match later {
+        Some(shown) => shown.by == attempt(1) && shown.epoch.0 == 512,
+        None => false,
+    }
+}
+
+// Whether the later write is shown, the read below is refused, and the one above answers the later value.
+fn pruned(alloc: Global) -> Option<(bool, bool, bool)> {
+    let mut store = PlainStore::new(alloc, 2, &[]).ok()?;
+    let seen = prune_over(alloc, &mut store).ok()?;
+    let shown = is_second(&seen.later);
+    Some((
+        shown,
+        is_aggregated(&seen.below),
+        is_value(&seen.above, b"two"),
+    ))
+}
+
+#[test]
+fn a_prune_leaves_what_is_read_above_it(rt: HostRuntime) {
+    assert!(rt; pruned(rt.alloc()) == Some((true, true, true)));
 }

@@ -68,10 +68,13 @@ pub record LacksMember (g : Given) (q : Report) (x : AttemptId) : Type 0 where
   pub its : IsMember (rules_of g) x member
   pub down : Contains (down_targets q.lines) member
 
--- Each entry that is kept by a target that wasn't given up is committed, or a member of its attempt was given up. Of what is committed at a target,
--- whatever the next openings find, each member keeps an entry.
+-- Each entry that is kept by a target that wasn't given up is committed, and so at each member that wasn't given up; or a member of its attempt was
+-- given up. Of what is committed at a target, whatever the next openings find, each member keeps an entry.
 pub record LeavesSettled {S : Type 0} (durable : S → Option Durable) (may : S → Durable → Type 0) (g : Given) (q : Report) (ys : List S) : Type 0 where
   pub entries : (t : ℕ) (y : S) (d : Durable) (e : Entry) → slice_get ys t ≡ Some y → (Contains (down_targets q.lines) t → ⊥) → durable y ≡ Some d → Contains d.entries e → (e.committed ≡ true) ⊎ LacksMember g q e.attempt
+  pub everywhere : (t : ℕ) (y : S) (d : Durable) (e : Entry) → slice_get ys t ≡ Some y → (Contains (down_targets q.lines) t → ⊥) → durable y ≡ Some d → Contains d.entries e
+      → (m : ℕ) (z : S) (f : Durable) → IsMember (rules_of g) e.attempt m → slice_get ys m ≡ Some z → (Contains (down_targets q.lines) m → ⊥) → durable z ≡ Some f
+      → IsCommittedIn f e.attempt ⊎ LacksMember g q e.attempt
   pub held : (lasts : List Durable) → MayBeFound may ys lasts → (t : ℕ) (d : Durable) (e : Entry) → slice_get lasts t ≡ Some d → Contains d.entries e → e.committed ≡ true → (m : ℕ) (f : Durable) → IsMember (rules_of g) e.attempt m → slice_get lasts m ≡ Some f → is_some (entry_of f e.attempt) ≡ true
 
 -- Each target of which no line tells that it was given up has a store that runs.

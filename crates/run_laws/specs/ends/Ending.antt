@@ -3,6 +3,7 @@ use Rattle.std.specs.Prelude.{ℕ, ◌≡◌, ◌≤◌, ◌⊎◌, true, false,
 use Rattle.std.proofs.Common.{inl, inr, sym, ◌∙◌, ap, subst}
 use Rattle.std.proofs.lemmas.Bool.{true≢false}
 use Rattle.base_types.specs.declared.entry.Entry.{Entry}
+use Rattle.base_types.specs.declared.id.AttemptId.{AttemptId}
 use Rattle.base_types.specs.declared.report.Line.{Line}
 use Rattle.base_types.specs.declared.report.Line.TheVariants as line
 use Rattle.base_types.specs.declared.report.Report.{Report}
@@ -39,7 +40,8 @@ use Rattle.run_laws.specs.turns.OrderLaws.{orders-are-runs}
 use Rattle.run_watch.specs.Watches.{WatchNow, first_watch}
 use Rattle.target_core.specs.Targets.{TargetOf}
 use Rattle.vos_store.specs.Calls.{State}
-use Rattle.world_commit.specs.attempts.Attempts.{entry_in}
+use Rattle.world_commit.specs.attempts.Attempts.{IsHeld, entry_in}
+use Rattle.world_legal.specs.doubts.Recounting.{found-entry}
 use Rattle.world_base.specs.declared.target.Life.TheVariants.{Down, Running}
 use Rattle.world_base.specs.declared.target.TargetState.{TargetState}
 use Rattle.world_base.specs.declared.world.World.{World}
@@ -270,6 +272,38 @@ module _ {S C : Type 0} (durable : S → Option Durable) (state : S → State) (
             down = subst (λ ls. Contains (down_targets ls) lacks.member) (sym run.told) (contains-from_has (down_targets last.lines) lacks.member (down-among last.lines lacks.member lacks.down));
           })
 
+      -- what is found of an entry is an entry of its attempt
+      found-its : (f : Durable) (a : AttemptId) (k : Entry) → entry_of f a ≡ Some k → Contains f.entries k × (k.attempt ≡ a)
+      unfolding entry_of
+      found-its f a k found = let z = found-entry a f.entries k found in (contains-from_has f.entries k z.0, z.1)
+
+      -- and so at each member that wasn't given up, unless a member was
+      at-members : (t : ℕ) (y : S) (d : Durable) (x : Entry) → slice_get (stores_of ys) t ≡ Some y → (Contains (down_targets lines) t → ⊥) → durable y ≡ Some d → Contains d.entries x
+          → (n : ℕ) (z : S) (f : Durable) → IsMember r x.attempt n → slice_get (stores_of ys) n ≡ Some z → (Contains (down_targets lines) n → ⊥) → durable z ≡ Some f
+          → IsCommittedIn f x.attempt ⊎ LacksMember g report x.attempt
+      at-members t y d x at up is i n z f member to up_there told_f = by (entries t y d x at up is i)
+        where
+          same : (u : ℕ) (w : S) (k : Durable) (in_it : slice_get (stores_of ys) u ≡ Some w) → (Contains (down_targets lines) u → ⊥) → durable w ≡ Some k → k ≡ (there u w in_it).0.durable
+          same u w k in_it runs its =
+              let s = there u w in_it in let two : Some k ≡ Some s.0.durable = sym its ∙ kept-running u w s.0 in_it s.1 (runs-there u w s.0 in_it s.1 runs) in cc
+
+          here : TargetState
+          here = (there t y at).0
+
+          held-there : x.committed ≡ true → IsHeld last n x.attempt
+          held-there committed = leaves.held t here x (there t y at).1 (subst (λ k. Contains k.entries x) (same t y d at up is) i) committed n member
+
+          found : (h : IsHeld last n x.attempt) → entry_of f x.attempt ≡ Some h.entry
+          found h = ap (λ k. entry_of k x.attempt) (same n z f to up_there told_f) ∙ ap (λ o. entry_in o x.attempt) (sym (there n z to).1) ∙ h.found
+
+          at-member : (h : IsHeld last n x.attempt) → (h.entry.committed ≡ true) ⊎ LacksMember g report h.entry.attempt → IsCommittedIn f x.attempt ⊎ LacksMember g report x.attempt
+          at-member h (inl committed) = inl (record { entry = h.entry; found = found h; committed = committed })
+          at-member h (inr lacks) = inr (subst (LacksMember g report) (found-its f x.attempt h.entry (found h)).1 lacks)
+
+          by : (x.committed ≡ true) ⊎ LacksMember g report x.attempt → IsCommittedIn f x.attempt ⊎ LacksMember g report x.attempt
+          by (inl committed) = let h = held-there committed in at-member h (entries n z f h.entry to up_there told_f (found-its f x.attempt h.entry (found h)).0)
+          by (inr lacks) = inr lacks
+
       -- ---- the order
 
       free-first : ((t : ℕ) (x : S) → slice_get (stores_of xs) t ≡ Some x → (state x).free ≡ g.opening.free t) → (t : ℕ) (s : TargetState) → slice_get first.targets t ≡ Some s → s.free ≡ g.opening.free t
@@ -328,7 +362,7 @@ module _ {S C : Type 0} (durable : S → Option Durable) (state : S → State) (
       issued_there = issued-there some so;
       in_real_time = in-real-time some so;
       running = store-runs some so;
-      settled = record { entries = entries some so; held = held };
+      settled = record { entries = entries some so; everywhere = at-members some so; held = held };
       unstopped = ends-unstopped some so;
       sound = λ F f sound lasts m. leaves-sound lasts m F f sound;
       unsnapped = λ plain lasts m. none-created r g.opening first (last lasts m) lasts plain.simple (begun plain) (orders-are-runs r g.job.order first (last lasts m) (run lasts m).run) (keeps lasts m);

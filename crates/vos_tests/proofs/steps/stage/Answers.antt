@@ -7,7 +7,7 @@ use Rattle.vos_tests.proofs.Allowed.{at-told, can_prepare, preparable}
 use Rattle.vos_tests.proofs.steps.stage.Goals as goal
 
 pub prepare-requires-clause-form : goal.prepare-requires-clause-form
-prepare-requires-clause-form g c = preparable (g.S.Store.state c.args.store.now) c.attempt.result c.args.write c.requires.targets c.requires.write
+prepare-requires-clause-form g c = preparable (g.S.Store.state c.args.store.now) c.attempt.result 256 c.args.write c.requires.targets c.requires.write
 
 pub prepare-requires-clause-here : goal.prepare-requires-clause-here
 prepare-requires-clause-here g c = λ run.
