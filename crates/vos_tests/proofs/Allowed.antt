@@ -1,6 +1,6 @@
 -- What the calls of the rows ask, from what the calls before made.
-use Rattle.std.proofs.Common.{◌≡◌, ℕ, ◌<◌, ◌≤◌, ◌^◌, zero, suc, true, false, List, [], ◌∷◌, Option, Some, refl, sym, ◌∙◌, ap, subst, arith}
-use Rattle.std.specs.Prelude.{All}
+use Rattle.std.proofs.Common.{◌≡◌, ℕ, ◌<◌, ◌≤◌, ◌^◌, zero, suc, true, false, List, [], ◌∷◌, Option, None, Some, refl, sym, ◌∙◌, ap, subst, arith}
+use Rattle.std.specs.Prelude.{◌≢◌, All, Err, Ok, OnOk, Result}
 use Rattle.std.specs.Option.{ForSome, option_map}
 use Rattle.std.proofs.lemmas.List.Elements.{All-cons}
 use Rattle.std.proofs.lemmas.Option.{same_Some}
@@ -11,14 +11,16 @@ use Rattle.base_types.specs.declared.operation.Write.{Write}
 use Rattle.base_types.specs.declared.operation.Write.TheVariants.{Extent}
 use Rattle.base_types.specs.declared.path.Path.{Path}
 use Rattle.daos_model.specs.declared.durable.Durable.{Durable}
-use Rattle.daos_model.specs.Changes.{enlisted, leased, prepared, settled}
-use Rattle.daos_model.specs.Durables.{empty_durable, entry_of, is_enlisted, row_of}
+use Rattle.daos_model.specs.declared.durable.Version.{Version}
+use Rattle.daos_model.specs.Changes.{enlisted, leased, marked, prepared, pruned, settled, with_versions}
+use Rattle.daos_model.specs.Durables.{empty_durable, entry_of, is_enlisted, row_of, same_attempt, version_key}
 use Rattle.daos_model.specs.EntryLaws.{entry_of-prepared}
 use Rattle.daos_model.specs.Forms.{AreWritesInForm, is_read_in_form, is_write_in_form}
 use Rattle.vos_store.specs.Answers.{floor_of}
 use Rattle.vos_store.specs.Calls.{State}
-use Rattle.vos_store.specs.Conditions.{CanPrepare, CanSettle, CanWrite, IsPreparable}
-use Rattle.vos_tests.specs.Rows.{IsHere, akey, alone, attempt, cont, entry, epoch, staged, started, unopened}
+use Rattle.daos_model.specs.Versions.{done_by, version_of, version_path}
+use Rattle.vos_store.specs.Conditions.{CanPrepare, CanPrune, CanSettle, CanWrite, IsPreparable}
+use Rattle.vos_tests.specs.Rows.{CanPut, IsHere, akey, alone, attempt, cont, entry, entry_at, epoch, one, put, put_one, put_two, staged, started, two, unopened, value}
 
 -- what is kept is known where it is told
 pub at-told : (P : Durable → Type 0) (o : Option Durable) (d : Durable) → o ≡ Some d → P d → ForSome o P
@@ -34,6 +36,14 @@ records_here p bytes e f = record {
 pub read_here : (p : Path) → p ≡ akey → is_read_in_form (read.Extent p 0 4) ≡ true
 unfolding is_read_in_form
 read_here p e = ap (λ q. is_read_in_form (read.Extent q 0 4)) e
+
+pub value_read : (p : Path) → p ≡ akey → is_read_in_form (read.Single p) ≡ true
+unfolding is_read_in_form
+value_read p e = ap (λ q. is_read_in_form (read.Single q)) e
+
+pub on-ok : {T E : Type 0} (r : Result T E) {P Q : Type 0} → (P → Q) → OnOk r P → OnOk r Q
+on-ok (Ok x) f p = f p
+on-ok (Err e) f p = tt
 
 -- ---- the steps
 
@@ -123,11 +133,11 @@ unfolding put
 put_is None p q n e bytes f g = g ∙ ap (option_map (settled (attempt n) Commit)) f
 put_is (Some d) p q n e bytes f g = g ∙ ap (option_map (settled (attempt n) Commit)) f
 
-one_in_form : is_write_in_form (value one) ≡ true
+pub one_in_form : is_write_in_form (value one) ≡ true
 unfolding is_write_in_form
 one_in_form = refl
 
-two_in_form : is_write_in_form (value two) ≡ true
+pub two_in_form : is_write_in_form (value two) ≡ true
 unfolding is_write_in_form
 two_in_form = refl
 
@@ -138,14 +148,26 @@ floor-put : (floor_of unopened put_one cont).0.0 < 512
 unfolding floor_of row_of put_one put started enlisted leased prepared settled
 floor-put = omega arith
 
+abbrev put_version : ℕ → ℕ → List ℕ → Version
+put_version n e bytes = version_of (entry_at n e) (record { minor = 0; write = value bytes })
+
+-- the first number of a list, or 0
+abbrev first_of : List ℕ → ℕ
+first_of [] = 0
+first_of (n ∷ ns) = n
+
+another-place : version_key (done_by (attempt 0) (put_version 0 256 one)) ≢ version_key (put_version 1 512 two)
+unfolding done_by
+another-place same = let differ : 256 ≡ 512 = ap first_of same in absurd (omega (arith, differ))
+
 pub can_put_two : (s : State) → s.opening ≡ unopened → CanPut s 1 512 two put_one
-unfolding entry_of is_enlisted put_one put started enlisted leased prepared settled version_key
+unfolding entry_of is_enlisted put_one put started enlisted leased prepared settled same_attempt
 can_put_two s o = record {
   absent = refl;
   each = one_passes (CanWrite s (entry_at 1 512) put_one) (record { minor = 0; write = value two }) (record {
     enlisted = refl;
     above = subst (λ f. (floor_of f put_one cont).0.0 < 512) (sym o) floor-put;
-    new = one_passes (λ v. version_key v ≢ version_key (version_of (entry_at 1 512) (record { minor = 0; write = value two }))) _ (λ same. let no : ⊥ = cc in absurd no);
+    new = one_passes (λ v. version_key v ≢ version_key (put_version 1 512 two)) (done_by (attempt 0) (put_version 0 256 one)) another-place;
   });
   leased = omega arith;
 }
@@ -162,14 +184,19 @@ pub enlisted-put : is_enlisted put_two cont ≡ true
 unfolding is_enlisted put_two put_one put started enlisted leased prepared settled
 enlisted-put = refl
 
+abbrev Settled : Version → Type 0
+Settled v = (version_path v).cont ≡ cont → v.epoch.0 ≤ (epoch 600).0 → v.done ≡ true
+
 pub can_prune : CanPrune cont (epoch 600) put_two
-unfolding is_enlisted put_two put_one put started enlisted leased prepared settled
+unfolding is_enlisted put_two put_one put started enlisted leased prepared settled done_by same_attempt
 can_prune = record {
   enlisted = refl;
-  settled = All-cons (λ v. (version_path v).cont ≡ cont → v.epoch.0 ≤ 600 → v.done ≡ true) _ _ (λ its low. refl) (one_passes (λ v. (version_path v).cont ≡ cont → v.epoch.0 ≤ 600 → v.done ≡ true) _ (λ its low. refl));
+  settled =
+      All-cons Settled (done_by (attempt 1) (done_by (attempt 0) (put_version 0 256 one))) (done_by (attempt 1) (put_version 1 512 two) ∷ []) (λ its low. refl)
+      (one_passes Settled (done_by (attempt 1) (put_version 1 512 two)) (λ its low. refl));
   leased = omega arith;
 }
 
 pub enlisted-pruned : is_enlisted (pruned cont (epoch 600) 0 put_two) cont ≡ true
-unfolding is_enlisted pruned marked put_two put_one put started enlisted leased prepared settled
+unfolding is_enlisted pruned marked put_two put_one put started enlisted leased prepared settled with_versions
 enlisted-pruned = refl
