@@ -10,6 +10,7 @@ pub mod Turned
 pub mod Openings
 pub mod InTurn
 pub mod Kinds
+pub mod Asked
 pub mod Ends
 pub mod Steps
 pub mod InTurnLaws
@@ -22,6 +23,7 @@ pub mod Stopping
 pub mod Reopening
 pub mod Clients
 pub mod Lettered
+pub mod AskedLaws
 pub mod EndsLaws
 pub mod Fitting
 pub mod Going

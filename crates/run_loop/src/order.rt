@@ -10,6 +10,7 @@ ghost use Rattle.run_loop.specs.Loops.{all_from_draw, in_order, turn_of};
 ghost use Rattle.run_laws.specs.shows.Accounts.{AreAccounted, AreServed};
 ghost use Rattle.run_laws.specs.shows.CanGo.{CanGo};
 ghost use Rattle.run_laws.specs.shows.Due.{IsActor, IsUp};
+ghost use Rattle.run_laws.specs.shows.Asked.{AllTellInOrder};
 ghost use Rattle.run_laws.specs.shows.InTurn.{AllBeginInTurn, TellInTurn};
 ghost use Rattle.run_laws.specs.shows.Ends.{EndsGoOn};
 ghost use Rattle.run_laws.specs.shows.Kinds.{AnswersGoOn};
@@ -231,6 +232,7 @@ pub fn run_in_order<R: Wait, S: Fuse, C: Clock, G: Gate>(
     ensures in_turn { (r : Rules) → TellInTurn r (stage_now stage) → IfOk result.2 (AllBeginInTurn r.attempts r.script) }
     ensures kinds { (r : Rules) → AnswersGoOn r (stage_now stage) → IfOk result.2 (AllAnswersFit r.script) }
     ensures ends { (r : Rules) → EndsGoOn r (stage_now stage) → IfOk result.2 (AllEndWell r.script) }
+    ensures in_order { (r : Rules) → EndsGoOn r (stage_now stage) → IfOk result.2 (AllTellInOrder r.script) }
 {
     let went = go(rt, alloc, order, &mut stage, gate);
     let Stage {

@@ -3,6 +3,7 @@ use Rattle.std.specs.Prelude.{ℕ, ◌≡◌, List, slice_get, Some}
 use Rattle.base_types.specs.declared.report.Attempt.{Attempt}
 use Rattle.client_core.specs.Clients.{ClientNow}
 use Rattle.model_laws.specs.Members.{Has}
+use Rattle.run_laws.specs.shows.Asked.{AllTellInOrder}
 use Rattle.run_laws.specs.shows.Kinds.{AnswersGoOn}
 use Rattle.run_base.specs.Letters.{BetweenNow}
 use Rattle.run_laws.specs.shows.InTurn.{TellInTurn}
@@ -42,13 +43,14 @@ pub record AllGoWith {S C : Type 0} (asked : Asked) (a : StageNow S C) : Type 0 
   pub targets : AllWaitWith asked a.targets a.watch.lives
 
 -- What the lines tell fits; what goes about, and what targets wait for, goes with what clients have asked to commit; and all attempts that the
--- lines tell of ended well.
+-- lines tell of ended well, and tell of their operations in order.
 pub record EndsGoOn {S C : Type 0} (r : Rules) (a : StageNow S C) : Type 0 where
   pub answers : AnswersGoOn r a
   pub asked : Asked
   pub clients : (n : ℕ) (c : ClientNow) → slice_get a.clients n ≡ Some c → IsEndingClient (client_plan r n) c.state asked
   pub going : AllGoWith asked a
   pub lines : AllEndWell r.script a.between.lines
+  pub in_order : AllTellInOrder r.script a.between.lines
 
 -- What turns keep of what lines tell: from one moment to another they tell in turn, what they tell fits, and attempts end well.
 pub record TellsOn {S C : Type 0} (r : Rules) (a b : StageNow S C) : Type 0 where

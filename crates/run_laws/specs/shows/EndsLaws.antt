@@ -26,6 +26,8 @@ use Rattle.model_laws.specs.DecidedLaws.{all-from_has, has-all}
 use Rattle.model_laws.specs.Members.{Has, has-cases, has-from_filter, has-from_map, has-left, has-right}
 use Rattle.run_base.specs.Letters.{BetweenNow, IsPicked}
 use Rattle.run_base.specs.Sweeps.{is_left_by, is_lost_by}
+use Rattle.run_laws.specs.shows.Asked.{AllTellInOrder, CameInOrder, TellsInOrder}
+use Rattle.run_laws.specs.shows.AskedLaws.{IsWholeOrInOrder, hear-turn-so, next-turn-so, whole-in-order}
 use Rattle.run_laws.specs.shows.Ends.{AllGoWith, AllWaitWith, BetweenGoes, EndsGoOn, IsEndingClient, LettersGoWith, TellsOn}
 use Rattle.run_laws.specs.shows.InTurn.{TellInTurn}
 use Rattle.run_laws.specs.shows.InTurnLaws.{client-tells, line-alone, none-tried, one-line, target-tells, turned-lines}
@@ -259,6 +261,7 @@ target-ends durable state may r a b t is_read settling number turned k =
       clients = λ n c at. k.clients n c (ap (λ cs. slice_get cs n) (sym left.clients) ∙ at);
       going = left.going;
       lines = subst (All (HasEndedWell r.script)) (sym left.lines) k.lines;
+      in_order = subst (All (TellsInOrder r.script)) (sym left.lines) k.in_order;
     }
 
 -- ---- lines
@@ -281,22 +284,42 @@ lines-well s issued ls more k l =
     subst (All (HasEndedWell s)) (sym (tries-append ls (map (with_epoch issued) more)))
     (All-append (HasEndedWell s) (tries ls) (tries (map (with_epoch issued) more)) k (subst (All (HasEndedWell s)) (sym (tries-filled issued more)) (all-filled s issued (tries more) l)))
 
+filled-in-order : (s : Script) (issued : List (AttemptId × Epoch)) (a : Attempt) → TellsInOrder s a → TellsInOrder s (filled issued a)
+filled-in-order s issued a k = (k.0, record { conditions = k.1.conditions; answers = k.1.answers })
+
+lines-in-order : (s : Script) (issued : List (AttemptId × Epoch)) (ls more : List Line) → AllTellInOrder s ls → All (TellsInOrder s) (tries more) → AllTellInOrder s (ls ++ map (with_epoch issued) more)
+lines-in-order s issued ls more k l =
+    subst (All (TellsInOrder s)) (sym (tries-append ls (map (with_epoch issued) more)))
+    (All-append (TellsInOrder s) (tries ls) (tries (map (with_epoch issued) more)) k
+    (subst (All (TellsInOrder s)) (sym (tries-filled issued more)) (All-map (TellsInOrder s) (filled issued) (tries more) (All-weaker (TellsInOrder s) (λ a. TellsInOrder s (filled issued a)) (filled-in-order s issued) (tries more) l))))
+
 -- ---- a client's turn
 
 module _ {S C : Type 0} (r : Rules) (n : ℕ) (c d : ClientNow) (did : Did) (left : BetweenNow) (a : StageNow S C) (here : slice_get a.clients n ≡ Some c) (lines : left.lines ≡ a.between.lines) (k : EndsGoOn r a) (goes : BetweenGoes k.asked left)
-    (turn : LeavesWell (client_plan r n) k.asked d.state did.posts ((k.clients n c here).attempts ++ tries did.lines)) where
+    (turn : LeavesWell (client_plan r n) k.asked d.state did.posts ((k.clients n c here).attempts ++ tries did.lines)) (so : All (IsWholeOrInOrder (client_plan r n)) (tries did.lines)) where
   abbrev client-now : StageNow S C
   client-now = swept_stage (with_between (followed (client n) did left) (with_client_at n d a))
 
   abbrev asked-now : Asked
   asked-now = turn.asking.now
 
-  -- its attempts ended well, by the script
+  -- its attempts are attempts of commands of its own
+  its-own : (x : Attempt) → Has x (tries did.lines) → x.id.client ≡ n
+  its-own x i =
+      stands-of (client_plan r n) d.state.place d.state.command (number_of d.state.present) ((k.clients n c here).attempts ++ tries did.lines) turn.tells.told x (has-right (k.clients n c here).attempts (tries did.lines) x i)
+
+  -- they ended well, by the script
   told-well : All (HasEndedWell r.script) (tries did.lines)
   told-well = all-from_has (HasEndedWell r.script) (tries did.lines) (λ x i.
-      let j = has-right (k.clients n c here).attempts (tries did.lines) x i in
-      let own = stands-of (client_plan r n) d.state.place d.state.command (number_of d.state.present) ((k.clients n c here).attempts ++ tries did.lines) turn.tells.told x j in
-      subst (λ ops. EndsWell ops x x.outcome) (script-ops r n x own) (has-all (EndsAsAnswered (client_plan r n)) ((k.clients n c here).attempts ++ tries did.lines) x turn.tells.answers.ended j))
+      subst (λ ops. EndsWell ops x x.outcome) (script-ops r n x (its-own x i))
+      (has-all (EndsAsAnswered (client_plan r n)) ((k.clients n c here).attempts ++ tries did.lines) x turn.tells.answers.ended (has-right (k.clients n c here).attempts (tries did.lines) x i)))
+
+  -- and tell of their operations in order
+  told-in-order : All (TellsInOrder r.script) (tries did.lines)
+  told-in-order = all-from_has (TellsInOrder r.script) (tries did.lines) (λ x i. elim (has-all (IsWholeOrInOrder (client_plan r n)) (tries did.lines) x so i) [
+    | inl committed ↦ whole-in-order (attempt_ops r.script x.id) x (subst (EndsWell (attempt_ops r.script x.id) x) committed (has-all (HasEndedWell r.script) (tries did.lines) x told-well i))
+    | inr came ↦ subst (λ ops. CameInOrder ops x) (script-ops r n x (its-own x i)) came
+  ])
 
   client-well : AnswersGoOn r client-now → EndsGoOn r client-now
   client-well answers = record {
@@ -315,6 +338,7 @@ module _ {S C : Type 0} (r : Rules) (n : ℕ) (c d : ClientNow) (did : Did) (lef
           record { waiting = λ u y i is. turn.asking.more u.attempt (old.waiting u y i is); making = λ n i. turn.asking.more n.attempt (old.making n i) };
     });
     lines = lines-well r.script left.issued left.lines did.lines (subst (AllEndWell r.script) (sym lines) k.lines) told-well;
+    in_order = lines-in-order r.script left.issued left.lines did.lines (subst (AllTellInOrder r.script) (sym lines) k.in_order) told-in-order;
   }
     where
       it-is : (m : ℕ) (x : ClientNow) → m ≡ n → slice_get (slice_set a.clients n d) m ≡ Some x → d ≡ x
@@ -339,17 +363,23 @@ client-ends r n number a b w k = by w.works
         (client-well r n w.before w.now w.did w.left a w.here (ap (λ q. q.lines) is) k (subst (BetweenGoes k.asked) (sym is) (left-goes k.asked a.between (client n) number l rest picked k.going.between))
         (hear-turn-well (client_plan r n) w.before.state w.now.state old.attempts (loads_of a) k.asked l.message w.did k.answers.in_turn.some_attempt old.tells (k.answers.clients n w.before w.here) old.asking
         (λ x s. let all = picked-load a (client n) number l rest w.left picked is x s in omega (arith, all))
-        (k.going.between.letters l (picked-among a.between.messages (client n) number l rest picked)) (subst (λ p. HearTurn p w.before.state l.message w.did w.now.state) its turn)) answers)
+        (k.going.between.letters l (picked-among a.between.messages (client n) number l rest picked)) (subst (λ p. HearTurn p w.before.state l.message w.did w.now.state) its turn))
+        (hear-turn-so (client_plan r n) w.before.state w.now.state l.message old.attempts w.did old.tells (subst (λ p. HearTurn p w.before.state l.message w.did w.now.state) its turn)) answers)
     by (WentOn none is turn) =
         subst (EndsGoOn r) (sym w.after)
         (client-well r n w.before w.now w.did w.left a w.here (ap (λ q. q.lines) is) k (subst (BetweenGoes k.asked) (sym is) k.going.between)
-        (next-turn-well (client_plan r n) w.before.state w.now.state old.attempts k.asked w.did k.answers.in_turn.some_attempt old.tells old.asking (subst (λ p. NextTurn p w.before.state w.did w.now.state) its turn)) answers)
+        (next-turn-well (client_plan r n) w.before.state w.now.state old.attempts k.asked w.did k.answers.in_turn.some_attempt old.tells old.asking (subst (λ p. NextTurn p w.before.state w.did w.now.state) its turn))
+        (next-turn-so (client_plan r n) w.before.state w.now.state w.did (subst (λ p. NextTurn p w.before.state w.did w.now.state) its turn)) answers)
 
 -- ---- before any turn
 
 none-told : (s : Script) → AllEndWell s []
 unfolding tries
 none-told s = All-nil (HasEndedWell s)
+
+none-in-order : (s : Script) → AllTellInOrder s []
+unfolding tries
+none-in-order s = All-nil (TellsInOrder s)
 
 nothing-told : (p : ClientPlan) (c : ClientState) → c.place ≡ 0 → c.command ≡ 0 → c.present ≡ None → Tells p c []
 nothing-told p c place command none = record {
@@ -373,6 +403,7 @@ ends-first r a answers clients targets messages unanswered lines = record {
     targets = λ t x there stands. record { waiting = λ u y i is. absurd (subst (Has u) (targets t x there).0 i); making = λ n i. absurd (subst (Has n) (targets t x there).1 i) };
   };
   lines = subst (AllEndWell r.script) (sym lines) (none-told r.script);
+  in_order = subst (AllTellInOrder r.script) (sym lines) (none-in-order r.script);
 }
 
 -- ---- what turns keep

@@ -1,6 +1,7 @@
 use Rattle.std.proofs.Common.{arith, subst, sym}
 use Rattle.run_loop.proofs.Turns.{few-targets}
 use Rattle.run_laws.specs.shows.Accounts.{AreAccounted}
+use Rattle.run_laws.specs.shows.Asked.{AllTellInOrder}
 use Rattle.run_laws.specs.shows.InTurn.{AllBeginInTurn}
 use Rattle.run_laws.specs.shows.InTurnLaws.{all-begin}
 use Rattle.run_stage.specs.Now.{stage_now}
@@ -34,6 +35,9 @@ returns-in-Ok-clause-kinds g c r k = subst (AllAnswersFit r.script) (sym c.into_
 
 pub returns-in-Ok-clause-ends : goal.returns-in-Ok-clause-ends
 returns-in-Ok-clause-ends g c r k = subst (AllEndWell r.script) (sym c.into_lines-lines.ensures) ((c.in-Ok.ensures.goes.tells r).ends k).lines
+
+pub returns-in-Ok-clause-in_order : goal.returns-in-Ok-clause-in_order
+returns-in-Ok-clause-in_order g c r k = subst (AllTellInOrder r.script) (sym c.into_lines-lines.ensures) ((c.in-Ok.ensures.goes.tells r).ends k).in_order
 
 pub returns-in-Ok-clause-reopens : goal.returns-in-Ok-clause-reopens
 returns-in-Ok-clause-reopens g c = can-reopen g.S.Store.durable g.S.Store.state g.S.Store.may g.met.S.Store.steady (stage_now c.go-went.new.stage) c.in-Ok.ensures.goes.going
