@@ -4,4 +4,5 @@ pub mod Marks
 pub mod Snaps
 pub mod Space
 pub mod Tries
+pub mod Spelled
 pub mod Reports

@@ -56,7 +56,7 @@ module _ (s : Script) (id : AttemptId) where
 
   -- ---- operations
 
-  op-mark : (n : ℕ) (op : Op) → slice_get (attempt_ops s id) n ≡ Some op → mark_at (table_of s) id n ≡ Some (mark_of op)
+  pub op-mark : (n : ℕ) (op : Op) → slice_get (attempt_ops s id) n ≡ Some op → mark_at (table_of s) id n ≡ Some (mark_of op)
   op-mark n op at = by (command_of s id) refl
     where
       by : (o : Option Command) → command_of s id ≡ o → mark_at (table_of s) id n ≡ Some (mark_of op)
