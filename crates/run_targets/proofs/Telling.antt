@@ -12,6 +12,8 @@ use Rattle.daos_model.specs.declared.durable.Durable.{Durable}
 use Rattle.run_laws.specs.ends.Comes.{report_with}
 use Rattle.run_laws.specs.ends.Places.{from-map}
 use Rattle.run_laws.specs.ends.Starts.{AreFirst, HaveStarted}
+use Rattle.report_round_trip.specs.Values.{AllTellBytes}
+use Rattle.run_laws.specs.shows.Asked.{AllTellInOrder}
 use Rattle.run_laws.specs.shows.InTurn.{AllBeginInTurn, TellInTurn}
 use Rattle.run_laws.specs.shows.InTurnLaws.{tells-first}
 use Rattle.run_laws.specs.shows.ListLaws.{map-get}
@@ -47,3 +49,9 @@ kinds-last s ran lines report all is same = subst (λ q. AllAnswersFit s q.lines
 
 pub ends-last : {E : Type 0} (s : Script) (ran : Result (List Line) E) (lines : List Line) (report : Report) → IfOk ran (AllEndWell s) → ran ≡ Ok lines → report ≡ report_with s lines → AllEndWell s report.lines
 ends-last s ran lines report all is same = subst (λ q. AllEndWell s q.lines) (sym same) (subst (λ q. IfOk q (AllEndWell s)) is all)
+
+pub in-order-last : {E : Type 0} (s : Script) (ran : Result (List Line) E) (lines : List Line) (report : Report) → IfOk ran (AllTellInOrder s) → ran ≡ Ok lines → report ≡ report_with s lines → AllTellInOrder s report.lines
+in-order-last s ran lines report all is same = subst (λ q. AllTellInOrder s q.lines) (sym same) (subst (λ q. IfOk q (AllTellInOrder s)) is all)
+
+pub bytes-last : (s : Script) (lines : List Line) (report : Report) → AllTellBytes lines → report ≡ report_with s lines → AllTellBytes report.lines
+bytes-last s lines report all same = subst (λ q. AllTellBytes q.lines) (sym same) all

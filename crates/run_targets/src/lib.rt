@@ -4,3 +4,4 @@
 mod fuses;
 mod report;
 pub mod run;
+mod values;

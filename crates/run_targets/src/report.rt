@@ -3,7 +3,9 @@ ghost use Rattle.std.specs.Prelude.{◌≡◌, Some};
 ghost use Rattle.daos_model.specs.Stops.{down_targets, least, least_with};
 ghost use Rattle.run_laws.specs.ends.Comes.{report_with};
 ghost use Rattle.run_laws.specs.ends.Reports.{AreTyped, HasTypedNumbers};
+ghost use Rattle.report_round_trip.specs.Values.{AllTellBytes};
 
+use crate::values::tells_bytes;
 use base_types::epoch::TargetId;
 use base_types::report::{Line, Lines, Report};
 use base_types::script::Script;
@@ -45,10 +47,12 @@ fn lower(first: Option<TargetId>, target: TargetId) -> TargetId
 fn first_down(lines: &[Line]) -> Option<TargetId>
     ensures least { result ≡ least (down_targets lines.now) }
     ensures typed { AreTyped lines.now }
+    ensures bytes { AllTellBytes lines.now }
 {
     let mut first: Option<TargetId> = None;
     for line in lines {
         read_numbers(line);
+        tells_bytes(line);
         if let Line::Down { target } = line {
             first = Some(lower(first, *target));
         }
@@ -60,6 +64,7 @@ fn first_down(lines: &[Line]) -> Option<TargetId>
 pub fn report_of(script: &Script, lines: Lines) -> Report
     ensures report { result ≡ report_with script.now lines }
     ensures typed { AreTyped lines }
+    ensures bytes { AllTellBytes lines }
 {
     let down = first_down(lines.as_slice());
     Report {

@@ -4,7 +4,9 @@ ghost use Rattle.daos_model.specs.Opening.{Opening};
 ghost use Rattle.run_laws.specs.ends.Comes.{BreaksOffSo, ComesTo, IsReportOfLines};
 ghost use Rattle.run_laws.specs.ends.Starts.{AllTell, HaveStarted, given_by, stores_of};
 ghost use Rattle.run_laws.specs.shows.Accounts.{AreServed};
+ghost use Rattle.run_laws.specs.shows.Asked.{AllTellInOrder};
 ghost use Rattle.run_laws.specs.shows.InTurn.{AllBeginInTurn};
+ghost use Rattle.report_round_trip.specs.Values.{AllTellBytes};
 ghost use Rattle.world_ended.specs.Clients.{AllEndWell};
 ghost use Rattle.world_letters.specs.kinds.Fitting.{AllAnswersFit};
 ghost use Rattle.target_core.specs.Targets.{TargetOf};
@@ -54,6 +56,8 @@ pub fn run_targets<R: Wait, S: Fuse, C: Clock, G: Gate>(
     ensures in_turn { IfOk result.1 (λ report. AllBeginInTurn job.now.attempts script.now report.lines) }
     ensures kinds { IfOk result.1 (λ report. AllAnswersFit script.now report.lines) }
     ensures ends { IfOk result.1 (λ report. AllEndWell script.now report.lines) }
+    ensures in_order { IfOk result.1 (λ report. AllTellInOrder script.now report.lines) }
+    ensures bytes { IfOk result.1 (λ report. AllTellBytes report.lines) }
     ensures served { AreServed S.durable S.state C.is_read targets.items result.0.items }
     ensures unfused { (t : ℕ) (y : TargetOf S C) → slice_get result.0.items t ≡ Some y → (S.state y.store).tells_fuse ≡ true → (S.state y.store).fused ≡ false }
 {

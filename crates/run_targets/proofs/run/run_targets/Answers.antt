@@ -1,5 +1,5 @@
 use Rattle.run_targets.proofs.Runs.{all-served, answers-begin, breaks-early, breaks-late, comes, ends-begin, goes, put-served, put-unfused}
-use Rattle.run_targets.proofs.Telling.{ends-last, kinds-last, told-last}
+use Rattle.run_targets.proofs.Telling.{bytes-last, ends-last, in-order-last, kinds-last, told-last}
 use Rattle.run_laws.specs.ends.Starts.{given_by}
 use Rattle.world_plain.specs.ends.Ends.{rules_of}
 use Rattle.run_targets.proofs.run.run_targets.Goals as goal
@@ -51,6 +51,20 @@ returns-in-Ok-ran-clause-ends g c =
     (ends-begin g.S.Store.durable g.S.Store.state g.S.Store.may c.args.script.now c.args.job.now c.args.clients.items c.args.targets c.deref_mut-2.result.now c.arm.new.targets c.deref_mut-2.ensures.value c.in-Ok.watch c.arm.new.watch b.result c.as_slice.result.now c.arm.ensures c.as_slice.ensures c.in-Ok.ensures b.ensures.messages b.ensures.asked b.ensures.issued b.ensures.lines
     c.requires.started.0 c.requires.started.1))
     c.in-Ok-ran.is c.report_of.ensures.report
+
+pub returns-in-Ok-ran-clause-in_order : goal.returns-in-Ok-ran-clause-in_order
+returns-in-Ok-ran-clause-in_order g c =
+    let given = given_by c.args.script.now c.args.job.now c.requires.started.0 in
+    let b = c.new-2 in
+    let ran = c.run_in_order-targets in
+    in-order-last c.args.script.now ran.result.2 c.in-Ok-ran.lines c.report_of.result
+    (ran.ensures.in_order (rules_of given)
+    (ends-begin g.S.Store.durable g.S.Store.state g.S.Store.may c.args.script.now c.args.job.now c.args.clients.items c.args.targets c.deref_mut-2.result.now c.arm.new.targets c.deref_mut-2.ensures.value c.in-Ok.watch c.arm.new.watch b.result c.as_slice.result.now c.arm.ensures c.as_slice.ensures c.in-Ok.ensures b.ensures.messages b.ensures.asked b.ensures.issued b.ensures.lines
+    c.requires.started.0 c.requires.started.1))
+    c.in-Ok-ran.is c.report_of.ensures.report
+
+pub returns-in-Ok-ran-clause-bytes : goal.returns-in-Ok-ran-clause-bytes
+returns-in-Ok-ran-clause-bytes g c = bytes-last c.args.script.now c.in-Ok-ran.lines c.report_of.result c.report_of.ensures.bytes c.report_of.ensures.report
 
 pub returns-in-Ok-ran-clause-served : goal.returns-in-Ok-ran-clause-served
 returns-in-Ok-ran-clause-served g c =
