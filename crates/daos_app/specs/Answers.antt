@@ -16,6 +16,7 @@ use Rattle.script_traits.specs.Plain.{IsPlain}
 use Rattle.report_writer.specs.Reports.{report_text}
 use Rattle.model_reports.specs.Rooms.{FindsRoom, HasRoom}
 use Rattle.daos_run.specs.Alone.{IsOfLoneClient}
+use Rattle.daos_run.specs.Back.{IsReadBack}
 use Rattle.daos_run.specs.Comes.{FindsPlaces, FollowsFromZeros}
 use Rattle.daos_run.specs.Legal.{IsInRealTime, IsLegal}
 use Rattle.daos_status.specs.declared.status.Status.{Status}
@@ -26,12 +27,13 @@ use Rattle.world_plain.specs.lone.LoneRuns.{AreIssuedThere}
 -- ---- what is written
 
 -- What the report of a run is: legal for the script by the headline, over regions of zeros that nothing disturbs, whichever attempts are taken
--- as resolved; and in the form in which a text determines its report.
+-- as resolved; and in the form in which a text determines its report, which is read back of its text.
 -- It tells of turns in the order asked; the targets of the run issued all epochs; and where there is room for all that the script writes, and places for
 -- its snapshots, no attempt is refused for want of these. Of a script without snapshots the order of epochs is that of real time where the clocks keep the
 -- bound, and a client that is alone is never told to restart where the script asks for no stop.
 pub record IsRunReport (g : Given) (q : Report) : Type 0 where
   pub form : IsReportOf g.script q
+  pub back : IsReadBack g.script q
   pub legal : IsLegal g q
   pub ordered : FollowsFromZeros g q
   pub issued : AreIssuedThere q

@@ -10,5 +10,6 @@ pub mod Firsts
 pub mod Begun
 pub mod Whole
 pub mod Lone
+pub mod Back
 pub mod Unstopped
 pub mod Plain

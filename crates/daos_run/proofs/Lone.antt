@@ -83,14 +83,14 @@ is-of-lone-client s j q F one k = record {
 -- ---- whatever is found in the end
 
 -- an outside of which nothing is told
-abbrev silent : Outside
+abbrev pub silent : Outside
 silent = record { rises = λ t. None; foreign = λ t. false; keeps = λ t. true }
 
-silent-fits : {S : Type 0} (state : S → State) (xs ys : List S) → IsOutside state silent xs ys
+pub silent-fits : {S : Type 0} (state : S → State) (xs ys : List S) → IsOutside state silent xs ys
 silent-fits state xs ys = record { counts = λ t x y k at to says. let no : ⊥ = cc in absurd no }
 
 -- where one store tells what it keeps so do all of its type, and something may be found of each
-all-found : {S : Type 0} (durable : S → Option Durable) (may : S → Durable → Type 0) → AreFindable durable may → AreAlike durable → (x : S) → is_some (durable x) ≡ true → (ys : List S) → (lasts : List Durable) × MayBeFound may ys lasts
+pub all-found : {S : Type 0} (durable : S → Option Durable) (may : S → Durable → Type 0) → AreFindable durable may → AreAlike durable → (x : S) → is_some (durable x) ≡ true → (ys : List S) → (lasts : List Durable) × MayBeFound may ys lasts
 all-found durable may findable alike x told ys = (some_lasts durable may findable (λ y. alike x y told) ys, some-may_be durable may findable (λ y. alike x y told) ys)
 
 module _ {S : Type 0} (durable : S → Option Durable) (state : S → State) (may : S → Durable → Type 0) (s : Script) (j : Job) (opening : Opening) (old ys : List S) (q : Report) (F : IsInForm j.targets s) (some : 1 ≤ j.targets) (least : 1 ≤ j.attempts)

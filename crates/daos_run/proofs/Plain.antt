@@ -29,7 +29,7 @@ use Rattle.daos_run.specs.Starts.{IsNewStore}
 use Rattle.daos_run.specs.Stops.{HasRisen, IsOpeningFault, MayStop}
 use Rattle.daos_run.proofs.Places.{in-place, store-at, stores-many}
 use Rattle.daos_run.proofs.Unstopped.{no-down-told, no-stops-told}
-use Rattle.run_targets.specs.Ends.{IsInRealTime, IsLegal, IsOrdered, IsOutside, RunsPlainly, from-map, given_by, legal-by-any, one-there}
+use Rattle.run_targets.specs.Ends.{IsInRealTime, IsKeyed, IsLegal, IsOrdered, IsOutside, RunsPlainly, from-map, given_by, legal-by-any, one-there}
 use Rattle.run_opening.specs.All.{AreKept}
 use Rattle.run_opening.specs.Laws.{AreUnused}
 use Rattle.run_opening.specs.Opened.{enlisted_family, keeps, lasting_snaps}
@@ -175,6 +175,13 @@ module _ {C : Type 0} (targets size_mib : ℕ) (slots : List (Option (PlainStore
           ap (given_by s j) (unused-stand s (map plain_durable (stores_in slots)) (λ t. size_mib * 4096 - 1264) (are-unused (map plain_durable (stores_in slots)) all-kept))
           ∙ ap (λ n. given_by s j (fresh_opening n)) (sym size)
 
+      -- so there are keys where the script has keys
+      fresh-keyed : j.attempts ≤ 256 → ScriptHasKeys s → IsKeyed (fresh s j)
+      fresh-keyed byte keys = record { script = keys; opening = record { now = All-nil CellHasKeys; snaps = All-nil _ }; byte = byte }
+
+      pub are-keyed : j.attempts ≤ 256 → ScriptHasKeys s → IsKeyed their-given
+      are-keyed byte keys = subst IsKeyed (sym is-fresh) (fresh-keyed byte keys)
+
       come-plainly : (q : Report) → ComesFrom told_by plain_state found_in their-given (stores_in slots) (stores_in new) q → Comes q
       come-plainly q k = subst (λ g. ComesFrom told_by plain_state found_in g (stores_in slots) (stores_in new) q) is-fresh k
 
@@ -232,11 +239,7 @@ module _ {C : Type 0} (targets size_mib : ℕ) (slots : List (Option (PlainStore
         legal = on-ok result (λ q K by. legal-by-any (fresh s j) undisturbed (resolved (durables_of (ordered q K).follows.last)) by q (no-down-told (fresh s j) (resolved (durables_of (ordered q K).follows.last)) q (headline q K).told) (headline q K).told) R
 
         pub in-form : j.attempts ≤ 256 → ScriptHasKeys s → IfOk result (IsReportOf s)
-        in-form byte keys = on-ok result (λ q K. K.comes.form (record {
-          script = keys;
-          opening = record { now = All-nil CellHasKeys; snaps = All-nil _ };
-          byte = byte;
-        })) R
+        in-form byte keys = on-ok result (λ q K. K.comes.form (fresh-keyed byte keys)) R
 
         pub follows-order : s.targets ≡ targets → IfOk result (FollowsFromZeros (fresh s j))
         follows-order same = on-ok result (λ q K. from-zeros q K same) R

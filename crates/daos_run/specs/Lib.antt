@@ -5,4 +5,5 @@ pub mod Starts
 pub mod Stops
 pub mod Comes
 pub mod Alone
+pub mod Back
 pub mod Legal

@@ -1,6 +1,7 @@
 // Runs a script on targets.
 ghost use Rattle.std.specs.Prelude.{◌≡◌, ◌≤◌, [], replicate, IfOk, IsOkUnless, None, OnOk};
 ghost use Rattle.daos_model.specs.Opening.{fresh};
+ghost use Rattle.daos_run.specs.Back.{IsReadBack};
 ghost use Rattle.daos_run.specs.Comes.{FindsPlaces, FollowsFromZeros};
 ghost use Rattle.run_targets.specs.Ends.{IsInRealTime, IsLegal};
 ghost use Rattle.world_plain.specs.lone.LoneRuns.{AreIssuedThere};
@@ -73,6 +74,7 @@ pub fn run_script<R: Threads + Wait + Sync, B: Rack, G: Gate + Sync>(
     requires script { IsInForm job.now.targets script.now }
     ensures legal { IfOk result (IsLegal (fresh script.now job.now)) }
     ensures form { ScriptHasKeys script.now → IfOk result (IsReportOf script.now) }
+    ensures back { ScriptHasKeys script.now → IfOk result (IsReadBack script.now) }
     ensures ordered { IfOk result (FollowsFromZeros (fresh script.now job.now)) }
     ensures issued { IfOk result AreIssuedThere }
     ensures in_real_time { IsPlain script.now → IfOk result (IsInRealTime (fresh script.now job.now)) }

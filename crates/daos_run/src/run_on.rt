@@ -2,16 +2,19 @@
 ghost use Rattle.std.specs.Prelude.{◌≡◌, ◌≤◌, ℕ, List, [], length, IfErr, IfOk};
 ghost use Rattle.daos_model.specs.declared.durable.Durable.{Durable};
 ghost use Rattle.daos_model.specs.Stops.{stop_numbers};
+ghost use Rattle.daos_run.specs.Back.{IsReadBack};
 ghost use Rattle.daos_run.specs.Comes.{BreaksOff, ComesFrom, FindsPlaces};
 ghost use Rattle.daos_run.specs.Opens.{MayRun, given};
 ghost use Rattle.daos_run.specs.Slots.{AreFree, AreSet, ClocksAreRead, FusesAreGone, HaveStores, StoresAreServed, stores_in};
 ghost use Rattle.daos_run.specs.Stops.{IsOpeningFault, MayStop};
 ghost use Rattle.model_reports.specs.Lone.{HasOneClient};
 ghost use Rattle.model_reports.specs.Rooms.{FindsRoom, HasRoom};
+ghost use Rattle.run_laws.specs.shows.Asked.{AllTellInOrder};
 ghost use Rattle.run_laws.specs.shows.InTurn.{AllBeginInTurn};
 ghost use Rattle.world_ended.specs.Clients.{AllEndWell};
 ghost use Rattle.world_letters.specs.kinds.Fitting.{AllAnswersFit};
-ghost use Rattle.run_targets.specs.Ends.{IsReportOfLines, TellsOfLoneClient};
+ghost use Rattle.run_targets.specs.Ends.{IsKeyed, IsReportOfLines, TellsOfLoneClient};
+ghost use Rattle.report_round_trip.specs.Values.{AllTellBytes};
 ghost use Rattle.run_opening.specs.All.{AreKept, MayBeFound};
 ghost use Rattle.run_opening.specs.Opened.{lasting_snaps};
 ghost use Rattle.run_starts.specs.Starts.{CanOpen};
@@ -28,6 +31,7 @@ use base_outside::gate::Gate;
 use base_types::job::Job;
 use base_types::report::Report;
 use base_types::script::Script;
+use report_round_trip::laws_of_reading_back;
 use run_targets::run::run_targets;
 use std::alloc::Global;
 use std::sync::Wait;
@@ -41,8 +45,9 @@ use vos_store::store::Fuse;
 /// script doesn't drop; clients may read those that the script names. Fuses that are set are taken away; while
 /// the script runs, a store has those of its target's stop lines, one after another; in the end it has none. The
 /// stores and the clocks are set again at every ending, each at its place; a clock is then the one that was
-/// given, after so many readings. Where a store tells nothing of what it keeps, only `told`, `in_turn`, `kinds`
-/// and `ends` bind what the report tells; the run is safe, and errors are told as of any others.
+/// given, after so many readings. Where a store tells nothing of what it keeps, only `told`, `in_turn`, `kinds`,
+/// `ends`, `in_order` and `bytes` bind what the report tells; the run is safe, and errors are told as of any
+/// others.
 ///
 /// The script may make snapshots, read at them and aggregate; `lone` is of scripts that don't.
 ///
@@ -77,6 +82,7 @@ pub fn run_on<R: Threads + Wait + Sync, S: Fuse + Send, C: Clock + Send, G: Gate
         (λ stop. (lasts : List Durable) → MayBeFound S.may (stores_in parts.new) lasts → BreaksOff (given script.now job.now B free) B lasts) }
     ensures room { (B : List Durable) → AreKept S.durable (stores_in parts.old) B → (free : ℕ → ℕ) → AreFree S.state parts.old free
         → FindsPlaces script.now job.now.attempts (length (given script.now job.now B free).opening.stand.snaps) → HasRoom script.now job.now.attempts free → IfOk result FindsRoom }
+    ensures back { (B : List Durable) → AreKept S.durable (stores_in parts.old) B → (free : ℕ → ℕ) → AreFree S.state parts.old free → IsKeyed (given script.now job.now B free) → IfOk result (IsReadBack script.now) }
     ensures lone { (B : List Durable) → AreKept S.durable (stores_in parts.old) B → (free : ℕ → ℕ) → AreFree S.state parts.old free
         → lasting_snaps script.now B ≡ [] → IsPlain script.now → HasOneClient script.now → script.now.stops ≡ []
         → IfOk result (λ report. stop_numbers report.lines ≡ [] → TellsOfLoneClient (given script.now job.now B free) report) }
@@ -84,6 +90,8 @@ pub fn run_on<R: Threads + Wait + Sync, S: Fuse + Send, C: Clock + Send, G: Gate
     ensures in_turn { IfOk result (λ report. AllBeginInTurn job.now.attempts script.now report.lines) }
     ensures kinds { IfOk result (λ report. AllAnswersFit script.now report.lines) }
     ensures ends { IfOk result (λ report. AllEndWell script.now report.lines) }
+    ensures in_order { IfOk result (λ report. AllTellInOrder script.now report.lines) }
+    ensures bytes { IfOk result (λ report. AllTellBytes report.lines) }
     ensures served { StoresAreServed S.durable S.state parts.old parts.new }
     ensures unfused { FusesAreGone S.state parts.new }
     ensures clocks { ClocksAreRead C.is_read parts.old parts.new }
@@ -91,6 +99,7 @@ pub fn run_on<R: Threads + Wait + Sync, S: Fuse + Send, C: Clock + Send, G: Gate
     ensures refusals { IfErr result (MayStop S.durable (declared_conts script.now) job.now.targets (stores_in parts.old)) }
     ensures set { AreSet job.now.targets parts.new }
 {
+    laws_of_reading_back();
     disarm(parts, job.targets);
     let (tracker, held) = open_parts(alloc, script, parts, job.targets)?;
     let clients = clients_of(alloc, script, &held, tracker, job.attempts)?;

@@ -4,7 +4,7 @@ use Rattle.daos_model.specs.Opening.{fresh}
 use Rattle.daos_run.proofs.Begun.{is-simple}
 use Rattle.daos_run.specs.Comes.{FindsPlaces}
 use Rattle.daos_run.proofs.Lone.{is-of-lone-client}
-use Rattle.daos_run.proofs.Plain.{all-come, all-free, all-kept, all-open, all-run, are-unused, follows-order, in-form, in-real-time, is-fresh, issued-there, legal, none-down, none-lasts, of-lone, on-ok, only-memory}
+use Rattle.daos_run.proofs.Plain.{all-come, all-free, all-kept, all-open, all-run, are-keyed, are-unused, follows-order, in-form, in-real-time, is-fresh, issued-there, legal, none-down, none-lasts, of-lone, on-ok, only-memory}
 use Rattle.run_targets.specs.Ends.{TellsOfLoneClient}
 use Rattle.daos_run.proofs.run.run_script.Goals as goal
 
@@ -23,6 +23,12 @@ pub returns-clause-form : goal.returns-clause-form
 returns-clause-form g c keys =
     let new = c.in_ok-set_all.ensures.set in
     in-form c.args.job.now.targets c.args.job.now.size_mib c.set_all.new.parts new c.run_on.new.parts c.run_on.ensures.set c.run_on.ensures.served c.args.script.now c.args.job.now refl c.run_on.result (all-come c.args.job.now.targets c.args.job.now.size_mib c.set_all.new.parts new c.run_on.new.parts c.run_on.ensures.set c.run_on.ensures.served c.args.script.now c.args.job.now refl c.run_on.result (c.run_on.ensures.comes _ (all-kept c.args.job.now.targets c.args.job.now.size_mib c.set_all.new.parts new) (λ t. c.args.job.now.size_mib * 4096 - 1264) (all-free c.args.job.now.targets c.args.job.now.size_mib c.set_all.new.parts new))) (let most = c.requires.most in omega (arith, most)) keys
+
+pub returns-clause-back : goal.returns-clause-back
+returns-clause-back g c keys =
+    let new = c.in_ok-set_all.ensures.set in
+    c.run_on.ensures.back _ (all-kept c.args.job.now.targets c.args.job.now.size_mib c.set_all.new.parts new) (λ t. c.args.job.now.size_mib * 4096 - 1264) (all-free c.args.job.now.targets c.args.job.now.size_mib c.set_all.new.parts new)
+    (are-keyed c.args.job.now.targets c.args.job.now.size_mib c.set_all.new.parts new c.run_on.new.parts c.run_on.ensures.set c.run_on.ensures.served c.args.script.now c.args.job.now refl (let most = c.requires.most in omega (arith, most)) keys)
 
 pub returns-clause-ordered : goal.returns-clause-ordered
 returns-clause-ordered g c =

@@ -6,14 +6,18 @@ use Rattle.daos_model.specs.Finals.{opening_of}
 use Rattle.daos_run.specs.Opens.{given}
 use Rattle.daos_run.specs.Slots.{stores_in}
 use Rattle.daos_run.specs.Stops.{IsOpeningFault, MayStop}
+use Rattle.daos_run.proofs.Back.{is-read-back}
 use Rattle.daos_run.proofs.Broken.{left-off, whatever-stopped}
 use Rattle.daos_run.proofs.Disarmed.{again-clocks, again-gone, again-served, again-stores, all-gone, all-run-on, all-served, kept-from, kept-on, may-stop-before}
 use Rattle.daos_run.proofs.Faults.{calls-gone, calls-served, opening-fault, read-through, served-through, stay-read}
 use Rattle.daos_run.proofs.Lone.{finds-room, tells-of-lone-client}
 use Rattle.daos_run.proofs.Started.{all-set, run-gone, run-read, run-served}
 use Rattle.daos_run.proofs.Whole.{all-tell, break-off, can-start, come-from, may-start, started, told-first}
+use Rattle.report_round_trip.specs.Values.{AllTellBytes}
+use Rattle.run_laws.specs.shows.Asked.{AllTellInOrder}
 use Rattle.run_opening.specs.All.{MayBeFound}
 use Rattle.run_targets.specs.Ends.{BreaksOffSo, ComesTo, stores_of}
+use Rattle.world_letters.specs.kinds.Fitting.{AllAnswersFit}
 use Rattle.world_plain.specs.whole.Begins.{declared_conts}
 use Rattle.daos_run.proofs.run_on.run_on.Goals as goal
 
@@ -163,6 +167,17 @@ returns-clause-room g c B kept free room places has =
     let first = told-first g.S.Store.durable c.args.job.now.targets c.args.parts.now c.requires.stores.set c.requires.least_targets B kept in
     finds-room g.S.Store.durable g.S.Store.state g.S.Store.may c.args.script.now c.args.job.now (opening_of c.args.script.now B free) (stores_in c.args.parts.now) (stores_in c.hand_back.new.parts) c.in_ok-ran.field-0 c.requires.script c.requires.least_targets c.requires.least (returns-clause-comes g c B kept free room)
     laws.findable laws.alike first.0 first.1 places has
+
+pub returns-clause-back : goal.returns-clause-back
+returns-clause-back g c B kept free room keyed =
+    let laws = g.met.S.Store g.world.𝓛 g.world.𝓜 g.world.𝓡 ((λ s x. x), (λ x. x), (λ x. x), λ x. x) in
+    let first = told-first g.S.Store.durable c.args.job.now.targets c.args.parts.now c.requires.stores.set c.requires.least_targets B kept in
+    let back = c.laws_of_reading_back.ensures in
+    let ran = c.run_targets-targets.ensures in
+    is-read-back g.S.Store.durable g.S.Store.state g.S.Store.may c.args.script.now c.args.job.now (opening_of c.args.script.now B free) (stores_in c.args.parts.now) (stores_in c.hand_back.new.parts) c.in_ok-ran.field-0 c.requires.script c.requires.least_targets (returns-clause-comes g c B kept free room)
+    laws.findable laws.alike first.0 first.1 keyed back.spelled back.for_script back.back
+    (subst (λ r. IfOk r (λ q. AllAnswersFit c.args.script.now q.lines)) c.in_ok-ran.was ran.kinds) (subst (λ r. IfOk r (λ q. AllTellInOrder c.args.script.now q.lines)) c.in_ok-ran.was ran.in_order)
+    (subst (λ r. IfOk r (λ q. AllTellBytes q.lines)) c.in_ok-ran.was ran.bytes)
 
 pub returns-clause-lone : goal.returns-clause-lone
 returns-clause-lone g c B kept free room none plain one stopless unstopped =
