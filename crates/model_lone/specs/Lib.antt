@@ -1,0 +1,4 @@
+pub mod Only
+pub mod OnlyLaws
+pub mod Refusals
+pub mod Unstopped
