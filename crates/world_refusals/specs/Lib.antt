@@ -1,0 +1,11 @@
+pub mod Telling
+pub mod Commands
+pub mod Posts
+pub mod Reads
+pub mod Turns
+pub mod Further
+pub mod Events
+pub mod Runs
+pub mod Hearing
+pub mod Alone
+pub mod Never
