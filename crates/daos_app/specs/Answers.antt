@@ -29,15 +29,15 @@ use Rattle.world_plain.specs.lone.LoneRuns.{AreIssuedThere}
 -- What the report of a run is: legal for the script by the headline, over regions of zeros that nothing disturbs, whichever attempts are taken
 -- as resolved; and in the form in which a text determines its report, which is read back of its text.
 -- It tells of turns in the order asked; the targets of the run issued all epochs; and where there is room for all that the script writes, and places for
--- its snapshots, no attempt is refused for want of these. Of a script without snapshots the order of epochs is that of real time where the clocks keep the
--- bound, and a client that is alone is never told to restart where the script asks for no stop.
+-- its snapshots, no attempt is refused for want of these. The order of epochs is that of real time where the clocks keep the bound; and of a script without
+-- snapshots a client that is alone is never told to restart where the script asks for no stop.
 pub record IsRunReport (g : Given) (q : Report) : Type 0 where
   pub form : IsReportOf g.script q
   pub back : IsReadBack g.script q
   pub legal : IsLegal g q
   pub ordered : FollowsFromZeros g q
   pub issued : AreIssuedThere q
-  pub in_real_time : IsPlain g.script → IsInRealTime g q
+  pub in_real_time : IsInRealTime g q
   pub room : FindsPlaces g.script g.job.attempts 0 → HasRoom g.script g.job.attempts g.opening.free → FindsRoom q
   pub lone : IsPlain g.script → HasOneClient g.script → g.script.stops ≡ [] → IsOfLoneClient g q
 

@@ -29,7 +29,7 @@ use Rattle.daos_run.specs.Starts.{IsNewStore}
 use Rattle.daos_run.specs.Stops.{HasRisen, IsOpeningFault, MayStop}
 use Rattle.daos_run.proofs.Places.{in-place, store-at, stores-many}
 use Rattle.daos_run.proofs.Unstopped.{no-down-told, no-stops-told}
-use Rattle.run_targets.specs.Ends.{IsInRealTime, IsKeyed, IsLegal, IsOrdered, IsOutside, RunsPlainly, from-map, given_by, legal-by-any, one-there}
+use Rattle.run_targets.specs.Ends.{IsInRealTime, IsKeyed, IsLegal, IsOrdered, IsOutside, from-map, given_by, legal-by-any, one-there}
 use Rattle.run_opening.specs.All.{AreKept}
 use Rattle.run_opening.specs.Laws.{AreUnused}
 use Rattle.run_opening.specs.Opened.{enlisted_family, keeps, lasting_snaps}
@@ -44,9 +44,9 @@ use Rattle.std.proofs.lemmas.List.Elements.{All-nil}
 use Rattle.vos_store.specs.Calls.{State}
 use Rattle.vos_plain.specs.Plain.{plain_durable, plain_state}
 use Rattle.vos_plain.specs.declared.store.PlainStore.{PlainStore}
-use Rattle.world_plain.specs.ends.Ends.{durables_of, rules_of}
+use Rattle.world_plain.specs.ends.Ends.{durables_of}
 use Rattle.world_plain.specs.lone.LoneRuns.{AreIssuedThere}
-use Rattle.world_plain.specs.whole.Begins.{IsSimple, declared_conts}
+use Rattle.world_plain.specs.whole.Begins.{declared_conts}
 use Rattle.world_plain.specs.whole.Fresh.{fresh-opens}
 
 -- it tells what it keeps
@@ -225,12 +225,6 @@ module _ {C : Type 0} (targets size_mib : ℕ) (slots : List (Option (PlainStore
               sym kept ∙ opened-so t y.0 y.1;
         }
 
-        -- no snapshot lasts
-        plainly : IsSimple (rules_of (fresh s j)) → RunsPlainly told_by (fresh s j) K.opened
-        plainly simple =
-            K.plain (map plain_durable (stores_in slots)) (λ t. size_mib * 4096 - 1264) all-kept (sym (ap (λ g. g.opening) is-fresh))
-            (none-lasts s (map plain_durable (stores_in slots)) (are-unused (map plain_durable (stores_in slots)) all-kept)) simple
-
         unstopped : s.stops ≡ [] → stop_numbers q.lines ≡ []
         unstopped none = no-stops-told (fresh s j) (resolved (durables_of ordered.follows.last)) q headline.told none
 
@@ -247,8 +241,8 @@ module _ {C : Type 0} (targets size_mib : ℕ) (slots : List (Option (PlainStore
         pub issued-there : IfOk result AreIssuedThere
         issued-there = on-ok result (λ q K. K.comes.issued_there refl) R
 
-        pub in-real-time : IsSimple (rules_of (fresh s j)) → IfOk result (IsInRealTime (fresh s j))
-        in-real-time simple = on-ok result (λ q K. K.comes.in_real_time (plainly q K simple)) R
+        pub in-real-time : IfOk result (IsInRealTime (fresh s j))
+        in-real-time = on-ok result (λ q K. K.comes.in_real_time) R
 
         pub none-down : IfOk result (λ q. q.down ≡ None)
         none-down = on-ok result (λ q K. no-down-told (fresh s j) (resolved (durables_of (ordered q K).follows.last)) q (headline q K).told) R

@@ -52,7 +52,7 @@ fn set_all<B: Rack>(
 /// Runs a script and reports what became of its commands. So far the store of each target is a list in
 /// memory: the rack gives its clock alone. The outside can't fail such a store, so only stop lines stop a
 /// target, and none is given up. The script may make snapshots, read at them and aggregate;
-/// `in_real_time` and `lone` are of scripts that don't.
+/// `lone` is of scripts that don't.
 ///
 /// # Errors
 ///
@@ -77,7 +77,7 @@ pub fn run_script<R: Threads + Wait + Sync, B: Rack, G: Gate + Sync>(
     ensures back { ScriptHasKeys script.now → IfOk result (IsReadBack script.now) }
     ensures ordered { IfOk result (FollowsFromZeros (fresh script.now job.now)) }
     ensures issued { IfOk result AreIssuedThere }
-    ensures in_real_time { IsPlain script.now → IfOk result (IsInRealTime (fresh script.now job.now)) }
+    ensures in_real_time { IfOk result (IsInRealTime (fresh script.now job.now)) }
     ensures none_down { IfOk result (λ report. report.down ≡ None) }
     ensures room { FindsPlaces script.now job.now.attempts 0 → HasRoom script.now job.now.attempts (fresh script.now job.now).opening.free → IfOk result FindsRoom }
     ensures lone { IsPlain script.now → HasOneClient script.now → script.now.stops ≡ [] → IfOk result (IsOfLoneClient (fresh script.now job.now)) }

@@ -1,6 +1,6 @@
 // The world of a run under one name: its types, whether a list of events is a run, and the laws of all facts together, whatever crate holds them. Those of
-// world_upheld and world_closing are of any run: each event, whatever it is, keeps all facts, a run begins with them, and where it has ended its
-// report is legal. Those of world_plain are of runs without stops and snapshots, as the lists of `check_list` are.
+// world_upheld, world_order and world_closing are of any run: each event, whatever it is, keeps all facts, a run begins with them, lines are in the order of
+// real time where they keep the bound, and where it has ended its report is legal. Those of world_plain are of runs without stops and snapshots, as the lists of `check_list` are.
 #![tactic(auto)]
 
 pub use world_base::did::{Did, Issues};
@@ -11,6 +11,7 @@ pub use world_closing::forming::laws_of_texts;
 pub use world_closing::laws_of_ended_runs;
 pub use world_closing::stands::laws_of_stands;
 pub use world_list::events::{Event, EventKind, EventList, Events};
+pub use world_order::laws_of_real_time;
 pub use world_plain::whole::{
     laws_of_beginnings, laws_of_clients, laws_of_forms, laws_of_runs, laws_of_stores,
 };

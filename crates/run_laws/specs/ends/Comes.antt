@@ -171,7 +171,7 @@ pub record ComesTo {S : Type 0} (durable : S → Option Durable) (state : S → 
   pub form : IsKeyed g → IsReportOf g.script q
   pub issued : AreIssuedSince (top g.opening) q
   pub issued_there : g.opening.stand.snaps ≡ [] → AreIssuedThere q
-  pub in_real_time : RunsPlainly durable g xs → IsInRealTime g q
+  pub in_real_time : IsInRealTime g q
   pub running : LeavesRunning state q ys
   pub settled : LeavesSettled durable may g q ys
   pub unstopped : RunsPlainly durable g xs → stop_numbers q.lines ≡ [] → EndsUnstopped durable g q ys

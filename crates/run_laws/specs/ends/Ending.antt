@@ -50,7 +50,7 @@ use Rattle.world_causes.specs.causes.Causes.{is_try}
 use Rattle.run_laws.specs.reports.Closings.{report_over}
 use Rattle.world_plain.specs.ends.Ends.{durable_of, durables_of, rules_of}
 use Rattle.world_standing.specs.external.Order.{AreExternallyConsistent, KeepsTheBound}
-use Rattle.world_standing.specs.external.Runs.{runs-are-consistent}
+use Rattle.world_order.specs.Runs.{all-runs-are_consistent}
 use Rattle.world_plain.specs.facts.Facts.{IsMember}
 use Rattle.world_letters.specs.lives.Legal.{AreCaused}
 use Rattle.world_plain.specs.whole.Begins.{IsBegun}
@@ -239,10 +239,11 @@ module _ {S C : Type 0} (durable : S → Option Durable) (state : S → State) (
       issued-there none = all-issued g anything (resolved lasts) report none by-anything.told issued
 
       -- where the clocks keep the bound, the order of its epochs is that of real time
-      in-real-time : RunsPlainly durable g (stores_of xs) → KeepsTheBound g.script g.job.epsilon lines → AreExternallyConsistent g.script lines
-      in-real-time plain bound =
+      in-real-time : KeepsTheBound g.script g.job.epsilon lines → AreExternallyConsistent g.script lines
+      in-real-time bound =
           subst (AreExternallyConsistent g.script) (sym run.told)
-          (runs-are-consistent r g.opening first last plain.simple (begun plain) (orders-are-runs r g.job.order first last run.run) (subst (KeepsTheBound g.script g.job.epsilon) run.told bound))
+          (all-runs-are_consistent r g.opening first last begins.begins.form begins.begins.begins (orders-are-runs r g.job.order first last run.run)
+          (subst (KeepsTheBound g.script g.job.epsilon) run.told bound))
 
       -- a target that wasn't given up runs there
       runs-there : (t : ℕ) (z : S) (s : TargetState) → slice_get (stores_of ys) t ≡ Some z → slice_get last.targets t ≡ Some s → (Contains (down_targets lines) t → ⊥) → s.life ≡ Running

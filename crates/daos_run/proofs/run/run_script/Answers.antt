@@ -1,7 +1,5 @@
 use Rattle.std.specs.Prelude.{◌*◌, ◌-◌, IfOk, length, refl}
 use Rattle.std.proofs.Common.{arith, subst, sym}
-use Rattle.daos_model.specs.Opening.{fresh}
-use Rattle.daos_run.proofs.Begun.{is-simple}
 use Rattle.daos_run.specs.Comes.{FindsPlaces}
 use Rattle.daos_run.proofs.Lone.{is-of-lone-client}
 use Rattle.daos_run.proofs.Plain.{all-come, all-free, all-kept, all-open, all-run, are-keyed, are-unused, follows-order, in-form, in-real-time, is-fresh, issued-there, legal, none-down, none-lasts, of-lone, on-ok, only-memory}
@@ -41,9 +39,9 @@ returns-clause-issued g c =
     issued-there c.args.job.now.targets c.args.job.now.size_mib c.set_all.new.parts new c.run_on.new.parts c.run_on.ensures.set c.run_on.ensures.served c.args.script.now c.args.job.now refl c.run_on.result (all-come c.args.job.now.targets c.args.job.now.size_mib c.set_all.new.parts new c.run_on.new.parts c.run_on.ensures.set c.run_on.ensures.served c.args.script.now c.args.job.now refl c.run_on.result (c.run_on.ensures.comes _ (all-kept c.args.job.now.targets c.args.job.now.size_mib c.set_all.new.parts new) (λ t. c.args.job.now.size_mib * 4096 - 1264) (all-free c.args.job.now.targets c.args.job.now.size_mib c.set_all.new.parts new)))
 
 pub returns-clause-in_real_time : goal.returns-clause-in_real_time
-returns-clause-in_real_time g c plain =
+returns-clause-in_real_time g c =
     let new = c.in_ok-set_all.ensures.set in
-    in-real-time c.args.job.now.targets c.args.job.now.size_mib c.set_all.new.parts new c.run_on.new.parts c.run_on.ensures.set c.run_on.ensures.served c.args.script.now c.args.job.now refl c.run_on.result (all-come c.args.job.now.targets c.args.job.now.size_mib c.set_all.new.parts new c.run_on.new.parts c.run_on.ensures.set c.run_on.ensures.served c.args.script.now c.args.job.now refl c.run_on.result (c.run_on.ensures.comes _ (all-kept c.args.job.now.targets c.args.job.now.size_mib c.set_all.new.parts new) (λ t. c.args.job.now.size_mib * 4096 - 1264) (all-free c.args.job.now.targets c.args.job.now.size_mib c.set_all.new.parts new))) (is-simple c.args.script.now c.args.job.now (fresh c.args.script.now c.args.job.now).opening c.requires.script plain c.requires.least_targets c.requires.most_targets c.requires.least)
+    in-real-time c.args.job.now.targets c.args.job.now.size_mib c.set_all.new.parts new c.run_on.new.parts c.run_on.ensures.set c.run_on.ensures.served c.args.script.now c.args.job.now refl c.run_on.result (all-come c.args.job.now.targets c.args.job.now.size_mib c.set_all.new.parts new c.run_on.new.parts c.run_on.ensures.set c.run_on.ensures.served c.args.script.now c.args.job.now refl c.run_on.result (c.run_on.ensures.comes _ (all-kept c.args.job.now.targets c.args.job.now.size_mib c.set_all.new.parts new) (λ t. c.args.job.now.size_mib * 4096 - 1264) (all-free c.args.job.now.targets c.args.job.now.size_mib c.set_all.new.parts new)))
 
 pub returns-clause-none_down : goal.returns-clause-none_down
 returns-clause-none_down g c =
