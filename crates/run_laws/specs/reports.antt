@@ -2,6 +2,7 @@
 pub mod Closings
 pub mod Reports
 pub mod Legal
+pub mod Alone
 pub mod Issued
 pub mod IssuedThere
 pub mod Forms

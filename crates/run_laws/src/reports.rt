@@ -1,6 +1,6 @@
 // What a run in an order reports, where targets may stop and open again.
 
-ghost use Rattle.run_laws.specs.reports.Reports.{NoneUnknownWithoutGivenUp, OrdersAreLegal, OrdersIssueThere, OrdersLeaveInTheEnd, OrdersReportInForm, UnknownIsOfGivenUp, UnstoppedOrdersEndPlainly, UnstoppedOrdersOfLoneClients};
+ghost use Rattle.run_laws.specs.reports.Reports.{NoneUnknownWithoutGivenUp, OrdersAreLegal, OrdersIssueThere, OrdersLeaveInTheEnd, OrdersOfOnlyClients, OrdersReportInForm, UnknownIsOfGivenUp, UnstoppedOrdersEndPlainly, UnstoppedOrdersOfLoneClients};
 
 /// Says what a run in the order that the job names comes to, where targets may stop, open again, or be given
 /// up, snapshots be made and read, and containers aggregated, of a script in form, from its beginning. Each epoch of
@@ -11,12 +11,15 @@ ghost use Rattle.run_laws.specs.reports.Reports.{NoneUnknownWithoutGivenUp, Orde
 /// outside is taken to have done, if only it caused the stops for which the script doesn't ask, and what was given
 /// up; the targets stand for what it tells, and replicas agree. And its text determines it, where names and keys are
 /// keys, those of what the opening stands for and of the maps that it keeps among them, and the numbers of stops,
-/// openings and aggregations are as small as their types hold.
+/// openings and aggregations are as small as their types hold. Of the only client of a script, whatever its commands
+/// do, it tells no attempt to restart where no line tells of a stop; so each command is attempted once, and it is
+/// known what became of that.
 pub fn laws_of_ordered_reports()
     ensures legal { OrdersAreLegal }
     ensures form { OrdersReportInForm }
     ensures issued { OrdersIssueThere }
     ensures left { OrdersLeaveInTheEnd }
+    ensures alone { OrdersOfOnlyClients }
 {}
 
 /// Says that such a run of a script without snapshots and aggregation, over stores without snapshots, of which no

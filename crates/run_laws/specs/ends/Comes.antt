@@ -14,6 +14,8 @@ use Rattle.daos_model.specs.Opening.{Given, Outside, top, undisturbed}
 use Rattle.daos_model.specs.Sound.{Sound}
 use Rattle.daos_model.specs.Stops.{down_targets, least, stop_numbers}
 use Rattle.dtx_base.specs.Members.{has_target}
+use Rattle.model_lone.specs.Only.{TellsOfOnlyClient}
+use Rattle.model_reports.specs.Lone.{HasOneClient}
 use Rattle.report_writer.specs.Forms.{IsReportOf}
 pub use Rattle.run_opening.specs.All.{AreKept, MayBeFound}
 use Rattle.run_laws.specs.steps.Ended.{CanReopen}
@@ -164,8 +166,9 @@ IsInRealTime g q = KeepsTheBound g.script g.job.epsilon q.lines → AreExternall
 -- What a run of these targets, which begins so, comes to. Whatever the next openings of their stores find, these stand for what the report
 -- tells, which is legal, by the headline, for each outside that may have failed them so. The report is in form where names and keys are keys;
 -- one of the targets issued each epoch of which it tells, but for those of snapshots of earlier runs, and so all where there are none; conflicting committed attempts have epochs in the order of real time where clocks
--- keep the bound; stores of targets that weren't given up run, and nothing is left to settle there; what is kept is sound again, and may be opened
--- again; and the report tells of the turns in the order asked, where just so many blocks were free at the beginning.
+-- keep the bound; stores of targets that weren't given up run, and nothing is left to settle there; the only client of a script is never told to
+-- restart where no line tells of a stop; what is kept is sound again, and may be opened again; and the report tells of the turns in the order asked,
+-- where just so many blocks were free at the beginning.
 pub record ComesTo {S : Type 0} (durable : S → Option Durable) (state : S → State) (may : S → Durable → Type 0) (g : Given) (xs ys : List S) (q : Report) : Type 0 where
   pub stand : (lasts : List Durable) (o : Outside) → MayBeFound may ys lasts → IsOutside state o xs ys → HeadlineOver g o lasts q
   pub form : IsKeyed g → IsReportOf g.script q
@@ -175,6 +178,7 @@ pub record ComesTo {S : Type 0} (durable : S → Option Durable) (state : S → 
   pub running : LeavesRunning state q ys
   pub settled : LeavesSettled durable may g q ys
   pub unstopped : RunsPlainly durable g xs → stop_numbers q.lines ≡ [] → EndsUnstopped durable g q ys
+  pub alone : HasOneClient g.script → stop_numbers q.lines ≡ [] → TellsOfOnlyClient g.script q
   pub sound : LeavesSound durable may xs ys
   pub unsnapped : RunsPlainly durable g xs → (lasts : List Durable) → MayBeFound may ys lasts → created_snaps lasts ≡ []
   pub reopens : LeavesReopenable durable may ys

@@ -21,6 +21,9 @@ use Rattle.dtx_base.specs.Members.{has_target}
 use Rattle.model_laws.specs.DecidedLaws.{has-all}
 use Rattle.model_laws.specs.Members.{contains-from_has, has-from_contains}
 use Rattle.report_writer.specs.Forms.{IsReportOf}
+use Rattle.model_lone.specs.Only.{TellsOfOnlyClient}
+use Rattle.model_reports.specs.Lone.{HasOneClient}
+use Rattle.run_laws.specs.reports.Alone.{orders-of_only_clients}
 use Rattle.run_laws.specs.reports.Forms.{orders-report_in_form}
 use Rattle.run_laws.specs.reports.Issued.{orders-issue}
 use Rattle.run_laws.specs.reports.IssuedThere.{all-issued}
@@ -228,6 +231,10 @@ module _ {S C : Type 0} (durable : S → Option Durable) (state : S → State) (
 
       -- ---- what the report tells
 
+      -- of the only client, where no line tells of a stop
+      of-alone : HasOneClient g.script → stop_numbers lines ≡ [] → TellsOfOnlyClient g.script report
+      of-alone one none = subst (TellsOfOnlyClient g.script) same-report (orders-of_only_clients g first last begins.holds goes one (ap stop_numbers (sym run.told) ∙ none))
+
       in-form : AreTyped lines → IsKeyed g → IsReportOf g.script report
       in-form typed keyed = subst (IsReportOf g.script) same-report (orders-report_in_form g first last begins.holds goes keyed (subst AreTyped run.told typed))
 
@@ -365,6 +372,7 @@ module _ {S C : Type 0} (durable : S → Option Durable) (state : S → State) (
       running = store-runs some so;
       settled = record { entries = entries some so; everywhere = at-members some so; held = held };
       unstopped = ends-unstopped some so;
+      alone = of-alone some so;
       sound = λ F f sound lasts m. leaves-sound lasts m F f sound;
       unsnapped = λ plain lasts m. none-created r g.opening first (last lasts m) lasts plain.simple (begun plain) (orders-are-runs r g.job.order first (last lasts m) (run lasts m).run) (keeps lasts m);
       reopens = reopenable;

@@ -9,7 +9,8 @@ use Rattle.base_types.specs.declared.report.Line.{Line}
 use Rattle.base_types.specs.declared.report.Line.TheVariants as line
 use Rattle.base_types.specs.declared.report.Report.{Report}
 use Rattle.model_laws.specs.Members.{Has}
-use Rattle.model_reports.specs.Lone.{AllAreCommitted, EachIsTriedOnce, EndsPlainly, EpochsRise, HasNoConditions, HasTicks, IsLone, NeverRestarts}
+use Rattle.model_lone.specs.Only.{TellsOfOnlyClient}
+use Rattle.model_reports.specs.Lone.{AllAreCommitted, EachIsTriedOnce, EndsPlainly, EpochsRise, HasNoConditions, HasOneClient, HasTicks, IsLone, NeverRestarts}
 use Rattle.model_reports.specs.Rooms.{HasRoom}
 use Rattle.daos_model.specs.Accesses.{attempt_targets}
 use Rattle.daos_model.specs.Attempts.{is_unknown, tries}
@@ -139,6 +140,10 @@ OrdersReportInForm = OfEachHeldOrder (λ g v. IsKeyed g → AreTyped v.lines →
 -- one of the targets issued each epoch of which it tells, but for those of snapshots that earlier runs made
 abbrev pub OrdersIssueThere : Type 0
 OrdersIssueThere = OfEachOrder (λ g v. AreIssuedSince (top g.opening) (report_over (rules_of g) v))
+
+-- the only client of a script, whatever its commands do, is never told to restart where no line tells of a stop; and what follows
+abbrev pub OrdersOfOnlyClients : Type 0
+OrdersOfOnlyClients = OfEachHeldOrder (λ g v. HasOneClient g.script → stop_numbers v.lines ≡ [] → TellsOfOnlyClient g.script (report_over (rules_of g) v))
 
 -- what is left in the end
 abbrev pub OrdersLeaveInTheEnd : Type 0
