@@ -9,6 +9,7 @@ use Rattle.base_types.specs.declared.script.Script.{Script}
 use Rattle.daos_gen.specs.Scripts.{script_of}
 use Rattle.daos_app.specs.Inputs.{IsRead, IsRefused}
 use Rattle.daos_app.specs.Words.{run_job_of}
+use Rattle.model_lone.specs.Only.{TellsOfOnlyClient}
 use Rattle.model_reports.specs.Lone.{HasOneClient}
 use Rattle.daos_model.specs.Opening.{Given, fresh}
 use Rattle.report_writer.specs.Forms.{IsReportOf}
@@ -29,8 +30,8 @@ use Rattle.world_plain.specs.lone.LoneRuns.{AreIssuedThere}
 -- What the report of a run is: legal for the script by the headline, over regions of zeros that nothing disturbs, whichever attempts are taken
 -- as resolved; and in the form in which a text determines its report, which is read back of its text.
 -- It tells of turns in the order asked; the targets of the run issued all epochs; and where there is room for all that the script writes, and places for
--- its snapshots, no attempt is refused for want of these. The order of epochs is that of real time where the clocks keep the bound; and of a script without
--- snapshots a client that is alone is never told to restart where the script asks for no stop.
+-- its snapshots, no attempt is refused for want of these. The order of epochs is that of real time where the clocks keep the bound. A client that is
+-- alone is never told to restart where the script asks for no stop, and of a script without snapshots more is said of it.
 pub record IsRunReport (g : Given) (q : Report) : Type 0 where
   pub form : IsReportOf g.script q
   pub back : IsReadBack g.script q
@@ -39,6 +40,7 @@ pub record IsRunReport (g : Given) (q : Report) : Type 0 where
   pub issued : AreIssuedThere q
   pub in_real_time : IsInRealTime g q
   pub room : FindsPlaces g.script g.job.attempts 0 → HasRoom g.script g.job.attempts g.opening.free → FindsRoom q
+  pub alone : HasOneClient g.script → g.script.stops ≡ [] → TellsOfOnlyClient g.script q
   pub lone : IsPlain g.script → HasOneClient g.script → g.script.stops ≡ [] → IsOfLoneClient g q
 
 -- the text of such a report

@@ -6,6 +6,7 @@ ghost use Rattle.daos_run.specs.Comes.{FindsPlaces, FollowsFromZeros};
 ghost use Rattle.run_targets.specs.Ends.{IsInRealTime, IsLegal};
 ghost use Rattle.world_plain.specs.lone.LoneRuns.{AreIssuedThere};
 ghost use Rattle.report_writer.specs.Forms.{IsReportOf};
+ghost use Rattle.model_lone.specs.Only.{TellsOfOnlyClient};
 ghost use Rattle.model_reports.specs.Lone.{HasOneClient};
 ghost use Rattle.model_reports.specs.Rooms.{FindsRoom, HasRoom};
 ghost use Rattle.daos_run.specs.Alone.{IsOfLoneClient};
@@ -52,7 +53,7 @@ fn set_all<B: Rack>(
 /// Runs a script and reports what became of its commands. So far the store of each target is a list in
 /// memory: the rack gives its clock alone. The outside can't fail such a store, so only stop lines stop a
 /// target, and none is given up. The script may make snapshots, read at them and aggregate;
-/// `lone` is of scripts that don't.
+/// `lone` is of scripts that don't, and `alone` of any.
 ///
 /// # Errors
 ///
@@ -80,6 +81,7 @@ pub fn run_script<R: Threads + Wait + Sync, B: Rack, G: Gate + Sync>(
     ensures in_real_time { IfOk result (IsInRealTime (fresh script.now job.now)) }
     ensures none_down { IfOk result (λ report. report.down ≡ None) }
     ensures room { FindsPlaces script.now job.now.attempts 0 → HasRoom script.now job.now.attempts (fresh script.now job.now).opening.free → IfOk result FindsRoom }
+    ensures alone { HasOneClient script.now → script.now.stops ≡ [] → IfOk result (TellsOfOnlyClient script.now) }
     ensures lone { IsPlain script.now → HasOneClient script.now → script.now.stops ≡ [] → IfOk result (IsOfLoneClient (fresh script.now job.now)) }
     ensures refusals { IsOkUnless result RunStop.Memory }
     ensures rack { B.count rack.new ≡ B.count rack.old }

@@ -7,6 +7,7 @@ ghost use Rattle.daos_run.specs.Comes.{BreaksOff, ComesFrom, FindsPlaces};
 ghost use Rattle.daos_run.specs.Opens.{MayRun, given};
 ghost use Rattle.daos_run.specs.Slots.{AreFree, AreSet, ClocksAreRead, FusesAreGone, HaveStores, StoresAreServed, stores_in};
 ghost use Rattle.daos_run.specs.Stops.{IsOpeningFault, MayStop};
+ghost use Rattle.model_lone.specs.Only.{TellsOfOnlyClient};
 ghost use Rattle.model_reports.specs.Lone.{HasOneClient};
 ghost use Rattle.model_reports.specs.Rooms.{FindsRoom, HasRoom};
 ghost use Rattle.run_laws.specs.shows.Asked.{AllTellInOrder};
@@ -49,7 +50,7 @@ use vos_store::store::Fuse;
 /// `ends`, `in_order` and `bytes` bind what the report tells; the run is safe, and errors are told as of any
 /// others.
 ///
-/// The script may make snapshots, read at them and aggregate; `lone` is of scripts that don't.
+/// The script may make snapshots, read at them and aggregate; `lone` is of scripts that don't, and `alone` of any.
 ///
 /// The report names the least of the targets that were given up, if one was; the store of such a one is
 /// stopped.
@@ -83,6 +84,8 @@ pub fn run_on<R: Threads + Wait + Sync, S: Fuse + Send, C: Clock + Send, G: Gate
     ensures room { (B : List Durable) → AreKept S.durable (stores_in parts.old) B → (free : ℕ → ℕ) → AreFree S.state parts.old free
         → FindsPlaces script.now job.now.attempts (length (given script.now job.now B free).opening.stand.snaps) → HasRoom script.now job.now.attempts free → IfOk result FindsRoom }
     ensures back { (B : List Durable) → AreKept S.durable (stores_in parts.old) B → (free : ℕ → ℕ) → AreFree S.state parts.old free → IsKeyed (given script.now job.now B free) → IfOk result (IsReadBack script.now) }
+    ensures alone { (B : List Durable) → AreKept S.durable (stores_in parts.old) B → (free : ℕ → ℕ) → AreFree S.state parts.old free
+        → HasOneClient script.now → IfOk result (λ report. stop_numbers report.lines ≡ [] → TellsOfOnlyClient script.now report) }
     ensures lone { (B : List Durable) → AreKept S.durable (stores_in parts.old) B → (free : ℕ → ℕ) → AreFree S.state parts.old free
         → lasting_snaps script.now B ≡ [] → IsPlain script.now → HasOneClient script.now → script.now.stops ≡ []
         → IfOk result (λ report. stop_numbers report.lines ≡ [] → TellsOfLoneClient (given script.now job.now B free) report) }

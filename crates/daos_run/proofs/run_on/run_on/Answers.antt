@@ -179,6 +179,9 @@ returns-clause-back g c B kept free room keyed =
     (subst (λ r. IfOk r (λ q. AllAnswersFit c.args.script.now q.lines)) c.in_ok-ran.was ran.kinds) (subst (λ r. IfOk r (λ q. AllTellInOrder c.args.script.now q.lines)) c.in_ok-ran.was ran.in_order)
     (subst (λ r. IfOk r (λ q. AllTellBytes q.lines)) c.in_ok-ran.was ran.bytes)
 
+pub returns-clause-alone : goal.returns-clause-alone
+returns-clause-alone g c B kept free room one unstopped = (returns-clause-comes g c B kept free room).comes.alone one unstopped
+
 pub returns-clause-lone : goal.returns-clause-lone
 returns-clause-lone g c B kept free room none plain one stopless unstopped =
     tells-of-lone-client g.S.Store.durable g.S.Store.state g.S.Store.may c.args.script.now c.args.job.now (opening_of c.args.script.now B free) (stores_in c.args.parts.now) (stores_in c.hand_back.new.parts) c.in_ok-ran.field-0 c.requires.script c.requires.least_targets c.requires.least (returns-clause-comes g c B kept free room)
