@@ -19,13 +19,13 @@ use Rattle.world_legal.specs.closing.Kept.{runs-as_many}
 use Rattle.world_legal.specs.reasons.Accounted.{stored_over}
 use Rattle.world_letters.specs.lives.Events.{as-added}
 use Rattle.world_letters.specs.lives.TurnLines.{further-lines, idle-lines, plain-lines}
-use Rattle.world_making.specs.losses.Tells.{turn-lines-untried}
 use Rattle.world_plain.specs.unstopped.Growing.{TellsOfNoStop, none-stops, none-told_before}
 use Rattle.world_plain.specs.whole.Begins.{held_at}
 use Rattle.world_refusals.specs.Alone.{hears-none}
 use Rattle.world_refusals.specs.Hearing.{NoneRestarts, TellsNone, goes-quiet, hears-quiet}
 use Rattle.world_refusals.specs.Runs.{all-runs-tell_fitly}
 use Rattle.world_refusals.specs.Telling.{AllTellFitly}
+use Rattle.world_upheld.specs.causing.OneTurn.{untried}
 use Rattle.world_upheld.specs.explained.Explanations.{Explanations, HoldNoMoreSnapshots}
 use Rattle.world_upheld.specs.explained.Runs.{runs-have_explanations}
 use Rattle.world_upheld.specs.reasons.Hearing.{all-hear-of_stops}
@@ -41,7 +41,7 @@ AloneRunsNeverRestart =
 
 -- what targets add tells of no attempt
 none-more : (w v : World) (more : List Line) → v.lines ≡ w.lines ++ more → tries more ≡ [] → TellsNone w → TellsNone v
-none-more w v more lines untried k a i = k a (subst (Has a) (ap tries lines ∙ tries-append w.lines more ∙ ap (λ xs. tries w.lines ++ xs) untried ∙ append-nil (tries w.lines)) i)
+none-more w v more lines silent k a i = k a (subst (Has a) (ap tries lines ∙ tries-append w.lines more ∙ ap (λ xs. tries w.lines ++ xs) silent ∙ append-nil (tries w.lines)) i)
 
 none-added : (w v : World) → v.lines ≡ w.lines → TellsNone w → TellsNone v
 none-added w v same k a i = k a (subst (λ ls. Has a (tries ls)) same i)
@@ -67,7 +67,7 @@ module _ (r : Rules) (o : Opening) (held : ℕ → List Version) (h : History) (
   happening-quiet none (Further f) =
       let g = f.hears in
       let own = (further-lines f.number (target_plan r g.t) g.s.opening g.s.memory g.reading g.l.from g.l.message (kept g.s) g.new (g.memory, g.did) g.turn).own in
-      none-more w u g.did.lines (ap (λ x. x.lines) g.after ∙ ap (λ ls. w.lines ++ ls) (as-added g.t w.issued g.did.lines own)) (turn-lines-untried g.t g.did.lines own) quiet
+      none-more w u g.did.lines (ap (λ x. x.lines) g.after ∙ ap (λ ls. w.lines ++ ls) (as-added g.t w.issued g.did.lines own)) (untried g.t g.did.lines own) quiet
   happening-quiet none (IsCut g) = absurd (none-stops r w u (IsCut g) g.t none refl)
   happening-quiet none (Opens g) = none-more w u (restart_line g.number g.t g.s.durable ∷ []) (ap (λ x. x.lines) g.after) refl quiet
   happening-quiet none (Fails g) = none-added w u (ap (λ x. x.lines) g.after) quiet
