@@ -1,1 +1,6 @@
 pub mod Opens
+pub mod Buckets
+pub mod Chains
+pub mod Saying
+pub mod Places
+pub mod Sparing

@@ -1,6 +1,12 @@
 // Which versions of a container an aggregation removes.
 #![tactic(auto)]
 
+mod buckets;
+mod chains;
+mod later;
+mod sights;
+mod sparing;
+
 ghost use Rattle.std.specs.Prelude.{◌≡◌, ◌&&◌, filter, IfErr, IfOk};
 ghost use Rattle.std.specs.Option.{option_copied};
 ghost use Rattle.daos_model.specs.Prunes.{is_going};
