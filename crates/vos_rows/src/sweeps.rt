@@ -1,5 +1,5 @@
 // Versions that go, in place.
-ghost use Rattle.std.specs.Prelude.{◌≡◌, ◌+◌, ◌≤◌, ◌<◌, ◌∷◌, ◌++◌, Bool, List, drop, filter, length, take, vec_len, vec_capacity};
+ghost use Rattle.std.specs.Prelude.{◌≡◌, ◌+◌, ◌<◌, ◌≤◌, ◌++◌, drop, filter, length, take, vec_len, vec_capacity};
 ghost use Rattle.daos_model.specs.Changes.{is_out_of_range};
 ghost use Rattle.daos_model.specs.Versions.{is_not_pending};
 ghost use Rattle.vos_rows.specs.Sweeps.{unmarked};
@@ -41,31 +41,21 @@ pub fn remove_range(rows: &mut Vec<Version>, cont: ContId, lo: Epoch, hi: Epoch)
     rows.truncate(kept);
 }
 
-// Goes on to the next mark: the row at a place goes, or stays and the next place is due.
-fn sweep_one(rows: &mut Vec<Version>, kept: usize, mark: bool) -> usize
-    requires { kept < vec_len rows.old }
-    ensures items { (ms : List Bool) → take result rows.new.items ++ unmarked ms (drop result rows.new.items) ≡ take kept rows.old.items ++ unmarked (mark ∷ ms) (drop kept rows.old.items) }
-    ensures len { vec_len rows.new + kept + 1 ≡ vec_len rows.old + result }
-    ensures fewer { vec_len rows.new ≤ vec_len rows.old }
-    ensures capacity { vec_capacity rows.new ≡ vec_capacity rows.old }
-{
-    if !mark {
-        return kept + 1;
-    }
-    let _gone = rows.remove(kept);
-    kept
-}
-
-// Goes on from one mark to the next.
-fn sweep_at(rows: &mut Vec<Version>, kept: usize, marks: &[bool], i: usize) -> usize
-    requires kept { kept < vec_len rows.old }
+// Goes on from one mark to the next: the row there comes behind those that are kept, or is left.
+fn sweep_at(rows: &mut Vec<Version>, marks: &[bool], kept: usize, i: usize) -> usize
+    requires behind { kept ≤ i }
     requires marks { i < length marks.now }
-    ensures items { take result rows.new.items ++ unmarked (drop (i + 1) marks.now) (drop result rows.new.items) ≡ take kept rows.old.items ++ unmarked (drop i marks.now) (drop kept rows.old.items) }
-    ensures len { vec_len rows.new + kept + 1 ≡ vec_len rows.old + result }
-    ensures fewer { vec_len rows.new ≤ vec_len rows.old }
+    requires rows { i < vec_len rows.old }
+    ensures behind { result ≤ i + 1 }
+    ensures items { take result rows.new.items ++ unmarked (drop (i + 1) marks.now) (drop (i + 1) rows.new.items) ≡ take kept rows.old.items ++ unmarked (drop i marks.now) (drop i rows.old.items) }
+    ensures len { vec_len rows.new ≡ vec_len rows.old }
     ensures capacity { vec_capacity rows.new ≡ vec_capacity rows.old }
 {
-    sweep_one(rows, kept, marks[i])
+    if marks[i] {
+        return kept;
+    }
+    rows.swap(kept, i);
+    kept + 1
 }
 
 /// Removes the versions that are marked; each has a mark.
@@ -77,6 +67,7 @@ pub fn sweep(rows: &mut Vec<Version>, marks: &[bool])
 {
     let mut kept = 0;
     for i in 0..marks.len() {
-        kept = sweep_at(rows, kept, marks, i);
+        kept = sweep_at(rows, marks, kept, i);
     }
+    rows.truncate(kept);
 }

@@ -1,9 +1,11 @@
-use Rattle.std.proofs.Common.{◌++◌, ◌+◌, take, drop, false, ap, sym, ◌∙◌}
-use Rattle.std.proofs.lemmas.List.{drop_more}
-use Rattle.vos_rows.specs.Sweeps.{unmarked}
+use Rattle.std.proofs.Common.{arith}
+use Rattle.vos_rows.proofs.Sweeping.{swept-gone, swept-kept}
 use Rattle.vos_rows.proofs.sweeps.sweep_at.Goals as goal
+
+pub returns-then-marks-i-clause-items : goal.returns-then-marks-i-clause-items
+returns-then-marks-i-clause-items c =
+    swept-gone c.args.marks.now c.args.rows.now.items c.args.kept c.args.i c.requires.behind c.requires.marks (omega arith) c.if-marks-i.true
 
 pub returns-clause-items : goal.returns-clause-items
 returns-clause-items c =
-    c.sweep_one.ensures.items (drop (c.args.i + 1) c.args.marks.now)
-    ∙ ap (λ ms. take c.args.kept c.args.rows.now.items ++ unmarked ms (drop c.args.kept c.args.rows.now.items)) (sym (drop_more c.args.marks.now c.args.i false c.requires.marks))
+    swept-kept c.args.marks.now c.args.rows.now.items c.swap.new.self.items c.args.kept c.args.i c.requires.behind c.requires.marks (omega arith) c.swap.ensures.by_index c.if-marks-i.false
