@@ -250,8 +250,8 @@ module _ (m : ℕ) (p : Path) (b : Buckets) (of : AreOf m p b) (s : ℕ) (us : L
       (λ w. (says_in m (block_bucket m (akey_hash p) (i / 1024)) s (cell_at p (Some i)) w || (nat_lt 0 (i / 1024) && says_in m (block_bucket m (akey_hash p) (i / 1024 - 1)) s (cell_at p (Some i)) w))
       || ((says_in m b.object s (cell_at p (Some i)) w || says_in m b.dkey s (cell_at p (Some i)) w) || says_in m b.akey s (cell_at p (Some i)) w)) (says s (cell_at p (Some i))) us plain
       (λ w form.
-          gather5 (says s (cell_at p (Some i)) w) (bucket_by m w == block_bucket m (akey_hash p) (i / 1024)) (bucket_by m w == block_bucket m (akey_hash p) (i / 1024 - 1)) (nat_lt 0 (i / 1024))
-          (bucket_by m w == b.object) (bucket_by m w == b.dkey) (bucket_by m w == b.akey) (λ h. which-index m p b of i w.write form (touching s (cell_at p (Some i)) w h)))
+      gather5 (says s (cell_at p (Some i)) w) (bucket_by m w == block_bucket m (akey_hash p) (i / 1024)) (bucket_by m w == block_bucket m (akey_hash p) (i / 1024 - 1)) (nat_lt 0 (i / 1024))
+      (bucket_by m w == b.object) (bucket_by m w == b.dkey) (bucket_by m w == b.akey) (λ h. which-index m p b of i w.write form (touching s (cell_at p (Some i)) w h)))
 
 all-drop : (us : List Version) (i : ℕ) → list_all is_plain_version us ≡ true → list_all is_plain_version (drop i us) ≡ true
 all-drop us zero h = h

@@ -4,3 +4,6 @@ pub mod Covering
 pub mod Hiding
 pub mod Spared
 pub mod Planned
+pub mod Pairs
+pub mod Plans
+pub mod Removing

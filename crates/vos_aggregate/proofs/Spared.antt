@@ -77,7 +77,7 @@ module _ (m : ℕ) (l : Level) (q : Path) (b : ℕ) (is : b ≡ level_hash l q %
   not-over : (k : ℕ) (d : Version) → k < length vs → get_or (map (bucket_by m) vs) k 0 ≢ b → is_over l q (get_or vs k d).write ≡ false
   not-over k d lt ne =
       false_of (is_over l q (get_or vs k d).write) (λ h.
-          ne (get_or-map (bucket_by m) vs k d 0 lt ∙ over-bucket m l q (get_or vs k d).write (plain-at vs k d lt plain) h ∙ sym is))
+      ne (get_or-map (bucket_by m) vs k d 0 lt ∙ over-bucket m l q (get_or vs k d).write (plain-at vs k d lt plain) h ∙ sym is))
 
   -- no mark is taken in other buckets
   pub spared-on : (ms : List Bool) (i j : ℕ) → LeadsTo (map (bucket_by m) vs) b i j → SparedUpto l q os ms vs i → SparedUpto l q os ms vs j

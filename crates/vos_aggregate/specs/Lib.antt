@@ -4,3 +4,4 @@ pub mod Chains
 pub mod Saying
 pub mod Places
 pub mod Sparing
+pub mod Planners

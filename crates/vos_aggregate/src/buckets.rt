@@ -12,6 +12,7 @@ pub const BLOCK: u64 = 1024;
 
 // The hash of nothing, and what it is multiplied by at each word: those of FNV-1a.
 const START: u64 = 14695981039346656037;
+
 const PRIME: u64 = 1099511628211;
 
 // The hash with one word more.

@@ -4,15 +4,19 @@
 mod buckets;
 mod chains;
 mod later;
+mod marking;
+mod plannable;
+pub mod planner;
 mod sights;
 mod sparing;
 
-ghost use Rattle.std.specs.Prelude.{◌≡◌, ◌&&◌, filter, IfErr, IfOk};
+ghost use Rattle.std.specs.Prelude.{◌≡◌, ◌&&◌, ◌∷◌, ◌++◌, [], filter, if◌then◌else◌, map, IfErr, IfOk, OnOk};
 ghost use Rattle.std.specs.Option.{option_copied};
 ghost use Rattle.daos_model.specs.Prunes.{is_going};
 ghost use Rattle.vos_aggregate.specs.declared.PruneNo.TheVariants.{Memory as NoMemory};
 ghost use Rattle.vos_aggregate.specs.Opens.{AreSettled, LeastOpen, PlanWhy, is_earlier, is_open_below};
 
+use crate::planner::Planner;
 use base_types::epoch::Epoch;
 use base_types::id::{AttemptId, ContId};
 use base_types::items::{Items, TryCopy};
@@ -83,16 +87,26 @@ fn least_open(versions: &[Version], cont: ContId, upto: Epoch) -> Option<&Versio
     least
 }
 
-// The versions that a plan removes.
-fn removed(alloc: Global, plan: &Plan) -> Result<Vec<Version>, PruneNo>
+// Adds a version that is marked.
+fn add_marked(gone: &mut Vec<Version>, version: &Version, mark: bool) -> Result<(), PruneNo>
+    ensures versions { OnOk result (gone.new.items ≡ (if mark then gone.old.items ++ version.now ∷ [] else gone.old.items)) }
+    ensures memory { IfErr result (λ e. e ≡ PruneNo.Memory) }
+{
+    if mark {
+        gone.push(version.copy()?)?;
+    }
+    Ok(())
+}
+
+// The versions that are marked, those that a plan removes.
+fn removed(alloc: Global, plan: &Plan, marks: &[bool]) -> Result<Vec<Version>, PruneNo>
+    requires { marks.now ≡ map (is_going plan.now.cont plan.now.upto plan.now.versions.now plan.now.snaps.now) plan.now.versions.now }
     ensures versions { IfOk result (λ gone. gone.items ≡ filter (is_going plan.now.cont plan.now.upto plan.now.versions.now plan.now.snaps.now) plan.now.versions.now) }
     ensures memory { IfErr result (λ e. e ≡ PruneNo.Memory) }
 {
     let mut gone = Vec::new(alloc);
-    for version in plan.versions {
-        if plan.removes(version) {
-            gone.push(version.copy()?)?;
-        }
+    for i in 0..plan.versions.len() {
+        add_marked(&mut gone, &plan.versions[i], marks[i])?;
     }
     Ok(gone)
 }
@@ -126,5 +140,8 @@ pub fn plan_prune(
         cont,
         upto,
     };
-    Ok(Items::from_vec(removed(alloc, &plan)?))
+    let mut planner = Planner::new(alloc);
+    planner.reserve(versions.len())?;
+    planner.mark_going(&plan);
+    Ok(Items::from_vec(removed(alloc, &plan, planner.marks())?))
 }

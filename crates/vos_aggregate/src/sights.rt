@@ -32,9 +32,7 @@ pub fn is_punch(write: &Write) -> bool
 pub fn is_old(version: &Version, plan: &Plan) -> bool
     ensures { result ≡ is_old plan.now.cont plan.now.upto version.now }
 {
-    version.done
-        && version.write.path().cont.0 == plan.cont.0
-        && version.epoch.0 <= plan.upto.0
+    version.done && version.write.path().cont.0 == plan.cont.0 && version.epoch.0 <= plan.upto.0
 }
 
 impl Later<'_> {

@@ -2,7 +2,6 @@
 ghost use Rattle.std.specs.Prelude.{◌≡◌, ◌<◌, ◌%◌, ◌&&◌, ◌||◌, false, length, nat_lt, not, slice_set};
 ghost use Rattle.std.specs.List.{slice_index_or};
 ghost use Rattle.daos_model.specs.Prunes.{is_old};
-ghost use Rattle.vos_aggregate.specs.Buckets.{AreOf};
 ghost use Rattle.vos_aggregate.specs.Sparing.{ArePlanned, is_over, level_hash, spared};
 
 use crate::later::Later;
@@ -41,9 +40,9 @@ fn unmark(marks: &mut [bool], at: usize, goes: bool)
     marks[at] = marks[at] && !goes;
 }
 
-/// Takes the marks of the punches of a level, among the versions in chains, that lead to a path. Behind
-/// one that might go and isn't marked none is, so each mark is taken once, however many updates need it.
-pub fn spare_level(
+// Goes along the chain of a bucket. Behind a punch that might go and isn't marked none is, so each mark is
+// taken once, however many updates need it.
+fn spare_in_chain(
     marks: &mut [bool],
     later: &Later,
     bucket: usize,
@@ -65,4 +64,22 @@ pub fn spare_level(
         unmark(marks, at, is_over(&version.write, level, path));
         at = later.nexts[at];
     }
+}
+
+/// Takes the marks of the punches of a level, among the versions in chains, that lead to a path.
+pub fn spare_level(
+    marks: &mut [bool],
+    later: &Later,
+    bucket: usize,
+    level: Level,
+    path: &Path,
+    plan: &Plan,
+)
+    requires planned { ArePlanned plan.now.cont plan.now.upto later.now.from marks.old later.now.versions.now }
+    requires within { bucket < length later.now.heads.now }
+    requires bucket { bucket ≡ level_hash level path.now % length later.now.heads.now }
+    ensures marks { marks.new ≡ spared level path.now marks.old later.now.versions.now }
+    ensures planned { ArePlanned plan.now.cont plan.now.upto later.now.from marks.new later.now.versions.now }
+{
+    spare_in_chain(marks, later, bucket, level, path, plan);
 }

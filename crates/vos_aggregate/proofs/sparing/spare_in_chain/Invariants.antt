@@ -1,7 +1,7 @@
 use Rattle.std.proofs.Common.{◌≡◌, ℕ, ◌-◌, ◌<◌, ◌≤◌, get_or, length, map}
 use Rattle.vos_aggregate.specs.Buckets.{bucket_by}
 use Rattle.vos_aggregate.proofs.Spared.{SparedUpto}
-use Rattle.vos_aggregate.proofs.sparing.spare_level.Given as goal
+use Rattle.vos_aggregate.proofs.sparing.spare_in_chain.Given as goal
 
 -- the place is of the bucket, or the end, and the marks before it are spared
 abbrev pub invariant-loop-at : goal.invariant-loop-at
