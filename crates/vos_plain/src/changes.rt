@@ -2,7 +2,7 @@
 use crate::contents::Contents;
 use crate::keyed::put_in;
 use crate::rows::{blocks_more, blocks_taken, versions_in_form};
-use crate::sweeps::{mark_going, remove_snap};
+use crate::sweeps::remove_snap;
 use crate::tables::{create, has_snap, mark, raise, with_conts};
 use base_types::entry::{Entry, Settle};
 use base_types::epoch::{Epoch, TargetId};
@@ -14,11 +14,12 @@ use base_types::snapshot::Snap;
 use daos_model::prunes::Plan;
 use dtx_entries::table::EntryTable;
 use std::alloc::Global;
+use vos_aggregate::planner::Planner;
 use vos_rows::table::VersionTable;
 use vos_store::refusal::EnlistNo;
 
 impl Contents {
-    ghost use Rattle.std.specs.Prelude.{◌≡◌, ◌+◌, ◌*◌, ◌^◌, ◌<◌, ◌≤◌, true, false, None, IfErr, IfOk, IsErr, OnOk, length, vec_capacity};
+    ghost use Rattle.std.specs.Prelude.{◌≡◌, ◌+◌, ◌*◌, ◌^◌, ◌<◌, ◌≤◌, true, false, None, IfErr, IfOk, IsErr, OnOk, length};
     ghost use Rattle.std.specs.List.{list_all};
     ghost use Rattle.base_types.specs.declared.entry.Settle.{Settle};
     ghost use Rattle.daos_model.specs.Changes.{created, discarded, enlisted, frozen, leased, pruned, reopened, settled, thawed};
@@ -42,7 +43,7 @@ impl Contents {
         Ok(Contents {
             alloc,
             rows: VersionTable::new(alloc),
-            marks: Vec::new(alloc),
+            planner: Planner::new(alloc),
             entries: EntryTable::new(alloc),
             conts: Vec::new(alloc),
             snaps: Vec::with_capacity(alloc, 256)?,
@@ -89,13 +90,12 @@ impl Contents {
         ensures versions { OnOk result (self.new.rows.coming ≡ versions_of entry.now writes.now) }
         ensures form { OnOk result (list_all is_version_in_form self.new.rows.coming ≡ true) }
         ensures blocks { OnOk result (versions_blocks self.new.rows.coming + 2 ≡ blocks writes.now) }
-        ensures marks { OnOk result (length self.new.rows.items + length self.new.rows.coming ≤ vec_capacity self.new.marks) }
+        ensures planner { OnOk result (length self.new.rows.items + length self.new.rows.coming ≤ self.new.planner.room) }
         ensures entries { OnOk result (self.new.entries.room ≡ true) }
         ensures lease { self.new.lease ≡ self.old.lease }
     {
         let rows = versions_in_form(self.alloc, entry, writes)?;
-        self.marks.clear();
-        self.marks.reserve(self.rows.rows().len() + rows.len())?;
+        self.planner.reserve(self.rows.rows().len() + rows.len())?;
         self.rows.expect(rows)?;
         self.entries.reserve()?;
         Ok(())
@@ -105,7 +105,7 @@ impl Contents {
     pub fn prepare(&mut self, entry: Entry)
         requires absent { entry_of (contents_of self.old) entry.attempt ≡ None }
         requires form { list_all is_version_in_form self.old.rows.coming ≡ true }
-        requires marks { length self.old.rows.items + length self.old.rows.coming ≤ vec_capacity self.old.marks }
+        requires planner { length self.old.rows.items + length self.old.rows.coming ≤ self.old.planner.room }
         requires entries { self.old.entries.room ≡ true }
         requires free { versions_blocks self.old.rows.coming + 2 ≤ free_of self.old }
         ensures kept { contents_of self.new ≡ with_entry self.old.rows.coming entry (contents_of self.old) }
@@ -235,8 +235,8 @@ impl Contents {
             cont,
             upto,
         };
-        mark_going(&mut self.marks, &plan);
-        self.rows.sweep(&self.marks);
+        self.planner.mark_going(&plan);
+        self.rows.sweep(self.planner.marks());
         self.taken = blocks_taken(self.rows.rows(), self.entries.rows(), self.capacity);
     }
 

@@ -7,16 +7,17 @@ use base_types::snapshot::Snap;
 use daos_model::durable::ContRow;
 use dtx_entries::table::EntryTable;
 use std::alloc::Global;
+use vos_aggregate::planner::Planner;
 use vos_rows::table::VersionTable;
 
-/// What a store over lists keeps: its parts in order, marks for the versions that a prune removes,
-/// with room for all of them, and places for 256 snapshots. Its capacity is in blocks, and the blocks
-/// that are taken are counted as they change.
+/// What a store over lists keeps: its parts in order, memory for plans of prunes of all its versions,
+/// and places for 256 snapshots. Its capacity is in blocks, and the blocks that are taken are counted
+/// as they change.
 #[derive(Drop)]
 pub struct Contents {
     pub alloc: Global,
     pub rows: VersionTable,
-    pub marks: Vec<bool>,
+    pub planner: Planner,
     pub entries: EntryTable,
     pub conts: Vec<ContRow>,
     pub snaps: Vec<Snap>,
@@ -25,7 +26,7 @@ pub struct Contents {
     pub capacity: u32,
     pub taken: u32,
     ghost formed: { IsInForm (record { versions = rows.items; entries = entries.items; conts = conts.items; snaps = snaps.items; lease = lease; incarnation = incarnation }) },
-    ghost marked: { length rows.items ≤ vec_capacity marks },
+    ghost planned: { length rows.items ≤ planner.room },
     ghost places: { 256 ≤ vec_capacity snaps },
     ghost counted: { taken ≡ taken_blocks rows.items entries.items },
     ghost room: { taken_blocks rows.items entries.items ≤ capacity },

@@ -1,14 +1,12 @@
 // Rows that go, in place.
-ghost use Rattle.std.specs.Prelude.{◌≡◌, ◌≤◌, filter, length, map, vec_capacity};
+ghost use Rattle.std.specs.Prelude.{◌≡◌, filter, vec_capacity};
 ghost use Rattle.daos_model.specs.Changes.{is_other, is_other_snap};
-ghost use Rattle.daos_model.specs.Prunes.{is_going};
 
 use crate::tables::{is_entry_of, is_snap_at};
 use base_types::entry::Entry;
 use base_types::epoch::Epoch;
 use base_types::id::{AttemptId, ContId};
 use base_types::snapshot::Snap;
-use daos_model::prunes::Plan;
 pub use vos_rows::sweeps::remove_pending;
 
 /// Removes the entry of an attempt.
@@ -38,16 +36,4 @@ pub fn remove_snap(rows: &mut Vec<Snap>, cont: ContId, epoch: Epoch)
         }
     }
     rows.truncate(kept);
-}
-
-/// Marks the versions that a prune removes.
-pub fn mark_going(marks: &mut Vec<bool>, plan: &Plan)
-    requires { length plan.now.versions.now ≤ vec_capacity marks.old }
-    ensures items { marks.new.items ≡ map (is_going plan.now.cont plan.now.upto plan.now.versions.now plan.now.snaps.now) plan.now.versions.now }
-    ensures capacity { vec_capacity marks.old ≤ vec_capacity marks.new }
-{
-    marks.clear();
-    for version in plan.versions {
-        marks.push(plan.removes(version)).unwrap();
-    }
 }

@@ -49,7 +49,7 @@ invariant_of-self-clause-counted c =
     let entries : length c.rows-2.result.now ≡ length c.settle.new.self.items = ap (λ x. length x) c.rows-2.ensures in
     omega (arith, c.blocks_taken-self.ensures, rows, entries)
 
-pub invariant_of-self-clause-marked : goal.invariant_of-self-clause-marked
-invariant_of-self-clause-marked c =
+pub invariant_of-self-clause-planned : goal.invariant_of-self-clause-planned
+invariant_of-self-clause-planned c =
     let few : length c.remove_pending.new.self.items ≤ length c.args.self.now.rows.items = fewer_versions c.args.self.now.rows.items c.remove_pending.new.self.items (is_not_pending c.args.attempt) c.remove_pending.ensures in
-    omega (arith, c.args.self.now.marked, few)
+    omega (arith, c.args.self.now.planned, few)

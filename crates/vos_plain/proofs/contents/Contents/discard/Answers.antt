@@ -44,7 +44,7 @@ invariant_of-self-clause-counted c =
     let entries : length c.rows-2.result.now ≡ length c.args.self.now.entries.items = ap (λ x. length x) c.rows-2.ensures in
     omega (arith, c.blocks_taken-self.ensures, rows, entries)
 
-pub invariant_of-self-clause-marked : goal.invariant_of-self-clause-marked
-invariant_of-self-clause-marked c =
+pub invariant_of-self-clause-planned : goal.invariant_of-self-clause-planned
+invariant_of-self-clause-planned c =
     let few : length c.remove_range.new.self.items ≤ length c.args.self.now.rows.items = fewer_versions c.args.self.now.rows.items c.remove_range.new.self.items (is_out_of_range c.args.cont c.args.lo c.args.hi) c.remove_range.ensures in
-    omega (arith, c.args.self.now.marked, few)
+    omega (arith, c.args.self.now.planned, few)

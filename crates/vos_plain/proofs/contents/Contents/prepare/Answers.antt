@@ -26,7 +26,7 @@ invariant_of-self-clause-counted c =
     let read : versions_blocks c.coming.result.now ≡ versions_blocks c.args.self.now.rows.coming = ap versions_blocks c.coming.ensures in
     omega (arith, c.args.self.now.counted, c.blocks_more.ensures, more, read)
 
-pub invariant_of-self-clause-marked : goal.invariant_of-self-clause-marked
-invariant_of-self-clause-marked c =
+pub invariant_of-self-clause-planned : goal.invariant_of-self-clause-planned
+invariant_of-self-clause-planned c =
     let more : length c.put_coming.new.self.items ≡ length c.args.self.now.rows.coming + length c.args.self.now.rows.items = ap (λ z. length z) c.put_coming.ensures.items ∙ length-puts c.args.self.now.rows.coming c.args.self.now.rows.items in
-    omega (arith, c.requires.marks, more)
+    omega (arith, c.requires.planner, more)

@@ -10,40 +10,40 @@ use Rattle.vos_plain.proofs.Kept.{all_left, fewer_versions, freed, pruned_is, sw
 use Rattle.vos_plain.proofs.contents.Contents.prune.Goals as goal
 
 pub sweep-requires : goal.sweep-requires
-sweep-requires c = ap (λ z. length z) (c.deref-2.ensures.value ∙ c.mark_going.ensures.items) ∙ length-map (is_going c.args.cont c.args.upto c.rows.result.now c.deref.result.now) c.rows.result.now ∙ ap (λ z. length z) c.rows.ensures
+sweep-requires c = ap (λ z. length z) (c.marks.ensures ∙ c.mark_going.ensures.marks) ∙ length-map (is_going c.args.cont c.args.upto c.rows.result.now c.deref.result.now) c.rows.result.now ∙ ap (λ z. length z) c.rows.ensures
 
 pub invariant_of-self-clause-formed : goal.invariant_of-self-clause-formed
 invariant_of-self-clause-formed c =
-    let rows : c.sweep.new.self.items ≡ filter (is_staying c.args.cont c.args.upto (contents_of c.args.self.now)) c.args.self.now.rows.items = swept_by c.args.cont c.args.upto (contents_of c.args.self.now) c.rows.result.now c.deref.result.now c.mark_going.new.marks.items c.deref-2.result.now c.sweep.new.self.items c.mark_going.ensures.items c.rows.ensures c.deref.ensures.value c.deref-2.ensures.value c.sweep.ensures in
+    let rows : c.sweep.new.self.items ≡ filter (is_staying c.args.cont c.args.upto (contents_of c.args.self.now)) c.args.self.now.rows.items = swept_by c.args.cont c.args.upto (contents_of c.args.self.now) c.rows.result.now c.deref.result.now c.mark_going.new.self.marks c.marks.result.now c.sweep.new.self.items c.mark_going.ensures.marks c.rows.ensures c.deref.ensures.value c.marks.ensures c.sweep.ensures in
     subst IsInForm (sym (pruned_is c.args.cont c.args.upto c.args.number (contents_of c.args.self.now) c.mark.new.rows.items c.sweep.new.self.items c.mark.ensures rows))
     (pruned-in_form c.args.cont c.args.upto c.args.number (contents_of c.args.self.now) c.args.self.now.formed)
 
 pub invariant_of-self-clause-room : goal.invariant_of-self-clause-room
 invariant_of-self-clause-room c =
-    let rows : c.sweep.new.self.items ≡ filter (is_staying c.args.cont c.args.upto (contents_of c.args.self.now)) c.args.self.now.rows.items = swept_by c.args.cont c.args.upto (contents_of c.args.self.now) c.rows.result.now c.deref.result.now c.mark_going.new.marks.items c.deref-2.result.now c.sweep.new.self.items c.mark_going.ensures.items c.rows.ensures c.deref.ensures.value c.deref-2.ensures.value c.sweep.ensures in
+    let rows : c.sweep.new.self.items ≡ filter (is_staying c.args.cont c.args.upto (contents_of c.args.self.now)) c.args.self.now.rows.items = swept_by c.args.cont c.args.upto (contents_of c.args.self.now) c.rows.result.now c.deref.result.now c.mark_going.new.self.marks c.marks.result.now c.sweep.new.self.items c.mark_going.ensures.marks c.rows.ensures c.deref.ensures.value c.marks.ensures c.sweep.ensures in
     let given : versions_blocks c.sweep.new.self.items + going_count c.args.cont c.args.upto (contents_of c.args.self.now) ≤ versions_blocks c.args.self.now.rows.items = freed c.args.cont c.args.upto (contents_of c.args.self.now) c.sweep.new.self.items rows in
     omega (arith, c.args.self.now.room, given)
 
 pub returns-clause-kept : goal.returns-clause-kept
 returns-clause-kept c =
-    let rows : c.sweep.new.self.items ≡ filter (is_staying c.args.cont c.args.upto (contents_of c.args.self.now)) c.args.self.now.rows.items = swept_by c.args.cont c.args.upto (contents_of c.args.self.now) c.rows.result.now c.deref.result.now c.mark_going.new.marks.items c.deref-2.result.now c.sweep.new.self.items c.mark_going.ensures.items c.rows.ensures c.deref.ensures.value c.deref-2.ensures.value c.sweep.ensures in
+    let rows : c.sweep.new.self.items ≡ filter (is_staying c.args.cont c.args.upto (contents_of c.args.self.now)) c.args.self.now.rows.items = swept_by c.args.cont c.args.upto (contents_of c.args.self.now) c.rows.result.now c.deref.result.now c.mark_going.new.self.marks c.marks.result.now c.sweep.new.self.items c.mark_going.ensures.marks c.rows.ensures c.deref.ensures.value c.marks.ensures c.sweep.ensures in
     pruned_is c.args.cont c.args.upto c.args.number (contents_of c.args.self.now) c.mark.new.rows.items c.sweep.new.self.items c.mark.ensures rows
 
 pub returns-clause-free : goal.returns-clause-free
 returns-clause-free c =
-    let rows : c.sweep.new.self.items ≡ filter (is_staying c.args.cont c.args.upto (contents_of c.args.self.now)) c.args.self.now.rows.items = swept_by c.args.cont c.args.upto (contents_of c.args.self.now) c.rows.result.now c.deref.result.now c.mark_going.new.marks.items c.deref-2.result.now c.sweep.new.self.items c.mark_going.ensures.items c.rows.ensures c.deref.ensures.value c.deref-2.ensures.value c.sweep.ensures in
+    let rows : c.sweep.new.self.items ≡ filter (is_staying c.args.cont c.args.upto (contents_of c.args.self.now)) c.args.self.now.rows.items = swept_by c.args.cont c.args.upto (contents_of c.args.self.now) c.rows.result.now c.deref.result.now c.mark_going.new.self.marks c.marks.result.now c.sweep.new.self.items c.mark_going.ensures.marks c.rows.ensures c.deref.ensures.value c.marks.ensures c.sweep.ensures in
     let given : versions_blocks c.sweep.new.self.items + going_count c.args.cont c.args.upto (contents_of c.args.self.now) ≤ versions_blocks c.args.self.now.rows.items = freed c.args.cont c.args.upto (contents_of c.args.self.now) c.sweep.new.self.items rows in
     omega (arith, c.args.self.now.room, given)
 
 pub blocks_taken-self-requires-clause-form : goal.blocks_taken-self-requires-clause-form
 blocks_taken-self-requires-clause-form c =
-    let rows : c.sweep.new.self.items ≡ filter (is_staying c.args.cont c.args.upto (contents_of c.args.self.now)) c.args.self.now.rows.items = swept_by c.args.cont c.args.upto (contents_of c.args.self.now) c.rows.result.now c.deref.result.now c.mark_going.new.marks.items c.deref-2.result.now c.sweep.new.self.items c.mark_going.ensures.items c.rows.ensures c.deref.ensures.value c.deref-2.ensures.value c.sweep.ensures in
+    let rows : c.sweep.new.self.items ≡ filter (is_staying c.args.cont c.args.upto (contents_of c.args.self.now)) c.args.self.now.rows.items = swept_by c.args.cont c.args.upto (contents_of c.args.self.now) c.rows.result.now c.deref.result.now c.mark_going.new.self.marks c.marks.result.now c.sweep.new.self.items c.mark_going.ensures.marks c.rows.ensures c.deref.ensures.value c.marks.ensures c.sweep.ensures in
     ap (list_all is_version_in_form) c.rows-2.ensures
     ∙ all_left is_version_in_form (is_staying c.args.cont c.args.upto (contents_of c.args.self.now)) c.args.self.now.rows.items c.sweep.new.self.items rows c.args.self.now.formed.writes
 
 pub blocks_taken-self-requires-clause-few : goal.blocks_taken-self-requires-clause-few
 blocks_taken-self-requires-clause-few c =
-    let rows : c.sweep.new.self.items ≡ filter (is_staying c.args.cont c.args.upto (contents_of c.args.self.now)) c.args.self.now.rows.items = swept_by c.args.cont c.args.upto (contents_of c.args.self.now) c.rows.result.now c.deref.result.now c.mark_going.new.marks.items c.deref-2.result.now c.sweep.new.self.items c.mark_going.ensures.items c.rows.ensures c.deref.ensures.value c.deref-2.ensures.value c.sweep.ensures in
+    let rows : c.sweep.new.self.items ≡ filter (is_staying c.args.cont c.args.upto (contents_of c.args.self.now)) c.args.self.now.rows.items = swept_by c.args.cont c.args.upto (contents_of c.args.self.now) c.rows.result.now c.deref.result.now c.mark_going.new.self.marks c.marks.result.now c.sweep.new.self.items c.mark_going.ensures.marks c.rows.ensures c.deref.ensures.value c.marks.ensures c.sweep.ensures in
     let given : versions_blocks c.sweep.new.self.items + going_count c.args.cont c.args.upto (contents_of c.args.self.now) ≤ versions_blocks c.args.self.now.rows.items = freed c.args.cont c.args.upto (contents_of c.args.self.now) c.sweep.new.self.items rows in
     let read : versions_blocks c.rows-2.result.now ≡ versions_blocks c.sweep.new.self.items = ap versions_blocks c.rows-2.ensures in
     let entries : length c.rows-3.result.now ≡ length c.args.self.now.entries.items = ap (λ x. length x) c.rows-3.ensures in
@@ -55,8 +55,8 @@ invariant_of-self-clause-counted c =
     let entries : length c.rows-3.result.now ≡ length c.args.self.now.entries.items = ap (λ x. length x) c.rows-3.ensures in
     omega (arith, c.blocks_taken-self.ensures, read, entries)
 
-pub invariant_of-self-clause-marked : goal.invariant_of-self-clause-marked
-invariant_of-self-clause-marked c =
-    let rows : c.sweep.new.self.items ≡ filter (is_staying c.args.cont c.args.upto (contents_of c.args.self.now)) c.args.self.now.rows.items = swept_by c.args.cont c.args.upto (contents_of c.args.self.now) c.rows.result.now c.deref.result.now c.mark_going.new.marks.items c.deref-2.result.now c.sweep.new.self.items c.mark_going.ensures.items c.rows.ensures c.deref.ensures.value c.deref-2.ensures.value c.sweep.ensures in
+pub invariant_of-self-clause-planned : goal.invariant_of-self-clause-planned
+invariant_of-self-clause-planned c =
+    let rows : c.sweep.new.self.items ≡ filter (is_staying c.args.cont c.args.upto (contents_of c.args.self.now)) c.args.self.now.rows.items = swept_by c.args.cont c.args.upto (contents_of c.args.self.now) c.rows.result.now c.deref.result.now c.mark_going.new.self.marks c.marks.result.now c.sweep.new.self.items c.mark_going.ensures.marks c.rows.ensures c.deref.ensures.value c.marks.ensures c.sweep.ensures in
     let few : length c.sweep.new.self.items ≤ length c.args.self.now.rows.items = fewer_versions c.args.self.now.rows.items c.sweep.new.self.items (is_staying c.args.cont c.args.upto (contents_of c.args.self.now)) rows in
-    omega (arith, c.args.self.now.marked, few, c.mark_going.ensures.capacity)
+    omega (arith, c.args.self.now.planned, few, c.mark_going.ensures.room)
