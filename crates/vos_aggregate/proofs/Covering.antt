@@ -1,10 +1,9 @@
 -- What touches a cell is in one of few buckets.
-use Rattle.std.proofs.Common.{◌≡◌, ℕ, zero, suc, ◌+◌, ◌-◌, ◌*◌, ◌/◌, ◌%◌, ◌^◌, ◌<◌, ◌≤◌, ◌⊎◌, inl, inr, Bool, true, false, ◌&&◌, ◌||◌, List, [], ◌∷◌, Option, Some, None, length, drop, refl, sym, ◌∙◌, ap, arith}
-use Rattle.std.specs.Prelude.{◌==◌, is_none, is_some, nat_eq, nat_le, nat_lt}
+use Rattle.std.proofs.Common.{◌≡◌, ℕ, zero, suc, ◌-◌, ◌/◌, ◌%◌, ◌^◌, ◌<◌, ◌≤◌, ◌⊎◌, inl, inr, Bool, true, false, ◌&&◌, ◌||◌, List, [], ◌∷◌, Option, Some, None, length, drop, refl, sym, ◌∙◌, ap, arith}
+use Rattle.std.specs.Prelude.{◌==◌, is_none, is_some, nat_le, nat_lt}
 use Rattle.std.specs.List.{list_all, list_any}
 use Rattle.std.specs.Option.{option_eq}
 use Rattle.std.proofs.lemmas.Bool.Decides.{nat_tests}
-use Rattle.base_types.specs.declared.id.ObjId.{ObjId}
 use Rattle.base_types.specs.declared.operation.Write.{Write}
 use Rattle.base_types.specs.declared.operation.Write.TheVariants.{Single, Extent, PunchObject, PunchDkey, PunchAkey}
 use Rattle.base_types.specs.declared.path.Path.{Path}
@@ -14,8 +13,8 @@ use Rattle.base_types.specs.PathLaws.{option_eq-Decides, same_key-Decides, same_
 use Rattle.base_types.specs.Paths.{leads_to, record_size, same_object, same_path}
 use Rattle.daos_model.specs.declared.cell.Cell.{Cell}
 use Rattle.daos_model.specs.declared.durable.Version.{Version}
-use Rattle.daos_model.specs.BoolLaws.{and_left, and_right, both, clash, false_of, or_from_right}
-use Rattle.daos_model.specs.Cells.{cell_at, is_of, same_cell, single_cell}
+use Rattle.daos_model.specs.BoolLaws.{and_left, and_right, both, clash, or_from_right}
+use Rattle.daos_model.specs.Cells.{cell_at}
 use Rattle.daos_model.specs.Forms.{ends_at_akey, ends_at_dkey, ends_at_object}
 use Rattle.daos_model.specs.Prunes.{is_index_in, touches}
 use Rattle.daos_model.specs.Versions.{sees}

@@ -1,4 +1,4 @@
-use Rattle.std.proofs.Common.{◌≡◌, ◌+◌, ◌<◌, length, sym, ◌∙◌, ap, arith}
+use Rattle.std.proofs.Common.{◌<◌, length, sym, ◌∙◌, ap, arith}
 use Rattle.daos_model.specs.Prunes.{is_unseen}
 use Rattle.vos_aggregate.specs.Sparing.{marks_from}
 use Rattle.vos_aggregate.proofs.Plans.{mark-goes, mark-stays, mark-within, unseen-planned}

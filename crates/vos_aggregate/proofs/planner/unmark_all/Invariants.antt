@@ -1,4 +1,4 @@
-use Rattle.std.proofs.Common.{◌≡◌, ◌≤◌, ◌<◌, ℕ, false, get_or, vec_capacity, vec_len}
+use Rattle.std.proofs.Common.{◌≡◌, ◌≤◌, ℕ, false, get_or, vec_capacity, vec_len}
 use Rattle.vos_aggregate.proofs.planner.unmark_all.Given as goal
 
 abbrev pub invariant-loop-i : goal.invariant-loop-i

@@ -1,6 +1,5 @@
-use Rattle.std.proofs.Common.{◌≡◌, ℕ, ◌+◌, ◌<◌, ◌≤◌, ◌&&◌, ◌||◌, Bool, List, false, true, get_or, set, length, map, not, sym, subst, ◌∙◌, ap, arith}
+use Rattle.std.proofs.Common.{◌≡◌, ℕ, ◌+◌, ◌<◌, ◌&&◌, Bool, List, false, get_or, set, length, map, not, sym, subst, ◌∙◌, ap, arith}
 use Rattle.std.proofs.lemmas.List.{length-map}
-use Rattle.daos_model.specs.declared.durable.Version.{Version}
 use Rattle.vos_aggregate.specs.Buckets.{bucket_by}
 use Rattle.vos_aggregate.specs.Chains.{LeadsTo}
 use Rattle.vos_aggregate.specs.Sparing.{is_over}

@@ -1,4 +1,4 @@
-use Rattle.std.proofs.Common.{◌≡◌, ℕ, ◌-◌, ◌<◌, ◌≤◌, get_or, length, map}
+use Rattle.std.proofs.Common.{◌≡◌, ◌-◌, ◌<◌, ◌≤◌, get_or, length, map}
 use Rattle.vos_aggregate.specs.Buckets.{bucket_by}
 use Rattle.vos_aggregate.proofs.Spared.{SparedUpto}
 use Rattle.vos_aggregate.proofs.sparing.spare_in_chain.Given as goal

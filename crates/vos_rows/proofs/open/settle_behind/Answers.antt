@@ -1,6 +1,5 @@
-use Rattle.std.proofs.Common.{◌≡◌, ◌-◌, ◌++◌, ◌∙◌, true, ap, drop, length, map, take, arith}
+use Rattle.std.proofs.Common.{◌-◌, ◌∙◌, ap, length, take, arith}
 use Rattle.std.specs.List.{list_all}
-use Rattle.daos_model.specs.Versions.{done_by}
 use Rattle.vos_rows.specs.Tables.{is_done}
 use Rattle.vos_rows.proofs.Settled.{done-settled, settled-behind}
 use Rattle.vos_rows.proofs.open.settle_behind.Goals as goal

@@ -1,4 +1,4 @@
-use Rattle.std.proofs.Common.{◌≡◌, ◌/◌, ◌≤◌, length, not, sym, subst, ◌∙◌, ap}
+use Rattle.std.proofs.Common.{◌/◌, ◌≤◌, length, not, sym, subst, ◌∙◌, ap}
 use Rattle.base_types.specs.Paths.{record_size}
 use Rattle.vos_aggregate.proofs.Hiding.{few-records, plain-last, shown-single}
 use Rattle.vos_aggregate.proofs.later.Later.is_any_cell_shown.Goals as goal

@@ -1,4 +1,4 @@
-use Rattle.std.proofs.Common.{◌≡◌, ◌+◌, ◌/◌, ◌<◌, ◌≤◌, ◌∙◌, Bool, Some, true, false, length, not, ap, sym, arith}
+use Rattle.std.proofs.Common.{◌≡◌, ◌+◌, ◌/◌, ◌<◌, ◌≤◌, ◌∙◌, Some, true, false, length, not, ap, sym, arith}
 use Rattle.std.specs.List.{list_any}
 use Rattle.base_types.specs.Paths.{record_size}
 use Rattle.daos_model.specs.Cells.{cell_at}

@@ -1,4 +1,4 @@
-use Rattle.std.proofs.Common.{◌≡◌, ℕ, ◌-◌, ◌<◌, ◌≤◌, drop, get_or, length, map}
+use Rattle.std.proofs.Common.{◌≡◌, ◌-◌, ◌<◌, ◌≤◌, drop, get_or, length, map}
 use Rattle.std.specs.List.{list_any}
 use Rattle.daos_model.specs.Cells.{cell_at}
 use Rattle.vos_aggregate.specs.Buckets.{bucket_by}

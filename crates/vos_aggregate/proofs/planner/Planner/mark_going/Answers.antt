@@ -1,4 +1,4 @@
-use Rattle.std.proofs.Common.{◌≡◌, length, ◌∙◌, arith}
+use Rattle.std.proofs.Common.{◌∙◌, arith}
 use Rattle.vos_aggregate.proofs.Plans.{start-planned}
 use Rattle.vos_aggregate.proofs.planner.Planner.mark_going.Goals as goal
 
