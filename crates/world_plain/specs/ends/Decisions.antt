@@ -16,7 +16,7 @@ use Rattle.model_laws.specs.Members.{Has, contains-from_has, has-from_contains, 
 use Rattle.model_laws.specs.TargetLaws.{as_of-set}
 use Rattle.daos_model.specs.Accesses.{minor_writes}
 use Rattle.daos_model.specs.AsOf.{as_of}
-use Rattle.daos_model.specs.Attempts.{epoch_or_none, is_unknown, own_epochs, snapshot_of, tries}
+use Rattle.daos_model.specs.Attempts.{epoch_or_none, is_unknown, own_epochs, tries}
 use Rattle.daos_model.specs.Finals.{SameMap}
 use Rattle.daos_model.specs.Opening.{Opening}
 use Rattle.daos_model.specs.TookEffect.{took}

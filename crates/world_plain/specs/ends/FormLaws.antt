@@ -1,5 +1,5 @@
 -- What the commands of a script in form are, where it makes no snapshot and reads at none.
-use Rattle.std.specs.Prelude.{ℕ, zero, suc, ◌≡◌, ◌≢◌, ◌<◌, ◌+◌, Bool, true, false, ◌++◌, List, [], ◌∷◌, filter, length, map, slice_get, All, Option, Some, None, refl, if◌then◌else◌}
+use Rattle.std.specs.Prelude.{ℕ, zero, suc, ◌≡◌, ◌≢◌, ◌<◌, ◌+◌, true, false, ◌++◌, List, [], ◌∷◌, length, map, slice_get, All, Option, Some, None, refl}
 use Rattle.std.proofs.Common.{sym, ◌∙◌, ap, subst, arith}
 use Rattle.std.proofs.lemmas.List.Elements.{All-append, All-cons, All-head, All-nil, All-tail}
 use Rattle.base_types.specs.declared.id.AttemptId.{AttemptId}
@@ -15,12 +15,11 @@ use Rattle.base_types.specs.declared.script.Script.{Script}
 use Rattle.base_types.specs.Scripts.{AreCommands, IsActInForm, IsCommand, IsInForm, IsOpInForm, SnapName, is_numbered, old_snap, snap_of}
 use Rattle.model_laws.specs.Lists.{all-at}
 use Rattle.daos_model.specs.Accesses.{minor_write, minor_writes}
-use Rattle.daos_model.specs.Attempts.{snapshot_or_none}
 use Rattle.daos_model.specs.Forms.{is_write_in_form}
 use Rattle.daos_model.specs.Transactions.{attempt_ops, command_of, numbered_at, ops_of, read_numbers}
 use Rattle.world_plain.specs.whole.ScriptForm.{HaveUnits, write-in-form}
 use Rattle.world_letters.specs.epochs.Epochs.{Unsnapped, is_unsnapped}
-use Rattle.world_base.specs.Events.{Rules, commands_or_none}
+use Rattle.world_base.specs.Events.{Rules}
 use Rattle.world_contents.specs.gots.FormLaws.{ops-form}
 use Rattle.world_letters.specs.epochs.PlainScripts.{command-plain, filter-at}
 

@@ -1,20 +1,17 @@
 -- A script in form that reads at no snapshot gives what the facts of causes ask of a run.
-use Rattle.std.specs.Prelude.{◌≡◌, true, Contains, Some, None, refl}
+use Rattle.std.specs.Prelude.{Contains}
 use Rattle.base_types.specs.declared.id.AttemptId.{AttemptId}
 use Rattle.base_types.specs.declared.operation.MinorWrite.{MinorWrite}
-use Rattle.base_types.specs.declared.script.Command.{Command}
-use Rattle.base_types.specs.declared.script.Command.TheVariants.{Run, Snap, Aggregate, Tell, Skip}
 use Rattle.base_types.specs.Operations.{write_path}
 use Rattle.base_types.specs.Placement.{path_leader, path_members}
 use Rattle.base_types.specs.PlacementLaws.{path_leader-member}
 use Rattle.base_types.specs.Scripts.{IsInForm}
 use Rattle.model_laws.specs.Members.{has-from_contains}
 use Rattle.daos_model.specs.Accesses.{minor_writes}
-use Rattle.daos_model.specs.Attempts.{snapshot_of_command}
 use Rattle.daos_model.specs.Transactions.{attempt_ops}
 use Rattle.world_causes.specs.causes.Premises.{IsPlain}
 use Rattle.world_plain.specs.whole.ScriptForm.{writes-declared}
-use Rattle.world_letters.specs.epochs.Epochs.{Unsnapped, is_unsnapped}
+use Rattle.world_letters.specs.epochs.Epochs.{Unsnapped}
 use Rattle.world_base.specs.Events.{Rules}
 use Rattle.world_contents.specs.gots.FormLaws.{fit-object, ops-form, write-declared}
 use Rattle.world_letters.specs.epochs.PlainScripts.{reads-now}

@@ -1,5 +1,5 @@
 -- At each moment of a run the targets keep what the opening and the resolved attempts give.
-use Rattle.std.specs.Prelude.{ℕ, ◌≡◌, ◌<◌, ◌+◌, ◌^◌, ◌&&◌, ◌||◌, ◌==◌, ◌++◌, Bool, true, false, nat_lt, List, [], ◌∷◌, filter, map, slice_get, All, Contains, Option, Some, None, refl}
+use Rattle.std.specs.Prelude.{ℕ, ◌≡◌, ◌<◌, ◌^◌, ◌&&◌, ◌||◌, ◌==◌, ◌++◌, Bool, true, false, nat_lt, List, [], ◌∷◌, filter, map, slice_get, All, Contains, Option, Some, None, refl}
 use Rattle.std.specs.List.{list_all}
 use Rattle.std.proofs.Common.{inl, inr, sym, ◌∙◌, ap, subst}
 use Rattle.std.proofs.lemmas.List.Elements.{All-nil}

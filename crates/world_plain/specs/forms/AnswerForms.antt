@@ -71,18 +71,30 @@ yes-form : (b : Bool) → IsAnswer (yes_or_no b)
 yes-form true = tt
 yes-form false = tt
 
-answer-form : (objs : List ObjDecl) (r : Read) (m : List CellValue) → IsReadInForm objs r → MapHasKeys m → IsAnswer (answer r m)
-answer-form objs (read.Single p) m f k = value-form (value_at m (single_cell p))
-answer-form objs (read.Extent p low len) m f k =
-    All-weaker (IsWithin len) IsPiece (short-piece len (let short : low + len < 2 ^ 32 = f.2 in omega (arith, short))) (pieces p low len m) (pieces-within p low len m)
-answer-form objs (read.Dkeys p) m f k = dkey-names p m k
-answer-form objs (read.Akeys p) m f k = akey-names p m k
-answer-form objs (read.Exists p) m f k = yes-form (has_cell_below p m)
+-- an array is read at fewer indexes than it has
+abbrev pub IsShortRead : Read → Type 0
+IsShortRead (read.Extent p low len) = len < 2 ^ 32
+IsShortRead r = Unit {0}
+
+pub answer-form : (r : Read) (m : List CellValue) → IsShortRead r → MapHasKeys m → IsAnswer (answer r m)
+answer-form (read.Single p) m short k = value-form (value_at m (single_cell p))
+answer-form (read.Extent p low len) m short k = All-weaker (IsWithin len) IsPiece (short-piece len short) (pieces p low len m) (pieces-within p low len m)
+answer-form (read.Dkeys p) m short k = dkey-names p m k
+answer-form (read.Akeys p) m short k = akey-names p m k
+answer-form (read.Exists p) m short k = yes-form (has_cell_below p m)
+
+-- so is each read of a script in form
+short-read : (objs : List ObjDecl) (r : Read) → IsReadInForm objs r → IsShortRead r
+short-read objs (read.Single p) f = tt
+short-read objs (read.Extent p low len) f = let short : low + len < 2 ^ 32 = f.2 in omega (arith, short)
+short-read objs (read.Dkeys p) f = tt
+short-read objs (read.Akeys p) f = tt
+short-read objs (read.Exists p) f = tt
 
 -- ---- what an attempt was told
 
 act-answer : (objs : List ObjDecl) (a : Act) (r : Read) (m : List CellValue) → IsActInForm objs a → read_of a ≡ Some r → MapHasKeys m → IsAnswer (answer r m)
-act-answer objs (Fetch q) r m f is k = let same : q ≡ r = cc in answer-form objs r m (subst (IsReadInForm objs) same f) k
+act-answer objs (Fetch q) r m f is k = let same : q ≡ r = cc in answer-form r m (short-read objs r (subst (IsReadInForm objs) same f)) k
 act-answer objs (Change w) r m f is k = let no : ⊥ = cc in absurd no
 
 module _ (objs : List ObjDecl) (ops : List Op) (few : length ops ≤ 64) (forms : All (IsOpInForm objs) ops) (m : List CellValue) (k : MapHasKeys m) where

@@ -75,7 +75,7 @@ effect-keys (write.PunchObject p) m h k = without-keys p m k
 effect-keys (write.PunchDkey p) m h k = without-keys p m k
 effect-keys (write.PunchAkey p) m h k = without-keys p m k
 
-effects-keys : (ws : List Write) (m : List CellValue) → All WriteHasKeys ws → MapHasKeys m → MapHasKeys (effects ws m)
+pub effects-keys : (ws : List Write) (m : List CellValue) → All WriteHasKeys ws → MapHasKeys m → MapHasKeys (effects ws m)
 effects-keys [] m h k = k
 effects-keys (w ∷ ws) m h k = effects-keys ws (effect w m) (All-tail WriteHasKeys w ws h) (effect-keys w m (All-head WriteHasKeys w ws h) k)
 
@@ -168,7 +168,7 @@ among-keys key (n ∷ ns) h k =
       ]
     ]
 
-in_byte_order-keys : (ks : List (List ℕ)) → All IsKey ks → All IsKey (in_byte_order ks)
+pub in_byte_order-keys : (ks : List (List ℕ)) → All IsKey ks → All IsKey (in_byte_order ks)
 unfolding in_byte_order
 in_byte_order-keys [] k = k
 in_byte_order-keys (key ∷ ks) k = among-keys key (in_byte_order ks) (All-head IsKey key ks k) (in_byte_order-keys ks (All-tail IsKey key ks k))

@@ -1,6 +1,5 @@
 -- At each moment of a run of one client, no line tells an attempt to restart.
-use Rattle.std.specs.Prelude.{ℕ, ◌≡◌, ◌⊎◌, ◌<◌, ◌==◌, Bool, true, false, not, is_some, ◌||◌, List, [], ◌∷◌, ◌++◌, length, slice_get, Option, Some, None, refl, if◌then◌else◌}
-use Rattle.std.specs.List.{list_any}
+use Rattle.std.specs.Prelude.{◌≡◌, ◌⊎◌, ◌<◌, ◌==◌, true, false, not, is_some, ◌||◌, List, ◌∷◌, ◌++◌, length, slice_get, Option, Some, None, refl}
 use Rattle.std.proofs.Common.{append_assoc, inl, inr, sym, ◌∙◌, ap, subst, arith}
 use Rattle.std.proofs.lemmas.Option.{slice_get_within}
 use Rattle.base_types.specs.declared.epoch.Epoch.{Epoch}
@@ -13,13 +12,13 @@ use Rattle.base_types.specs.declared.report.Line.{Line}
 use Rattle.base_types.specs.declared.report.Line.TheVariants as line
 use Rattle.model_laws.specs.DecidedLaws.{all-from_has, has-all}
 use Rattle.model_laws.specs.Lists.{any-of}
-use Rattle.model_laws.specs.Members.{Has, any-has, contains-from_has, has-filter, has-from_contains}
+use Rattle.model_laws.specs.Members.{Has, contains-from_has, has-filter, has-from_contains}
 use Rattle.model_laws.specs.TargetLaws.{same_number}
 use Rattle.model_reports.specs.Alone.{stands-before, stands-beside, stands-there}
 use Rattle.daos_model.specs.Attempts.{has_own_epoch, is_lost, is_of_client, is_restart, is_unknown, is_unsure, tries, tries_of, up_to_last_of}
 use Rattle.daos_model.specs.Opening.{Opening, top}
 use Rattle.daos_model.specs.Order.{EpochIsBelow, IsAfter, IsAfterAll, told_by}
-use Rattle.model_reports.specs.Lines.{StandsAt, line-of}
+use Rattle.model_reports.specs.Lines.{StandsAt, line-of, up-to-has}
 use Rattle.world_base.specs.declared.client.ClientState.{ClientState}
 use Rattle.world_base.specs.declared.client.Present.{Present}
 use Rattle.world_base.specs.declared.world.World.{World}
@@ -36,21 +35,6 @@ use Rattle.world_plain.specs.whole.Asking.{plainly}
 
 number-of : {e f : Epoch} → Some e ≡ Some f → e.0 ≡ f.0
 number-of {e = e} {f = f} s = let same : e ≡ f = cc in ap (λ x. x.0) same
-
--- lines up to the last one of a client have all that are its
-up-to-has : (c : ℕ) (lines : List Line) (b : Attempt) → Has b (tries lines) → is_of_client c b ≡ true → Has b (tries (up_to_last_of c lines))
-unfolding tries up_to_last_of
-up-to-has c [] b i its = i
-up-to-has c (l ∷ ls) b i its = by (λ j. up-to-has c ls b j its) (list_any (is_of_client c) (tries (l ∷ ls))) (any-has (is_of_client c) (tries (l ∷ ls)) b i its)
-  where
-    among : (k : Line) → Has b (tries (k ∷ ls)) → (Has b (tries ls) → Has b (tries (up_to_last_of c ls))) → Has b (tries (k ∷ up_to_last_of c ls))
-    among (line.Try a) (inl same) rest = inl same
-    among (line.Try a) (inr j) rest = inr (rest j)
-    among k j rest = rest j
-
-    by : (Has b (tries ls) → Has b (tries (up_to_last_of c ls))) → (z : Bool) → z ≡ true → Has b (tries (if z then l ∷ up_to_last_of c ls else []))
-    by rest true is = among l i rest
-    by rest false is = let no : ⊥ = cc in absurd no
 
 module _ (r : Rules) (o : Opening) (v : World) (plain : Unsnapped r) (clients : length v.clients ≡ 1) (E : PlainEpochs r (top o) v) (L : Lines r v) (stored : Stored) (C : PlainCauses r o stored v) where
   -- ---- the lines

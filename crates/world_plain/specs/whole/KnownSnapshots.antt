@@ -1,6 +1,6 @@
 -- A client that reads at a snapshot knows it, and its epoch.
 use Rattle.std.specs.Prelude.{ℕ, ◌≡◌, ◌+◌, ◌++◌, ◌&&◌, Bool, true, false, nat_lt, List, [], ◌∷◌, find, slice_get, Option, Some, None, refl, is_some, if◌then◌else◌}
-use Rattle.std.proofs.Common.{sym, ◌∙◌, ap, subst}
+use Rattle.std.proofs.Common.{sym, ap, subst}
 use Rattle.base_types.specs.declared.answer.Answer.{Answer}
 use Rattle.base_types.specs.declared.epoch.Epoch.{Epoch}
 use Rattle.base_types.specs.declared.operation.Cond.{Cond}

@@ -197,7 +197,7 @@ numbered-form conts objs known (c ∷ cs) n d f at = by (is_numbered c) n at (λ
     by false m h rest = rest m h
 
 -- a command has at most 64 operations
-command-few : (conts : List ContDecl) (objs : List ObjDecl) (names : List SnapName) (d : Command) → IsCommand conts objs names d → length (ops_of d) ≤ 64
+pub command-few : (conts : List ContDecl) (objs : List ObjDecl) (names : List SnapName) (d : Command) → IsCommand conts objs names d → length (ops_of d) ≤ 64
 command-few conts objs names (Run ops turns snapshot) f = f.0.few
 command-few conts objs names (Snap name cont) f = omega arith
 command-few conts objs names (Aggregate cont) f = omega arith
