@@ -12,7 +12,7 @@ use Rattle.base_types.specs.declared.script.Command.TheVariants.{Run, Snap, Aggr
 use Rattle.base_types.specs.declared.script.Script.{Script}
 use Rattle.daos_model.specs.Transactions.{command_of}
 
--- an unresolved transaction: the attempt itself, or another one
+-- an unresolved attempt: whichever it is, the refused one itself or another one
 abbrev pub is_unresolved : Cause → Bool
 is_unresolved (cause.ReadLater by epoch path) = false
 is_unresolved (cause.WriteLater by epoch path) = false
@@ -26,19 +26,19 @@ is_of_snapshot (why.Restart number) = false
 is_of_snapshot (why.Snapshot epoch) = true
 is_of_snapshot (why.Aggregate number) = false
 
--- a snapshot is refused by a floor that no snapshot set, or where its attempt is unresolved itself
+-- a snapshot is refused by a floor that no snapshot set, or by an unresolved attempt, its own or another one
 abbrev pub may_refuse_snap : Cause → Bool
 may_refuse_snap (cause.ReadLater by epoch path) = false
 may_refuse_snap (cause.WriteLater by epoch path) = false
 may_refuse_snap (cause.Unresolved by) = true
 may_refuse_snap (cause.Floor target epoch reason) = not (is_of_snapshot reason)
 
--- a transaction is refused by any cause; one that reads at a snapshot, by an unresolved one alone
+-- a transaction is refused by any cause; one that reads at a snapshot, by an unresolved attempt alone, its own or another one
 abbrev pub may_refuse_run : Option (List ℕ) → Cause → Bool
 may_refuse_run None c = true
 may_refuse_run (Some name) c = is_unresolved c
 
--- an attempt of a command may be told to restart for this cause; one that aggregates, only where it is unresolved itself
+-- an attempt of a command may be told to restart for this cause; one that aggregates, only by an unresolved attempt, itself or another one
 abbrev pub may_refuse : Option Command → Cause → Bool
 may_refuse None c = true
 may_refuse (Some (Run ops skips snapshot)) c = may_refuse_run snapshot c

@@ -1,11 +1,10 @@
 -- Where clocks leave nothing uncertain, no later write refuses an attempt.
-use Rattle.std.specs.Prelude.{ℕ, ◌≡◌, ◌⊎◌, ◌≤◌, ◌<◌, ◌+◌, ◌*◌, ◌++◌, ◌&&◌, ◌==◌, Bool, true, false, not, Any, Contains, List, [], ◌∷◌, Option, Some, None, filter, find, refl, if◌then◌else◌}
+use Rattle.std.specs.Prelude.{ℕ, ◌≡◌, ◌⊎◌, ◌≤◌, ◌<◌, ◌+◌, ◌*◌, ◌++◌, ◌&&◌, ◌==◌, Bool, true, false, not, Contains, List, [], ◌∷◌, Option, Some, None, filter, find, refl, if◌then◌else◌}
 use Rattle.std.proofs.Common.{sym, ◌∙◌, ap, subst, arith, inl, inr}
 use Rattle.std.proofs.lemmas.Bool.Decides.{nat_tests}
 use Rattle.base_types.specs.declared.epoch.Epoch.{Epoch}
 use Rattle.base_types.specs.declared.id.AttemptId.{AttemptId}
 use Rattle.base_types.specs.declared.outcome.Cause.TheVariants as cause
-use Rattle.base_types.specs.declared.outcome.Outcome.{Outcome}
 use Rattle.base_types.specs.declared.outcome.Outcome.TheVariants as outcome
 use Rattle.base_types.specs.declared.path.Path.{Path}
 use Rattle.base_types.specs.declared.report.Attempt.{Attempt}
@@ -16,7 +15,7 @@ use Rattle.model_laws.specs.DecidedLaws.{has-all}
 use Rattle.model_laws.specs.Members.{Has, has-filter, has-from_contains}
 use Rattle.daos_model.specs.Attempts.{has_own_epoch, is_lost, is_of_client, tries}
 use Rattle.daos_model.specs.BoolLaws.{and_left, and_right, both}
-use Rattle.daos_model.specs.CausesShown.{IsLaterWrite, ShowsWhy, epoch_of_attempt, first_epoch, starts_command}
+use Rattle.daos_model.specs.CausesShown.{IsLaterWrite, ShowsWhy, epoch_of_attempt, starts_command}
 use Rattle.daos_model.specs.Headline.{Headline}
 use Rattle.daos_model.specs.Laws.{tries-append}
 use Rattle.daos_model.specs.Opening.{Given, Outside}

@@ -31,7 +31,7 @@ use Rattle.daos_model.specs.Transactions.{attempt_ops}
 use Rattle.model_reports.specs.Lines.{StandsAt, line-of}
 use Rattle.model_reports.specs.RoomLaws.{transactions-find-room}
 use Rattle.model_reports.specs.Rooms.{HasRoom, lacks_space}
-use Rattle.model_reports.specs.Alone.{is-sure, no-snapshot}
+use Rattle.model_reports.specs.Alone.{is-sure, no-snapshot, no-stops}
 use Rattle.model_reports.specs.Lone.{HasNoConditions, HasTicks, IsLone, FreshRunsHaveTicks, LoneClientsCommit, LoneClientsEndPlainly, ends_plainly, first_attempt}
 use Rattle.model_reports.specs.Once.{try-once}
 use Rattle.model_reports.specs.Restarts.{not-restarted}
@@ -53,7 +53,7 @@ module _ (g : Given) (o : Outside) (resolved : AttemptId → Bool) (q : Report) 
       by z (outcome.NoSpace target need free) e = refl
       by z outcome.EpochsSpent e = refl
       by z outcome.NoSnapshot e = absurd (no-missing a z e)
-      by z (outcome.Unknown target) e = clash (is_unknown a.outcome) (ap is_unknown e) (or_left (is_unknown a.outcome) (is_lost a.id a.outcome) (is-sure g o resolved q L h a i))
+      by z (outcome.Unknown target) e = clash (is_unknown a.outcome) (ap is_unknown e) (or_left (is_unknown a.outcome) (is_lost a.id a.outcome) (is-sure g o resolved q (no-stops g o resolved q L h) h a i))
 
   -- no condition fails where there is none
   no-failure : HasNoConditions g.script → (a : Attempt) (op : ℕ) → Has a (tries q.lines) → a.outcome ≡ outcome.CondFailed op → ⊥
@@ -74,7 +74,7 @@ module _ (g : Given) (o : Outside) (resolved : AttemptId → Bool) (q : Report) 
   not-spent enough spent = by (max (2 ^ 55) g.opening.lease) (length (restart_numbers q.lines)) (length (tries q.lines)) last_ticks none many enough spent
     where
       none : length (restart_numbers q.lines) ≡ 0
-      none = ap length (no-restarts g.script o q.lines L.no_stops L.undisturbed h.outcomes.stops.targets)
+      none = ap length (no-restarts g.script o q.lines (no-stops g o resolved q L h) h.outcomes.stops.targets)
 
       many : length (tries q.lines) ≡ length (client_commands g.script 0)
       many =

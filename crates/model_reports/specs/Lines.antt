@@ -1,6 +1,6 @@
 -- Attempts, their lines and their commands.
 use Rattle.std.specs.Prelude.{ℕ, ◌≡◌, Any, Bool, true, false, List, [], ◌∷◌, ◌++◌, filter, slice_get, Option, Some, None, refl, if◌then◌else◌}
-use Rattle.std.specs.List.{list_all}
+use Rattle.std.specs.List.{list_all, list_any}
 use Rattle.std.proofs.Common.{zero, suc, sym, ◌∙◌, ap, subst, inl, inr}
 use Rattle.base_types.specs.declared.id.AttemptId.{AttemptId}
 use Rattle.base_types.specs.declared.report.Attempt.{Attempt}
@@ -10,8 +10,8 @@ use Rattle.base_types.specs.declared.script.Command.{Command}
 use Rattle.base_types.specs.declared.script.Script.{Script}
 use Rattle.base_types.specs.Scripts.{is_numbered}
 use Rattle.model_laws.specs.Lists.{passes-at}
-use Rattle.model_laws.specs.Members.{Has, has-from_contains}
-use Rattle.daos_model.specs.Attempts.{tries}
+use Rattle.model_laws.specs.Members.{Has, any-has, has-from_contains}
+use Rattle.daos_model.specs.Attempts.{is_of_client, tries, up_to_last_of}
 use Rattle.daos_model.specs.BoolLaws.{and_left, and_right}
 use Rattle.daos_model.specs.Order.{client_commands, commands_or_none}
 use Rattle.daos_model.specs.Transactions.{command_of, numbered_at}
@@ -42,6 +42,21 @@ line-of (line.Freeze target cont epoch ∷ lines) a i = behind (line.Freeze targ
 line-of (line.Snapshot name cont epoch ∷ lines) a i = behind (line.Snapshot name cont epoch) lines a (line-of lines a i)
 line-of (line.Aggregate number target cont upto ∷ lines) a i = behind (line.Aggregate number target cont upto) lines a (line-of lines a i)
 line-of (line.Down target ∷ lines) a i = behind (line.Down target) lines a (line-of lines a i)
+
+-- lines up to the last one of a client have all that are its
+pub up-to-has : (c : ℕ) (lines : List Line) (b : Attempt) → Has b (tries lines) → is_of_client c b ≡ true → Has b (tries (up_to_last_of c lines))
+unfolding tries up_to_last_of
+up-to-has c [] b i its = i
+up-to-has c (l ∷ ls) b i its = by (λ j. up-to-has c ls b j its) (list_any (is_of_client c) (tries (l ∷ ls))) (any-has (is_of_client c) (tries (l ∷ ls)) b i its)
+  where
+    among : (k : Line) → Has b (tries (k ∷ ls)) → (Has b (tries ls) → Has b (tries (up_to_last_of c ls))) → Has b (tries (k ∷ up_to_last_of c ls))
+    among (line.Try a) (inl same) rest = inl same
+    among (line.Try a) (inr j) rest = inr (rest j)
+    among k j rest = rest j
+
+    by : (Has b (tries ls) → Has b (tries (up_to_last_of c ls))) → (z : Bool) → z ≡ true → Has b (tries (if z then l ∷ up_to_last_of c ls else []))
+    by rest true is = among l i rest
+    by rest false is = let no : ⊥ = cc in absurd no
 
 -- the command of an attempt is the one of its number among its client's commands
 pub command-at : (s : Script) (x : AttemptId) (client n : ℕ) (c : Command) → x.client ≡ client → x.command ≡ n → slice_get (client_commands s client) n ≡ Some c → command_of s x ≡ Some c

@@ -5,6 +5,7 @@ use Rattle.std.proofs.Common.{sym, ◌∙◌, ap, subst, inl, inr}
 use Rattle.base_types.specs.declared.epoch.Epoch.{Epoch}
 use Rattle.base_types.specs.declared.id.AttemptId.{AttemptId}
 use Rattle.base_types.specs.declared.report.Attempt.{Attempt}
+use Rattle.base_types.specs.declared.report.Report.{Report}
 use Rattle.base_types.specs.declared.script.Command.{Command}
 use Rattle.base_types.specs.declared.script.Script.{Script}
 use Rattle.model_laws.specs.DecidedLaws.{has-all}
@@ -13,10 +14,11 @@ use Rattle.model_laws.specs.Members.{Has, has-from_contains, has-from_filter, ha
 use Rattle.model_laws.specs.TargetLaws.{same_number}
 use Rattle.daos_model.specs.Attempts.{epoch_or_none, has_own_epoch, is_of_client, is_restart, own_epochs, tries, tries_of}
 use Rattle.daos_model.specs.BoolLaws.{clash}
-use Rattle.daos_model.specs.Opening.{top}
+use Rattle.daos_model.specs.Headline.{Headline}
+use Rattle.daos_model.specs.Opening.{Given, Outside, top}
 use Rattle.daos_model.specs.Order.{AreAttempts, AreInTurn, client_commands}
 use Rattle.model_reports.specs.Alone.{above-earlier, has-own, only-client}
-use Rattle.model_reports.specs.Lone.{LoneClientsRise, LoneClientsTryOnce}
+use Rattle.model_reports.specs.Lone.{EachIsTriedOnce, HasOneClient, LoneClientsRise, LoneClientsTryOnce}
 use Rattle.model_reports.specs.Restarts.{not-restarted}
 
 -- ---- attempts in turn of which none is told to restart
@@ -50,15 +52,17 @@ epoch-among s (b ∷ xs) a e own (inl same) at = has-left (if has_own_epoch s b 
     by false is = let no : ⊥ = cc in absurd no
 epoch-among s (b ∷ xs) a e own (inr i) at = has-right (if has_own_epoch s b then epoch_or_none b.epoch else []) (own_epochs s xs) e.0 (epoch-among s xs a e own i at)
 
+-- ---- of the only client, where no attempt is told to restart
+
+pub each-once : (g : Given) (o : Outside) (resolved : AttemptId → Bool) (q : Report) → HasOneClient g.script → Headline g o resolved q → ((a : Attempt) → Has a (tries q.lines) → is_restart a.outcome ≡ false) → EachIsTriedOnce g.script q
+each-once g o resolved q one h none =
+    sym (ap ids (filter-all (is_of_client 0) (tries q.lines) (λ a i. subst (λ c. is_of_client c a ≡ true) (only-client g o resolved q one h a i) (same_number a.id.client))))
+    ∙ tried-once g.job.attempts 0 0 (client_commands g.script 0) (tries_of 0 q.lines) (λ a i. none a (has-from_filter (is_of_client 0) (tries q.lines) a i).0) (h.outcomes.in_turn 0)
+
 -- ---- of a client that is alone
 
 pub try-once : LoneClientsTryOnce
-try-once g o resolved q L h =
-    sym (ap ids (filter-all (is_of_client 0) (tries q.lines) (λ a i. subst (λ c. is_of_client c a ≡ true) (only-client g o resolved q L h a i) (same_number a.id.client))))
-    ∙ tried-once g.job.attempts 0 0 (client_commands g.script 0) (tries_of 0 q.lines) none (h.outcomes.in_turn 0)
-  where
-    none : (a : Attempt) → Has a (tries_of 0 q.lines) → is_restart a.outcome ≡ false
-    none a i = not-restarted g o resolved q L h a (has-from_filter (is_of_client 0) (tries q.lines) a i).0
+try-once g o resolved q L h = each-once g o resolved q L.one h (not-restarted g o resolved q L h)
 
 pub rise : LoneClientsRise
 rise g o resolved q L h = (

@@ -1,6 +1,5 @@
 -- A client that is alone is never told to restart.
-use Rattle.std.specs.Prelude.{ℕ, ◌≡◌, ◌⊎◌, ◌<◌, Bool, true, false, Any, List, [], ◌∷◌, Some, refl, if◌then◌else◌}
-use Rattle.std.specs.List.{list_any}
+use Rattle.std.specs.Prelude.{ℕ, ◌≡◌, ◌⊎◌, ◌<◌, Bool, true, false, Any, [], ◌∷◌, Some, refl}
 use Rattle.std.proofs.Common.{sym, ◌∙◌, ap, subst, arith, inl, inr}
 use Rattle.base_types.specs.declared.epoch.Epoch.{Epoch}
 use Rattle.base_types.specs.declared.id.AttemptId.{AttemptId}
@@ -19,9 +18,9 @@ use Rattle.base_types.specs.declared.script.Command.{Command}
 use Rattle.base_types.specs.declared.script.Command.TheVariants.{Snap, Aggregate}
 use Rattle.model_laws.specs.DecidedLaws.{all-from_has, has-all}
 use Rattle.model_laws.specs.Lists.{any-of}
-use Rattle.model_laws.specs.Members.{Has, any-has, has-cases, has-left, has-right}
+use Rattle.model_laws.specs.Members.{Has}
 use Rattle.daos_model.specs.Accesses.{attempt_targets}
-use Rattle.daos_model.specs.Attempts.{has_own_epoch, is_lost, is_of_client, is_restart, is_unknown, tried, tries, up_to_last_of}
+use Rattle.daos_model.specs.Attempts.{has_own_epoch, is_lost, is_of_client, is_restart, is_unknown, tries, up_to_last_of}
 use Rattle.daos_model.specs.BoolLaws.{clash, or_left}
 use Rattle.daos_model.specs.CausesShown.{IsOpen, IsUnknown, IsUnresolved, LeaderStopped, NotAnswered, ShowsCause, ShowsFloor, ShowsUnresolved, ShowsWhy, leader_of_attempt}
 use Rattle.daos_model.specs.Durables.{same_attempt}
@@ -30,25 +29,16 @@ use Rattle.daos_model.specs.Opening.{Given, Outside}
 use Rattle.daos_model.specs.Order.{told_by}
 use Rattle.daos_model.specs.Snapshots.{Aggregates, ComesFrom, MakesSnapshotAt}
 use Rattle.daos_model.specs.Transactions.{command_of}
-use Rattle.model_reports.specs.Lines.{StandsAt, line-of, one-of-any}
+use Rattle.model_reports.specs.Lines.{StandsAt, line-of, one-of-any, up-to-has}
 use Rattle.model_reports.specs.Rooms.{is_transaction}
-use Rattle.model_reports.specs.Alone.{above-earlier, above-later, is-sure, never-opens, none-stops, same-client, stands-before, stands-beside}
+use Rattle.model_reports.specs.Alone.{above-earlier, above-later, is-sure, never-opens, no-stops, none-stops, same-client, stands-before, stands-beside}
 use Rattle.model_reports.specs.Lone.{IsLone, LoneClientsNeverRestart}
-
--- up to the last line of a client are all of its lines
-up-to-last : (client : ℕ) (ls : List Line) (b : Attempt) → ((x : Attempt) → Has x (tries ls) → is_of_client client x ≡ true) → Has b (tries ls) → Has b (tries (up_to_last_of client ls))
-unfolding tries up_to_last_of
-up-to-last client [] b own i = absurd i
-up-to-last client (l ∷ ls) b own i =
-    by (λ j. up-to-last client ls b (λ x k. own x (has-right (tried l) (tries ls) x k)) j) (list_any (is_of_client client) (tries (l ∷ ls))) (any-has (is_of_client client) (tries (l ∷ ls)) b i (own b i))
-    (has-cases (tried l) (tries ls) b i)
-  where
-    by : (Has b (tries ls) → Has b (tries (up_to_last_of client ls))) → (t : Bool) → t ≡ true → Has b (tried l) ⊎ Has b (tries ls) → Has b (tries (if t then l ∷ up_to_last_of client ls else []))
-    by rest true e (inl j) = has-left (tried l) (tries (up_to_last_of client ls)) b j
-    by rest true e (inr j) = has-right (tried l) (tries (up_to_last_of client ls)) b (rest j)
-    by rest false e j = let no : ⊥ = cc in absurd no
+use Rattle.model_reports.specs.Stopless.{NoStops}
 
 module _ (g : Given) (o : Outside) (resolved : AttemptId → Bool) (q : Report) (L : IsLone g.script o) (h : Headline g o resolved q) where
+  abbrev unstopped : NoStops q.lines
+  unstopped = no-stops g o resolved q L h
+
   -- no command makes a snapshot or aggregates
   no-command : (x : AttemptId) (c : Command) → is_transaction c ≡ false → command_of g.script x ≡ Some c → ⊥
   no-command x c not_one at = clash (is_transaction c) (L.plain x c at) not_one
@@ -81,12 +71,12 @@ module _ (g : Given) (o : Outside) (resolved : AttemptId → Bool) (q : Report) 
         below = k.below
 
         client : (x : Attempt) → Has x (tries z.before) → is_of_client a.id.client x ≡ true
-        client x l = same-client g o resolved q L h a x i (subst (λ ls. Has x (tries ls)) (sym z.among) (stands-before z.before z.after a x l))
+        client x l = same-client g o resolved q L.one h a x i (subst (λ ls. Has x (tries ls)) (sym z.among) (stands-before z.before z.after a x l))
 
         answered : Has b (tries z.before) → IsOpen g.script q.lines z.before a b → ⊥
-        answered l (NotAnswered never) = never (any-of (λ c. c.id ≡ b.id) (tries (up_to_last_of a.id.client z.before)) b (up-to-last a.id.client z.before b client l) refl)
-        answered l (IsUnknown is) = clash (is_unknown b.outcome) is (or_left (is_unknown b.outcome) (is_lost b.id b.outcome) (is-sure g o resolved q L h b j))
-        answered l (LeaderStopped before_b after_b among stops) = none-stops g o resolved q L h (leader_of_attempt g.script b.id ∷ []) (up_to_last_of b.id.client before_b) z.before (line.Try a ∷ z.after) z.among stops
+        answered l (NotAnswered never) = never (any-of (λ c. c.id ≡ b.id) (tries (up_to_last_of a.id.client z.before)) b (up-to-has a.id.client z.before b l (client b l)) refl)
+        answered l (IsUnknown is) = clash (is_unknown b.outcome) is (or_left (is_unknown b.outcome) (is_lost b.id b.outcome) (is-sure g o resolved q unstopped h b j))
+        answered l (LeaderStopped before_b after_b among stops) = none-stops g o resolved q unstopped h (leader_of_attempt g.script b.id ∷ []) (up_to_last_of b.id.client before_b) z.before (line.Try a ∷ z.after) z.among stops
 
         by : Has b (tries z.before) ⊎ (b ≡ a) ⊎ Has b (tries z.after) → ⊥
         by (inl l) = answered l k.unresolved
@@ -94,13 +84,13 @@ module _ (g : Given) (o : Outside) (resolved : AttemptId → Bool) (q : Report) 
         by (inr (inr l)) = let low : k.own.0 < k.its.0 = (above-later g o resolved q L h z.before z.after a b k.its z.among l k.its_issued).own k.own k.issued in omega (arith, below, low)
 
     unresolved : (x : AttemptId) (t : Bool) → ShowsUnresolved g.script q.lines z.before a x t → ⊥
-    unresolved x true k = none-stops g o resolved q L h (attempt_targets g.script a.id) (up_to_last_of a.id.client z.before) z.before (line.Try a ∷ z.after) z.among k
+    unresolved x true k = none-stops g o resolved q unstopped h (attempt_targets g.script a.id) (up_to_last_of a.id.client z.before) z.before (line.Try a ∷ z.after) z.among k
     unresolved x false k = let b = one-of-any (λ b. (b.id ≡ x) × IsUnresolved g.script q.lines z.before a b) (tries q.lines) k in not-open b.0 b.1 b.2.1
 
     -- no line sets a floor
     no-floor : (t : ℕ) (floor : Epoch) (cont : ContId) (reason : FloorWhy) (l : Line) → Has l q.lines → ShowsFloor t floor cont reason l → ⊥
     no-floor t floor cont why.Opening l j k = k
-    no-floor t floor cont (why.Restart n) l j k = never-opens g o resolved q L h n t k.0 floor (subst (λ m. Has m q.lines) k.1 j)
+    no-floor t floor cont (why.Restart n) l j k = never-opens g o resolved q unstopped h n t k.0 floor (subst (λ m. Has m q.lines) k.1 j)
     no-floor t floor cont (why.Snapshot e) l j k =
         let from : Any (MakesSnapshotAt g.script cont e) (tries q.lines) = subst (ComesFrom g.script (tries q.lines)) k.0 (has-all (ComesFrom g.script (tries q.lines)) q.lines l h.outcomes.snapshots.lines_from j) in
         let b = one-of-any (MakesSnapshotAt g.script cont e) (tries q.lines) from in

@@ -95,9 +95,10 @@ impl Planner {
         Ok(())
     }
 
-    /// Marks the versions that a plan removes: by chains of those that touch the same cells, or, where
-    /// two versions have one place in the order or a path doesn't end at its write's level, each by
-    /// all others.
+    /// Marks the versions that a plan removes: by chains of those that touch the same cells. Where a
+    /// version doesn't come after the one before it in the order, where a punch's path doesn't end at its
+    /// level, or where an extent has more than 1,024 records, it holds each version against all others
+    /// instead, which takes longer.
     pub fn mark_going(&mut self, plan: &Plan)
         requires { length plan.now.versions.now ≤ self.old.room }
         ensures marks { self.new.marks ≡ map (is_going plan.now.cont plan.now.upto plan.now.versions.now plan.now.snaps.now) plan.now.versions.now }

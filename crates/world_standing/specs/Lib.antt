@@ -1,4 +1,4 @@
--- All facts together where targets may stop, kept by every event, and what follows for messages, openings and the order of real time.
+-- All facts together where targets may stop, kept by every event, and what follows for messages and openings; and when epochs are in the order of real time.
 pub mod standing
 pub mod hearable
 pub mod external

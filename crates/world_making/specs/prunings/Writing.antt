@@ -24,8 +24,8 @@ use Rattle.world_base.specs.Changes.{Change, Creates, Extends, Freezes, IsPartly
 use Rattle.world_base.specs.Events.{Rules, kept, target_plan}
 use Rattle.world_base.specs.Roles.{is_prepared}
 use Rattle.world_base.specs.Stops.{AtWork, CutOf, Draws, Fails, Further, GivenUp, Happening, Hearing, IdleWork, IsCut, Opens, Plainly, WorldEvent}
-use Rattle.world_causes.specs.hearing.Going.{Before, EntriesWrite}
-use Rattle.world_causes.specs.hearing.Writing.{entries-write}
+use Rattle.world_causes.specs.hearing.Going.{EntriesWrite}
+use Rattle.world_causes.specs.hearing.Writing.{EntriesKnown, entries-write}
 use Rattle.world_contents.specs.reads.EventLaws.{at-or-there}
 use Rattle.world_commit.specs.statuses.Heard.{is_of_attempts}
 use Rattle.world_commit.specs.stops.CutEvents.{IsWithoutSnapshots, is_without_snapshots}
@@ -33,7 +33,7 @@ use Rattle.world_making.specs.prunings.Changing.{StoresNothing, making-cut-left,
 
 -- every event keeps it
 abbrev pub AllEventsKeepEntries : Type 0
-AllEventsKeepEntries = (r : Rules) (o : Opening) (held : ℕ → List Version) (h : History) (w v : World) → Before r o held h w → WorldEvent r w v → EntriesWrite r v
+AllEventsKeepEntries = (r : Rules) (o : Opening) (held : ℕ → List Version) (h : History) (w v : World) → EntriesKnown r o held h w → WorldEvent r w v → EntriesWrite r v
 
 -- ---- which entries a change leaves
 
@@ -100,7 +100,7 @@ module _ (r : Rules) (w v : World) (k : EntriesWrite r w) where
       writes : (j : Entry) × Has j s.durable.entries × (j.attempt ≡ e.attempt) → writes_of r e.attempt ≢ []
       writes j = subst (λ x. writes_of r x ≢ []) j.2 (k t s j.0 here j.1)
 
-all-entries-write : (r : Rules) (o : Opening) (held : ℕ → List Version) (h : History) (w v : World) → Before r o held h w → Happening r w v → EntriesWrite r v
+all-entries-write : (r : Rules) (o : Opening) (held : ℕ → List Version) (h : History) (w v : World) → EntriesKnown r o held h w → Happening r w v → EntriesWrite r v
 all-entries-write r o held h w v b (Plainly e up) = entries-write r o held h w v b (Plainly e up) tt
 all-entries-write r o held h w v b (Further f) = by (is_of_attempts f.hears.l.message) refl
   where

@@ -1,5 +1,5 @@
 -- When an access lies behind an attempt that was answered before its command began.
-use Rattle.std.specs.Prelude.{ℕ, ◌≡◌, ◌≤◌, ◌<◌, ◌+◌, ◌*◌, ◌++◌, true, List, [], ◌∷◌, Contains, Some}
+use Rattle.std.specs.Prelude.{ℕ, ◌≡◌, ◌≤◌, ◌<◌, ◌+◌, ◌*◌, ◌++◌, true, List, [], ◌∷◌, Contains, Option, Some}
 use Rattle.base_types.specs.declared.epoch.Epoch.{Epoch}
 use Rattle.base_types.specs.declared.id.AttemptId.{AttemptId}
 use Rattle.base_types.specs.declared.operation.MinorWrite.{MinorWrite}
@@ -21,6 +21,10 @@ pub data IsBehind (epsilon : ℕ) (issued : Issued) (e : Epoch) (y : AttemptId) 
   IsLater : e.0 ≤ f.0 → IsBehind epsilon issued e y f
   IsFar : f.0 + 256 * epsilon < e.0 → IsBehind epsilon issued e y f
   IsFarOfFirst : (k : ℕ) (first : Epoch) → k ≤ y.attempt → Contains issued (record y { attempt = k }, first) → first.0 + 256 * epsilon < e.0 → IsBehind epsilon issued e y f
+
+-- the first epoch that goes with a request, if there is one, was issued to an attempt of its command up to this one
+abbrev pub FirstIsKnown : Issued → AttemptId → Option Epoch → Type 0
+FirstIsKnown issued y first = (g : Epoch) → first ≡ Some g → (k : ℕ) × (k ≤ y.attempt) × Contains issued (record y { attempt = k }, g)
 
 -- the command of y began after x was told: the line of x is one of an earlier command of y's client, or stands before such a line
 pub record BeganAfter (attempts : List Attempt) (x : Attempt) (y : AttemptId) : Type 0 where

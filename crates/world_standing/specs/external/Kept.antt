@@ -1,7 +1,6 @@
 -- What every event keeps: what was served or stored for a command lies behind the attempts that were answered before it began.
-use Rattle.std.specs.Prelude.{ℕ, ◌≡◌, ◌≤◌, ◌<◌, ◌++◌, true, max, List, [], ◌∷◌, Contains, Some, slice_get, refl}
+use Rattle.std.specs.Prelude.{ℕ, ◌≡◌, ◌≤◌, ◌<◌, ◌++◌, true, max, List, [], ◌∷◌, Contains, Some, refl}
 use Rattle.std.proofs.Common.{sym, ◌∙◌, ap, subst, inl, inr}
-use Rattle.base_types.specs.declared.entry.Entry.{Entry}
 use Rattle.base_types.specs.declared.epoch.Epoch.{Epoch}
 use Rattle.base_types.specs.declared.id.AttemptId.{AttemptId}
 use Rattle.base_types.specs.declared.id.ObjId.{ObjId}
@@ -11,15 +10,11 @@ use Rattle.base_types.specs.declared.report.Attempt.{Attempt}
 use Rattle.base_types.specs.Operations.{read_path, write_path}
 use Rattle.base_types.specs.Paths.{overlaps}
 use Rattle.daos_model.specs.Accesses.{asked_member}
-use Rattle.daos_model.specs.Attempts.{tries}
 use Rattle.daos_model.specs.Transactions.{attempt_ops, read_at}
 use Rattle.model_laws.specs.Members.{Has, contains-from_has, has-cases, has-from_contains, has-left, has-right}
 use Rattle.world_commit.specs.attempts.History.{Served}
-use Rattle.world_base.specs.declared.target.TargetState.{TargetState}
-use Rattle.world_base.specs.declared.world.World.{World}
 use Rattle.world_base.specs.ClientTurns.{group_asked, group_count}
 use Rattle.world_base.specs.Events.{Rules}
-use Rattle.world_contents.specs.reads.Reads.{IsOfAttempt}
 use Rattle.world_contents.specs.reads.Versions.{IsWriteAt}
 use Rattle.world_standing.specs.external.Behind.{IsBehind, IsFar, IsFarOfFirst, IsLater, Issued, WasAnswered, WritesAt}
 
@@ -51,14 +46,6 @@ IsServedBehind r attempts issued q =
 abbrev pub AreInOrder : List Attempt → Type 0
 AreInOrder attempts =
     (before : List Attempt) (a : Attempt) (after : List Attempt) (b : Attempt) → attempts ≡ before ++ a ∷ after → Has b before → b.id.client ≡ a.id.client → b.id.command ≤ a.id.command
-
--- all together: of entries, of these reads that were served, which are their attempts' and have their epochs, and of lines
-pub record KeepsOrder (r : Rules) (passed : List Served) (w : World) : Type 0 where
-  pub stored : (t : ℕ) (s : TargetState) (k : Entry) → slice_get w.targets t ≡ Some s → Contains s.durable.entries k → IsStoredBehind r (tries w.lines) w.issued t k.attempt k.epoch
-  pub served : (q : Served) → Has q passed → IsServedBehind r (tries w.lines) w.issued q
-  pub dated : (q : Served) → Has q passed → Contains w.issued (q.by, q.epoch)
-  pub asked : (q : Served) → Has q passed → IsOfAttempt r q
-  pub rising : AreInOrder (tries w.lines)
 
 -- ---- as more is issued, and more lines are told
 

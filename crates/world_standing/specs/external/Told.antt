@@ -1,47 +1,34 @@
--- What is known of attempts of which lines tell that they are committed: those that write are decided, and their reads were served.
-use Rattle.std.specs.Prelude.{ℕ, zero, suc, ◌≡◌, ◌≢◌, ◌⊎◌, ◌≤◌, ◌<◌, ◌+◌, ◌++◌, true, List, [], ◌∷◌, Contains, slice_get, Option, Some, None, refl}
+-- Of committed attempts that lines tell of, reads were served.
+use Rattle.std.specs.Prelude.{ℕ, zero, suc, ◌≡◌, ◌≢◌, ◌⊎◌, ◌≤◌, ◌<◌, ◌+◌, ◌++◌, List, [], ◌∷◌, Contains, slice_get, Option, Some, None, refl}
 use Rattle.std.proofs.Common.{sym, ◌∙◌, ap, subst, inl, inr, arith}
 use Rattle.std.proofs.lemmas.Bool.{cases_lt}
 use Rattle.base_types.specs.declared.answer.Answer.{Answer}
 use Rattle.base_types.specs.declared.epoch.Epoch.{Epoch}
-use Rattle.base_types.specs.declared.id.ContId.{ContId}
 use Rattle.base_types.specs.declared.id.AttemptId.{AttemptId}
 use Rattle.base_types.specs.declared.operation.Act.{Act}
 use Rattle.base_types.specs.declared.operation.Act.TheVariants as act
 use Rattle.base_types.specs.declared.operation.Op.{Op}
 use Rattle.base_types.specs.declared.operation.Read.{Read}
-use Rattle.base_types.specs.declared.outcome.FloorWhy.TheVariants as why
 use Rattle.base_types.specs.declared.outcome.Outcome.TheVariants.{Committed}
 use Rattle.base_types.specs.declared.report.Attempt.{Attempt}
-use Rattle.base_types.specs.declared.report.Line.TheVariants as line
 use Rattle.base_types.specs.Operations.{read_path}
 use Rattle.daos_model.specs.Accesses.{asked_member}
 use Rattle.daos_model.specs.Attempts.{is_of_client, tries, tries_of}
-use Rattle.daos_model.specs.Durables.{row_of}
-use Rattle.daos_model.specs.Opening.{Opening, top}
-use Rattle.daos_model.specs.Transactions.{attempt_ops, command_of, number_of_read, read_at, read_numbers, read_of}
+use Rattle.daos_model.specs.Transactions.{attempt_ops, number_of_read, read_at, read_numbers, read_of}
 use Rattle.model_laws.specs.DecidedLaws.{has-all}
 use Rattle.model_laws.specs.Members.{Has, has-filter, has-from_contains, has-from_map, has-right}
 use Rattle.model_laws.specs.TargetLaws.{same_number}
-use Rattle.world_commit.specs.attempts.Attempts.{writes_of}
-use Rattle.world_commit.specs.attempts.History.{Decided, History, Served}
+use Rattle.world_commit.specs.attempts.History.{History, Served}
 use Rattle.world_base.specs.declared.client.ClientState.{ClientState}
-use Rattle.world_base.specs.declared.target.TargetState.{TargetState}
 use Rattle.world_base.specs.declared.world.World.{World}
 use Rattle.world_base.specs.Events.{Rules, client_plan}
-use Rattle.world_causes.specs.causes.Shown.{FloorsShown, HasLine, IsOfBefore, IsTold}
 use Rattle.world_letters.specs.clients.Answered.{EndsAsAnswered, EndsWell, IsAnsweredWhole, ops_numbered}
-use Rattle.world_letters.specs.epochs.Epochs.{Unsnapped, makes}
-use Rattle.world_letters.specs.epochs.PlainScripts.{none-makes}
 use Rattle.world_contents.specs.gots.Gots.{AreJoined, Gots, IsGot, IsLineServed, IsServedTo, NoneYet, OneMore, group_at, groups_asked}
 use Rattle.world_contents.specs.gots.StepGots.{ops-of-attempt}
 use Rattle.world_letters.specs.lines.LastLines.{lines-answered}
 use Rattle.world_letters.specs.lines.Lines.{Lines}
-use Rattle.world_causes.specs.outcomes.Outcomes.{IsEndTrue, Outcomes}
 use Rattle.world_contents.specs.reads.Reads.{IsOfAttempt}
-use Rattle.world_letters.specs.snapshots.Makings.{Makings}
 use Rattle.world_standing.specs.external.Kept.{ReadsAt}
-use Rattle.world_standing.specs.external.Storing.{KnowsAnswered}
 
 -- ---- reads
 
@@ -128,39 +115,7 @@ line-served r h w lines gots asked x t read i committed at = record {
         ∙ ap (λ z. asked_member at.obj z.command r.script.targets s.q.group) s.of_attempt
         ∙ ap (asked_member at.obj x.id.command r.script.targets) s.of_group
 
--- ---- all that is known
-
 -- a list that has something isn't empty
 pub none-has : {T : Type 0} (xs : List T) (x : T) → Has x xs → xs ≢ []
 none-has [] x i none = i
 none-has (y ∷ xs) x i none = let no : ⊥ = cc in no
-
-same-epoch : (e f : Epoch) → Some f ≡ Some e → f ≡ e
-same-epoch e f same = cc
-
--- no line tells of an aggregation
-no-aggregate : (r : Rules) (w : World) → Unsnapped r → Makings r w → (n t : ℕ) (cont : ContId) (upto : Epoch) → Has (line.Aggregate n t cont upto) w.lines → ⊥
-no-aggregate r w U k n t cont upto i =
-    let z = k.lines (line.Aggregate n t cont upto) i in
-    let off = none-makes r z.0 U in
-    let on : makes (command_of r.script z.0) ≡ true = ap makes z.3 in
-    let no : ⊥ = cc (off, on) in no
-
-pub knows-answered : (r : Rules) (o : Opening) (h : History) (w : World) (t : ℕ) (s : TargetState) → slice_get w.targets t ≡ Some s → Unsnapped r → Lines r w → Gots r h w → ((q : Served) → Has q h.served → IsOfAttempt r q) → Outcomes r h w → Makings r w → FloorsShown o w
-    → KnowsAnswered r o h (tries w.lines) s
-knows-answered r o h w t s here U lines gots asked outcomes makings floors = record {
-  decided = λ x e m i committed epoch writes. decided x e (outcomes.lines x i (none-has (writes_of r x.id) m (has-from_contains (writes_of r x.id) m writes))) committed epoch;
-  served = λ u x e read i committed epoch at. (let z = line-served r h w lines gots asked x u read i committed at in (z.q, z.among, z.target, same-epoch e z.q.epoch (sym z.epoch ∙ epoch), z.reads));
-  unpruned = λ cont. unpruned cont (floors.aggregated t s cont here);
-}
-  where
-    decided : (x : Attempt) (e : Epoch) → IsEndTrue r h w x.id x.epoch x.outcome → x.outcome ≡ Committed → x.epoch ≡ Some e → Decided h x.id e
-    decided x e z committed epoch =
-        let d = z.committed committed in
-        let both : Some d.0 ≡ Some e = sym d.1 ∙ epoch in
-        let same : d.0 ≡ e = cc in
-        subst (Decided h x.id) same d.2
-
-    unpruned : (cont : ContId) → IsTold o w.lines t cont (row_of s.durable cont).aggregated (why.Aggregate (row_of s.durable cont).number) → (row_of s.durable cont).aggregated.0 ≤ top o
-    unpruned cont (IsOfBefore low) = low
-    unpruned cont (HasLine shown) = absurd (no-aggregate r w U makings (row_of s.durable cont).number t cont (row_of s.durable cont).aggregated (subst (λ z. Has z w.lines) shown.4 (has-from_contains w.lines shown.1 (shown.0, shown.2, shown.3))))

@@ -28,7 +28,6 @@ use Rattle.world_base.specs.declared.target.TargetMemory.{TargetMemory}
 use Rattle.world_base.specs.declared.target.TargetPlan.{TargetPlan}
 use Rattle.world_base.specs.declared.target.TargetState.{TargetState}
 use Rattle.world_base.specs.declared.world.World.{World}
-use Rattle.world_base.specs.ChangeLaws.{lease-settled}
 use Rattle.world_base.specs.Changes.{Change, Creates, Extends, Freezes, IsPlainly, Kept, Prepares, Prunes, Settles, Steps}
 use Rattle.world_base.specs.Commits as commit
 use Rattle.world_base.specs.CutTurns.{CommitIsCut, CutTurn, Cutting, HearingIsCut, IdleWorkIsCut, issued_by_commit, none_issued}

@@ -264,7 +264,7 @@ module _ (r : Rules) (o : Opening) (held : ℕ → List Version) (h : History) (
     lines = subst (Lines r) (sym e.after) (lines-on r e.u (swept e.u) (sweeping-tells e.u) told.lines);
     outcomes = subst (Outcomes r later) (sym e.after) (outcome.sweeping-keeps r later e.u (hands-over r e.u talk-happened requests-happened) (λ a c i here. epochs-happened.past a c i here) told.outcomes);
     makings = (making.event-keeps r some w v e k.endings k.heard.stand k.makings).1;
-    writes = events-keep-entries r o held h w v at-event e ours;
+    writes = events-keep-entries r o held h w v (record { given = at-event.given; attempts = at-event.attempts; writes = at-event.writes }) e ours;
     versions = go.versions;
     reads = go.reads;
     floors = events-keep-floors r w v e ours o k.floors;
