@@ -41,35 +41,35 @@ module _ (r : Rules) (o : Opening) (held : ℕ → List Version) (h : History) (
   all = k.upheld
 
   abbrev later : History
-  later = stands.later r o held h w v some before all e
+  later = stands.later-so r o held h w v some before all.grounds all.contents e
 
   -- ---- what is known
 
   at-event : Before r o held h w
   at-event = record {
-    given = all-heard_right r o held h w before all.heard;
-    right = stands.right r o held h w v some before all e;
-    senders = all.senders;
-    attempts = all.heard.attempts;
-    writes = all.writes;
-    versions = all.versions;
-    reads = all.reads;
+    given = all-heard_right r o held h w before all.grounds.heard;
+    right = stands.right r o h later w v some all.grounds e (stands.go r o held h w v some before all.grounds all.contents e).grows;
+    senders = all.grounds.senders;
+    attempts = all.grounds.heard.attempts;
+    writes = all.grounds.writes;
+    versions = all.contents.versions;
+    reads = all.contents.reads;
   }
 
   known : (g : Happening r w e.u) → IsOfTarget g → OrderKnown r o held h w e.u
   known g ours = record {
     before = at-event;
-    told = lines-are-known r h w all.lines all.heard.gots all.reads.asked all.outcomes;
-    writers = writers-are-borne-firsts r (top o) h w all.heard.epochs at-event.right all.heard.attempts all.firsts;
-    readers = readers-are-borne-firsts r w all.firsts;
-    epochs = all.heard.epochs;
-    epochs_then = epochs-happened r o h w e.u all.heard g ours;
-    frozen_then = frozen-made r o h w e.u all.heard g ours;
+    told = lines-are-known r h w all.grounds.lines all.contents.gots all.contents.reads.asked all.grounds.outcomes;
+    writers = writers-are-borne-firsts r (top o) h w all.grounds.heard.epochs at-event.right all.grounds.heard.attempts all.grounds.firsts;
+    readers = readers-are-borne-firsts r w all.grounds.firsts;
+    epochs = all.grounds.heard.epochs;
+    epochs_then = epochs-happened r o h w e.u all.grounds.heard g ours;
+    frozen_then = frozen-made r o h w e.u all.grounds.heard g ours;
   }
 
   -- what was served by then, at no snapshot, has epochs that were issued
   issued-then : (q : Served) → Has q later.served → is_at_snapshot r q.by ≡ false → Contains e.u.issued (q.by, q.epoch)
-  issued-then q i off = subst (λ (z : World). Contains z.issued (q.by, q.epoch)) e.after ((stands.go r o held h w v some before all e).reads.issued q i off)
+  issued-then q i off = subst (λ (z : World). Contains z.issued (q.by, q.epoch)) e.after ((stands.go r o held h w v some before all.grounds all.contents e).reads.issued q i off)
 
   -- ---- what happens
 
@@ -78,12 +78,12 @@ module _ (r : Rules) (o : Opening) (held : ℕ → List Version) (h : History) (
 
   by-target : (g : Happening r w e.u) → IsOfTarget g → AnswersAreServed g later → Passes g
   by-target g ours also =
-      targets-keep-order r o held h later w e.u k.passed (known g ours) g ours (all-targets_tell r h w e.u all.heard.attempts g ours).tries also issued-then k.order
+      targets-keep-order r o held h later w e.u k.passed (known g ours) g ours (all-targets_tell r h w e.u all.grounds.heard.attempts g ours).tries also issued-then k.order
 
   by-client : ClientGoes r w e.u ⊎ ClientHears r w e.u → OrderStands r k.passed e.u
   by-client g =
       clients-keep-order r (top o) k.passed (by-moves r (top o) some) (by-counting r (top o) some) (by-hearing r (top o) some) w e.u
-      (all.heard.talk, all.heard.stand, all.heard.epochs) g k.order
+      (all.grounds.heard.talk, all.grounds.heard.stand, all.grounds.heard.epochs) g k.order
 
   passes : (g : Happening r w e.u) → AnswersAreServed g later → Passes g
   passes (Plainly (ByClient g) up) also = record { more = []; answered = tt; order = by-client (inl g) }
@@ -98,7 +98,7 @@ module _ (r : Rules) (o : Opening) (held : ℕ → List Version) (h : History) (
   passes (Draws g) also = by-target (Draws g) tt also
 
   comes : Passes e.happens
-  comes = passes e.happens (stands.go r o held h w v some before all e).also
+  comes = passes e.happens (stands.go r o held h w v some before all.grounds all.contents e).also
 
   -- ---- what clients were told
 
@@ -107,7 +107,7 @@ module _ (r : Rules) (o : Opening) (held : ℕ → List Version) (h : History) (
 
   -- what became of attempts speaks of no reads
   attempts-too : Attempts r mine w
-  attempts-too = later-keeps r h mine w grows all.heard.attempts
+  attempts-too = later-keeps r h mine w grows all.grounds.heard.attempts
     where
       grows : GrowsBy h [] mine
       grows = record {
@@ -120,17 +120,20 @@ module _ (r : Rules) (o : Opening) (held : ℕ → List Version) (h : History) (
       }
 
   talk-happened : Conversation r e.u
-  talk-happened = wait.happenings-keep r w e.u all.heard.requests (leaders-know r h w all.heard.attempts all.rows) e.happens all.heard.talk
+  talk-happened = wait.happenings-keep r w e.u all.grounds.heard.requests (leaders-know r h w all.grounds.heard.attempts all.grounds.rows) e.happens all.grounds.heard.talk
 
   pub keeps : StandsInOrderStill r o held h v
   keeps = record {
     later = later;
-    grew = stands.grew r o held h w v some before all e;
+    grew = stands.grew r o held h w v some before all.grounds all.contents e;
     stands = record {
-      upheld = stands.upheld-then r o held h w v some before all e;
+      upheld = record {
+        grounds = stands.grounds-then r o h later w v some all.grounds e (stands.go r o held h w v some before all.grounds all.contents e).grows;
+        contents = stands.contents-then r o held h w v some before all.grounds all.contents e;
+      };
       passed = comes.more ++ k.passed;
-      gots = all-events-keep_gots r mine (record later { served = comes.more ++ k.passed }) w v some (λ q i. has-right comes.more k.passed q i) all.heard.talk all.senders attempts-too
-          all.heard.stand k.gots e talk-happened comes.answered;
+      gots = all-events-keep_gots r mine (record later { served = comes.more ++ k.passed }) w v some (λ q i. has-right comes.more k.passed q i) all.grounds.heard.talk all.grounds.senders attempts-too
+          all.grounds.heard.stand k.gots e talk-happened comes.answered;
       order = subst (OrderStands r (comes.more ++ k.passed)) (sym e.after) (sweeping-keeps-order r (comes.more ++ k.passed) e.u comes.order);
     };
   }

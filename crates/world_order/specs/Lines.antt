@@ -62,10 +62,10 @@ module _ (r : Rules) (o : Opening) (held : ℕ → List Version) (h : History) (
   order = stands.order
 
   abbrev epochs : Epochs r (top o) v
-  epochs = all.heard.epochs
+  epochs = all.grounds.heard.epochs
 
   given : Given r o held v
-  given = all-heard_right r o held h v before all.heard
+  given = all-heard_right r o held h v before all.grounds.heard
 
   -- the epoch of an attempt that reads at no snapshot was issued to it
   shown-issued : (z : Attempt) (e : Epoch) → Contains (tries v.lines) z → has_own_epoch r.script z ≡ true → z.epoch ≡ Some e → IsIssued v z.id e
@@ -147,7 +147,7 @@ module _ (r : Rules) (o : Opening) (held : ℕ → List Version) (h : History) (
 
   -- one that writes is decided, at its epoch
   decided : (z : Attempt) (m : MinorWrite) → Contains (tries v.lines) z → z.outcome ≡ Committed → Has m (writes_of r z.id) → (e : Epoch) × (z.epoch ≡ Some e) × Decided h z.id e
-  decided z m i committed writes = (all.outcomes.lines z i (none-has (writes_of r z.id) m writes)).committed committed
+  decided z m i committed writes = (all.grounds.outcomes.lines z i (none-has (writes_of r z.id) m writes)).committed committed
 
   write-form : (x : AttemptId) (m : MinorWrite) → Has m (writes_of r x) → is_write_in_form m.write ≡ true
   write-form x m i = has-all (λ (w : MinorWrite). is_write_in_form w.write ≡ true) (writes_of r x) m (given.forms x).each i
@@ -157,13 +157,13 @@ module _ (r : Rules) (o : Opening) (held : ℕ → List Version) (h : History) (
 
   -- what a decided attempt stored at a target of a write lies behind
   stored-there : (y : AttemptId) (f : Epoch) (t : ℕ) (n : MinorWrite) → Decided h y f → Has n (writes_of r y) → IsWriteAt r y t n → IsStoredBehind r (tries v.lines) v.issued t y f
-  stored-there y f t n d i at = by (writes-member r y t n all.heard.few (fit y n i) at)
+  stored-there y f t n d i at = by (writes-member r y t n all.grounds.heard.few (fit y n i) at)
     where
       its : HoldsAt v t y f → IsStoredBehind r (tries v.lines) v.issued t y f
       its holds = at-target (slice_get v.targets t) refl
         where
           attempt : holds.entry.attempt ≡ y
-          attempt = ((all.heard.attempts.on.each y).entries.one t holds.entry holds.found).attempt
+          attempt = ((all.grounds.heard.attempts.on.each y).entries.one t holds.entry holds.found).attempt
 
           at-target : (z : Option TargetState) → slice_get v.targets t ≡ z → IsStoredBehind r (tries v.lines) v.issued t y f
           at-target None none = let no : ⊥ = cc (holds.found, ap (λ z. entry_in z y) none) in absurd no
@@ -173,11 +173,11 @@ module _ (r : Rules) (o : Opening) (held : ℕ → List Version) (h : History) (
               (order.stored t s2 holds.entry here (contains-from_has s2.durable.entries holds.entry (entry-among s2 y holds.entry (sym (ap (λ z. entry_in z y) here) ∙ holds.found)))))
 
       by : (t ≡ leader_of r y) ⊎ IsOther r y t → IsStoredBehind r (tries v.lines) v.issued t y f
-      by (inl leads) = its (subst (λ n. HoldsAt v n y f) (sym leads) ((all.heard.attempts.on.each y).entries.held_by_leader f d))
-      by (inr other) = its ((all.heard.attempts.on.each y).entries.held_by_others f t d other)
+      by (inl leads) = its (subst (λ n. HoldsAt v n y f) (sym leads) ((all.grounds.heard.attempts.on.each y).entries.held_by_leader f d))
+      by (inr other) = its ((all.grounds.heard.attempts.on.each y).entries.held_by_others f t d other)
 
   askable : (x : AttemptId) (op : ℕ) (read : Read) → read_at (attempt_ops r.script x) op ≡ Some read → IsAskable r.script.targets read
-  askable x op read is = read-askable r.script.targets r.script.objs (attempt_ops r.script x) op read all.heard.form.classes (ops-form r.script.targets r.script x all.heard.form) is
+  askable x op read is = read-askable r.script.targets r.script.objs (attempt_ops r.script x) op read all.grounds.heard.form.classes (ops-form r.script.targets r.script x all.grounds.heard.form) is
 
   -- ---- where they meet
 
@@ -230,7 +230,7 @@ module _ (r : Rules) (o : Opening) (held : ℕ → List Version) (h : History) (
     writes-read m op read i is over =
         let c : MeetsRead m y.id read = meets-read m y.id op read (write-form x.id m i) is over in
         let dx = decided x m cx.there cx.committed i in
-        let q : IsServedAt stands.passed y c.t read = line-served r (record h { served = stands.passed }) v all.lines stands.gots order.asked y c.t read cy.there cy.committed c.asked in
+        let q : IsServedAt stands.passed y c.t read = line-served r (record h { served = stands.passed }) v all.grounds.lines stands.gots order.asked y c.t read cy.there cy.committed c.asked in
         in-order dx.0 q.q.epoch dx.1 q.epoch
         (subst (λ z. IsBehind r.epsilon v.issued dx.0 z q.q.epoch) q.by
         (order.served q.q q.among (ap (is_at_snapshot r) q.by ∙ not_true (is_at_snapshot r y.id) cy.plain) x dx.0 m (subst (WasAnswered (tries v.lines) x dx.0) (sym q.by) (was dx.0 dx.1))
@@ -242,7 +242,7 @@ module _ (r : Rules) (o : Opening) (held : ℕ → List Version) (h : History) (
     read-written n op read j is over =
         let c : MeetsRead n x.id read = meets-read n x.id op read (write-form y.id n j) is over in
         let dy = decided y n cy.there cy.committed j in
-        let q : IsServedAt h.served x c.t read = line-served r h v all.lines all.heard.gots all.reads.asked x c.t read cx.there cx.committed c.asked in
+        let q : IsServedAt h.served x c.t read = line-served r h v all.grounds.lines all.contents.gots all.contents.reads.asked x c.t read cx.there cx.committed c.asked in
         let fits = fit y.id n j in
         let at : IsWriteAt r y.id c.t n = record { of_it = contains-from_has (writes_of r y.id) n j; here = own-here r.script.targets c.t c.cell n.write fits.0 fits.1 fits.2 c.own c.touched } in
         in-order q.q.epoch dy.0 q.epoch dy.1 (IsLater ((stored-there y.id dy.0 c.t n dy.2 j at).reads x q.q.epoch read n (was q.q.epoch q.epoch) c.asked at over))

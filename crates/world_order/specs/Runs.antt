@@ -52,7 +52,7 @@ runs-begin_in_order r o w A B =
     record {
       upheld = k;
       passed = [];
-      gots = k.heard.gots;
+      gots = k.contents.gots;
       order = record {
         stored = λ t s e here i. absurd (subst (Has e) (B.starts t s here).opens.entries (has-from_contains s.durable.entries e i));
         served = λ q i. absurd i;

@@ -1,6 +1,5 @@
 -- A client that is alone hears of no restart, where nothing stopped: what it is told shows its cause, and none is there.
-use Rattle.std.specs.Prelude.{ℕ, ◌+◌, ◌≡◌, ◌⊎◌, ◌≤◌, ◌<◌, ◌==◌, ◌||◌, Bool, true, false, not, is_some, Any, List, [], ◌∷◌, length, slice_get, Contains, Option, Some, None, refl, if◌then◌else◌}
-use Rattle.std.specs.List.{list_any}
+use Rattle.std.specs.Prelude.{ℕ, ◌≡◌, ◌⊎◌, ◌≤◌, ◌<◌, ◌==◌, ◌||◌, Bool, true, false, not, is_some, Any, List, [], ◌∷◌, length, slice_get, Contains, Option, Some, None, refl}
 use Rattle.std.proofs.Common.{inl, inr, sym, ◌∙◌, ap, subst, arith}
 use Rattle.std.proofs.lemmas.Option.{slice_get_within}
 use Rattle.base_types.specs.declared.epoch.Epoch.{Epoch}
@@ -27,7 +26,7 @@ use Rattle.base_messages.specs.declared.message.Reply.TheVariants as reply
 use Rattle.daos_model.specs.Accesses.{access_paths, attempt_targets}
 use Rattle.daos_model.specs.Attempts.{is_lost, is_of_client, is_restart, is_unknown, is_unsure, snapshot_or_none, tries, up_to_last_of}
 use Rattle.daos_model.specs.BoolLaws.{clash}
-use Rattle.daos_model.specs.CausesShown.{IsStopAt, ShowsFloor, StopsAfter, leader_of_attempt}
+use Rattle.daos_model.specs.CausesShown.{ShowsFloor, StopsAfter, leader_of_attempt}
 use Rattle.daos_model.specs.Durables.{same_attempt}
 use Rattle.daos_model.specs.EntryLaws.{same_attempt-itself}
 use Rattle.daos_model.specs.Opening.{Opening, top}
@@ -35,11 +34,12 @@ use Rattle.daos_model.specs.Stops.{is_at, stop_numbers}
 use Rattle.daos_model.specs.Transactions.{attempt_ops, command_of}
 use Rattle.dtx_base.specs.LeaderLaws.{same-is}
 use Rattle.model_laws.specs.Lists.{any-of}
-use Rattle.model_laws.specs.Members.{Has, any-has, contains-from_has, has-filter, has-from_contains, has-left, has-right}
+use Rattle.model_laws.specs.Members.{Has, contains-from_has, has-filter, has-from_contains, has-left}
 use Rattle.model_laws.specs.TargetLaws.{same_number}
 use Rattle.model_lone.specs.Refusals.{GoesWithCommand, is_unresolved, may_refuse}
-use Rattle.model_lone.specs.Unstopped.{no-stop, none-follows}
-use Rattle.model_reports.specs.Lines.{StandsAt, line-of, one-of-any}
+use Rattle.model_lone.specs.Unstopped.{none-follows, none-stopped}
+use Rattle.model_reports.specs.Lines.{StandsAt, line-of, one-of-any, up-to-has}
+use Rattle.model_reports.specs.Stopless as stopless
 use Rattle.model_reports.specs.Stopless.{follows_stop}
 use Rattle.world_base.specs.declared.client.ClientState.{ClientState}
 use Rattle.world_base.specs.declared.client.Present.{Present}
@@ -60,9 +60,8 @@ use Rattle.world_letters.specs.snapshots.Makings.{ComesOf, Makings}
 use Rattle.world_refusals.specs.Commands.{writer-off}
 use Rattle.world_refusals.specs.Hearing.{HearsNoRestart, TellsNoRestart, TellsNone}
 use Rattle.world_refusals.specs.Telling.{AllTellFitly, TellsFitly}
-use Rattle.world_upheld.specs.causing.DateLaws.{epoch-once}
-use Rattle.world_upheld.specs.causing.Dates.{counted_as, issued-own}
-use Rattle.world_upheld.specs.causing.OverDates.{CausesOverDates}
+use Rattle.world_upheld.specs.causing.Dates.{issued-own}
+use Rattle.world_upheld.specs.causing.OverDates.{CausesOverDates, both-issued}
 
 -- ---- what goes with commands
 
@@ -83,52 +82,15 @@ snap-unfit d name cont t floor e is fit = let bad : false ≡ true = subst (λ z
 aggregate-unfit : (d : Option Command) (cont : ContId) (t : ℕ) (floor : Epoch) (n : ℕ) → d ≡ Some (Aggregate cont) → may_refuse d (cause.Floor t floor (why.Aggregate n)) ≡ true → ⊥
 aggregate-unfit d cont t floor n is fit = let bad : false ≡ true = subst (λ z. may_refuse z (cause.Floor t floor (why.Aggregate n)) ≡ true) is fit in let no : ⊥ = cc in no
 
--- ---- lines
-
--- lines up to the last one of a client have all that are its
-up-to-has : (c : ℕ) (lines : List Line) (b : Attempt) → Has b (tries lines) → is_of_client c b ≡ true → Has b (tries (up_to_last_of c lines))
-unfolding tries up_to_last_of
-up-to-has c [] b i its = i
-up-to-has c (l ∷ ls) b i its = by (λ j. up-to-has c ls b j its) (list_any (is_of_client c) (tries (l ∷ ls))) (any-has (is_of_client c) (tries (l ∷ ls)) b i its)
-  where
-    among : (k : Line) → Has b (tries (k ∷ ls)) → (Has b (tries ls) → Has b (tries (up_to_last_of c ls))) → Has b (tries (k ∷ up_to_last_of c ls))
-    among (line.Try a) (inl same) rest = inl same
-    among (line.Try a) (inr j) rest = inr (rest j)
-    among k j rest = rest j
-
-    by : (Has b (tries ls) → Has b (tries (up_to_last_of c ls))) → (z : Bool) → z ≡ true → Has b (tries (if z then l ∷ up_to_last_of c ls else []))
-    by rest true is = among l i rest
-    by rest false is = let no : ⊥ = cc in absurd no
-
 -- what is unknown isn't sure
 not-unknown : (y : AttemptId) (how : Outcome) → is_unknown how ≡ true → (is_unknown how || is_lost y how) ≡ false → ⊥
 not-unknown y (outcome.Unknown target) is sure = let no : ⊥ = cc in no
 not-unknown y how is sure = let no : ⊥ = cc in no
 
--- ---- dates
-
-one-later : (r : Rules) (x : AttemptId) (e : Epoch) → is_at_snapshot r x ≡ true → counted_as r 0 x e ≡ counted_as r 1 x e → ⊥
-one-later r x e at same = by (is_at_snapshot r x) at same
-  where
-    by : (b : Bool) → b ≡ true → (if b then record { 0 = e.0 + 0 } else e) ≡ (if b then record { 0 = e.0 + 1 } else e) → ⊥
-    by true is k = let n : e.0 + 0 ≡ e.0 + 1 = ap (λ z. z.0) k in omega (arith, n)
-    by false is k = let no : ⊥ = cc in no
-
 -- ---- at a moment of a run of one client
 
 module _ (r : Rules) (o : Opening) (stored : Stored) (w : World) (form : IsInForm r.script.targets r.script) (one : length w.clients ≡ 1) (unstopped : stop_numbers w.lines ≡ []) (lives : Lives w) (E : Epochs r (top o) w) (L : Lines r w)
     (M : Makings r w) (X : CausesOverDates r o 0 stored w) (Y : CausesOverDates r o 1 stored w) (fits : AllTellFitly r w) (quiet : TellsNone w) where
-  -- what counts both ways was issued
-  both-issued : (x : AttemptId) (d : Epoch) → Contains X.dated (x, d) → Contains Y.dated (x, d) → IsIssued w x d
-  both-issued x d i j = by (is_at_snapshot r x) refl
-    where
-      by : (b : Bool) → is_at_snapshot r x ≡ b → IsIssued w x d
-      by false off = issued-own r 0 X.dated w X.dates x d off i
-      by true at =
-          let m = X.dates.epochs x d i in
-          let n = Y.dates.epochs x d j in
-          absurd (one-later r x n.0 at (ap (counted_as r 0 x) (sym (epoch-once r (top o) w x m.0 n.0 E m.1 n.1)) ∙ sym m.2 ∙ n.2))
-
   -- ---- nothing stopped
 
   never-after : (t : ℕ) (l : Line) → Has l w.lines → is_at t l ≡ true → follows_stop l ≡ false
@@ -141,12 +103,7 @@ module _ (r : Rules) (o : Opening) (stored : Stored) (w : World) (form : IsInFor
   never-opens n t incarnation floor i = let bad : true ≡ false = never-after t (line.Restart n t incarnation floor) i (same_number t) in let no : ⊥ = cc in no
 
   none-stops : (ts : List ℕ) (first : List Line) → StopsAfter ts first w.lines → ⊥
-  none-stops ts first k =
-      let t = one-of-any (λ t. Any (IsStopAt t) k.since) ts k.stop in
-      let l = one-of-any (IsStopAt t.0) k.since t.2 in
-      let there : Has l.0 w.lines = subst (Has l.0) (sym k.rest) (has-right first k.since l.0 l.1) in
-      let bad : true ≡ false = no-stop w.lines unstopped (line.Stop l.2.0 t.0) (subst (λ m. Has m w.lines) l.2.1 there) in
-      let no : ⊥ = cc in no
+  none-stops ts first = stopless.none-stops ts first w.lines (none-stopped w.lines unstopped)
 
   -- ---- the only client
 
@@ -219,7 +176,7 @@ module _ (r : Rules) (o : Opening) (stored : Stored) (w : World) (form : IsInFor
     refused : (c : Cause) → OutcomeStands r o stored X.dated w.lines x (outcome.Restart c) → OutcomeStands r o stored Y.dated w.lines x (outcome.Restart c) → may_refuse (command_of r.script x) c ≡ true → ⊥
     refused (cause.ReadLater by epoch path) k l fit =
         let off : is_at_snapshot r x ≡ false = late-off (command_of r.script x) (cause.ReadLater by epoch path) refl fit in
-        apart (below by epoch k.own (both-issued by epoch k.reader l.reader) (issued-own r 0 X.dated w X.dates x k.own off k.its))
+        apart (below by epoch k.own (both-issued r o stored w by epoch E X Y k.reader l.reader) (issued-own r 0 X.dated w X.dates x k.own off k.its))
       where
         apart : ((by ≡ x) × (epoch ≡ k.own)) ⊎ (epoch.0 < k.own.0) → ⊥
         apart (inl same) = let equal : epoch.0 ≡ k.own.0 = ap (λ e. e.0) same.1 in let later : k.own.0 < epoch.0 = k.later in omega (arith, equal, later)

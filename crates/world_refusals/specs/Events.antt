@@ -11,7 +11,6 @@ use Rattle.base_messages.specs.declared.message.Message.{Message}
 use Rattle.base_messages.specs.declared.message.Message.TheVariants as message
 use Rattle.base_messages.specs.declared.message.Post.{Post}
 use Rattle.daos_model.specs.declared.durable.Durable.{Durable}
-use Rattle.daos_model.specs.declared.durable.Version.{Version}
 use Rattle.daos_model.specs.Changes.{reopened}
 use Rattle.daos_model.specs.Opening.{Opening}
 use Rattle.dtx_base.specs.declared.member.Parked.{Parked}
@@ -43,13 +42,13 @@ use Rattle.world_letters.specs.endings.Clients.{IsQuestion, heard-asks}
 use Rattle.world_letters.specs.epochs.Epochs.{IsReadOf}
 use Rattle.world_letters.specs.talks.AskLaws.{move-is, waiting-rests}
 use Rattle.world_letters.specs.talks.Asked.{ARead, ASnapshot, AnAggregation, Asked, Asking, IsMove, ItsWrites, Silent, Telling}
-use Rattle.world_plain.specs.whole.Everything.{AreBefore}
 use Rattle.world_refusals.specs.Further.{IsHeldFitly, further-fit}
 use Rattle.world_refusals.specs.Posts.{PostsFit}
 use Rattle.world_refusals.specs.Reads.{IsAskFit, IsAskedFitly}
 use Rattle.world_refusals.specs.Telling.{AllTellFitly, TellsFitly}
 use Rattle.world_refusals.specs.Turns.{IsHeardFitly, hears-fit, idle-fits}
-use Rattle.world_upheld.specs.upheld.Heard.{HeardUpheld, all-heard_right}
+use Rattle.world_upheld.specs.upheld.Events.{given-before, nothing_held}
+use Rattle.world_upheld.specs.upheld.Heard.{HeardUpheld}
 
 -- ---- the statements
 
@@ -60,7 +59,7 @@ FitTellingBegins = (r : Rules) (w : World) → w.messages ≡ [] → AllTellFitl
 -- every event of a run of a script in form keeps it, where what is heard is upheld
 abbrev pub AllEventsKeepFitTelling : Type 0
 AllEventsKeepFitTelling =
-    (r : Rules) (o : Opening) (held : ℕ → List Version) (h : History) (w v : World) → AreBefore o held → HeardUpheld r o h w → WorldEvent r w v → AllTellFitly r w → AllTellFitly r v
+    (r : Rules) (o : Opening) (h : History) (w v : World) → HeardUpheld r o h w → WorldEvent r w v → AllTellFitly r w → AllTellFitly r v
 
 -- ---- what is sent beside what was in flight
 
@@ -118,9 +117,9 @@ module _ (r : Rules) where
 
 -- ---- targets
 
-module _ (r : Rules) (o : Opening) (held : ℕ → List Version) (h : History) (w : World) (before : AreBefore o held) (H : HeardUpheld r o h w) (k : AllTellFitly r w) where
-  given : Given r o held w
-  given = all-heard_right r o held h w before H
+module _ (r : Rules) (o : Opening) (h : History) (w : World) (H : HeardUpheld r o h w) (k : AllTellFitly r w) where
+  given : Given r o nothing_held w
+  given = given-before r o h w H
 
   module _ (t : ℕ) (s : TargetState) (here : slice_get w.targets t ≡ Some s) (runs : s.life ≡ Running) where
     -- what waits there
@@ -228,10 +227,10 @@ sweep-keeps r w k l i = elim (has-cases w.messages told l (has-from_filter (is_n
 
 -- ---- every event
 
-module _ (r : Rules) (o : Opening) (held : ℕ → List Version) (h : History) (w v : World) (before : AreBefore o held) (H : HeardUpheld r o h w) (k : AllTellFitly r w) where
+module _ (r : Rules) (o : Opening) (h : History) (w v : World) (H : HeardUpheld r o h w) (k : AllTellFitly r w) where
   happening-keeps : Happening r w v → AllTellFitly r v
-  happening-keeps (Plainly e up) = plain-keeps r o held h w before H k v e
-  happening-keeps (Further f) = more-keeps r o held h w before H k f.number v f.hears
+  happening-keeps (Plainly e up) = plain-keeps r o h w H k v e
+  happening-keeps (Further f) = more-keeps r o h w H k f.number v f.hears
   happening-keeps (IsCut g) = lost-keeps r g.t false w v (ap (λ u. u.messages) g.after) k
   happening-keeps (Opens g) =
       turn-keeps r w v (target g.t) w.messages (opening_posts (target_plan r g.t) (reopened g.s.durable)) (ap (λ u. u.messages) g.after) (λ l i. i) (opening-fits r g.t (reopened g.s.durable)) k
@@ -240,7 +239,7 @@ module _ (r : Rules) (o : Opening) (held : ℕ → List Version) (h : History) (
   happening-keeps (Draws g) = λ l i. k l (subst (Has l) (ap (λ u. u.messages) g.after) i)
 
 pub all-events-keep_fit : AllEventsKeepFitTelling
-all-events-keep_fit r o held h w v before H e k = subst (AllTellFitly r) (sym e.after) (sweep-keeps r e.u (happening-keeps r o held h w e.u before H k e.happens))
+all-events-keep_fit r o h w v H e k = subst (AllTellFitly r) (sym e.after) (sweep-keeps r e.u (happening-keeps r o h w e.u H k e.happens))
 
 pub fit-begins : FitTellingBegins
 fit-begins r w none l i = absurd (subst (Has l) none i)

@@ -1,9 +1,8 @@
 -- At each moment of a run of one client no line tells an attempt to restart, where none tells of a stop.
-use Rattle.std.specs.Prelude.{ℕ, ◌≡◌, ◌++◌, List, [], ◌∷◌, length, map, refl}
+use Rattle.std.specs.Prelude.{◌≡◌, ◌++◌, List, [], ◌∷◌, length, map, refl}
 use Rattle.std.proofs.Common.{append-nil, ◌∙◌, ap, subst, arith}
 use Rattle.base_types.specs.declared.report.Line.{Line}
 use Rattle.base_types.specs.declared.report.Line.TheVariants as line
-use Rattle.daos_model.specs.declared.durable.Version.{Version}
 use Rattle.daos_model.specs.Attempts.{tries}
 use Rattle.daos_model.specs.FormLaws.{length-map}
 use Rattle.daos_model.specs.Laws.{tries-append}
@@ -20,7 +19,6 @@ use Rattle.world_legal.specs.reasons.Accounted.{stored_over}
 use Rattle.world_letters.specs.lives.Events.{as-added}
 use Rattle.world_letters.specs.lives.TurnLines.{further-lines, idle-lines, plain-lines}
 use Rattle.world_plain.specs.unstopped.Growing.{TellsOfNoStop, none-stops, none-told_before}
-use Rattle.world_plain.specs.whole.Begins.{held_at}
 use Rattle.world_refusals.specs.Alone.{hears-none}
 use Rattle.world_refusals.specs.Hearing.{NoneRestarts, TellsNone, goes-quiet, hears-quiet}
 use Rattle.world_refusals.specs.Runs.{all-runs-tell_fitly}
@@ -28,6 +26,7 @@ use Rattle.world_refusals.specs.Telling.{AllTellFitly}
 use Rattle.world_upheld.specs.causing.OneTurn.{untried}
 use Rattle.world_upheld.specs.explained.Explanations.{Explanations, HoldNoMoreSnapshots}
 use Rattle.world_upheld.specs.explained.Runs.{runs-have_explanations}
+use Rattle.world_upheld.specs.upheld.BeginVersions.{begins-well}
 use Rattle.world_upheld.specs.reasons.Hearing.{all-hear-of_stops}
 use Rattle.world_upheld.specs.upheld.Begins.{AreRulesInForm, RunBeginsWith, client_begins}
 
@@ -46,14 +45,14 @@ none-more w v more lines silent k a i = k a (subst (Has a) (ap tries lines ∙ t
 none-added : (w v : World) → v.lines ≡ w.lines → TellsNone w → TellsNone v
 none-added w v same k a i = k a (subst (λ ls. Has a (tries ls)) same i)
 
-module _ (r : Rules) (o : Opening) (held : ℕ → List Version) (h : History) (stored : Stored) (w u : World) (A : AreRulesInForm r) (k : Explanations r o held h stored w) (fits : AllTellFitly r w) (one : length w.clients ≡ 1) (unstopped : TellsOfNoStop w) (quiet : TellsNone w) where
+module _ (r : Rules) (o : Opening) (h : History) (stored : Stored) (w u : World) (A : AreRulesInForm r) (k : Explanations r o h stored w) (fits : AllTellFitly r w) (one : length w.clients ≡ 1) (unstopped : TellsOfNoStop w) (quiet : TellsNone w) where
   plain-quiet : Event r w u → TellsNone u
   plain-quiet (ByClient g) = goes-quiet r w u quiet g
   plain-quiet (ToClient g) =
       let n = k.reasons.accounted in
-      let H = n.upheld.heard in
+      let H = n.grounds.heard in
       hears-quiet r w u quiet g
-      (hears-none r o stored w H.form one unstopped n.upheld.lives H.epochs n.upheld.lines H.makings (k.causes 0 (omega arith)) (k.causes 1 (omega arith)) fits quiet u g (all-hear-of_stops r o held h stored w u A n g))
+      (hears-none r o stored w H.form one unstopped n.grounds.lives H.epochs n.grounds.lines H.makings (k.causes 0 (omega arith)) (k.causes 1 (omega arith)) fits quiet u g (all-hear-of_stops r o h stored w u A n g))
   plain-quiet (ToTarget g) =
       none-added w u (ap (λ x. x.lines) g.after
       ∙ ap (λ ls. w.lines ++ map (with_epoch w.issued) ls) (plain-lines (target_plan r g.t) g.s.opening g.s.memory g.reading g.l.from g.l.message (kept g.s) g.new (g.memory, g.did) g.turn) ∙ append-nil w.lines) quiet
@@ -85,7 +84,7 @@ unfolding tries
 alone-runs-never_restart r o w v A B few Begins one none = λ a i. absurd (subst (λ ls. Has a (tries ls)) B.lines i)
 alone-runs-never_restart r o w v A B few (Goes u x run e) one none =
     let before : TellsOfNoStop u = none-told_before r u v e none in
-    let k = runs-have_explanations r o w u A B few run in
+    let k = runs-have_explanations r o w u A (begins-well r o w B) few run in
     let after : TellsOfNoStop e.u = subst (λ z. TellsOfNoStop z) e.after none in
-    let quiet : TellsNone e.u = happening-quiet r o (held_at w) k.0 (stored_over r run) u e.u A k.1 (all-runs-tell_fitly r o w u A B run) (one-there r o w u B run one) before (alone-runs-never_restart r o w u A B few run one before) after e.happens in
+    let quiet : TellsNone e.u = happening-quiet r o k.0 (stored_over r run) u e.u A k.1 (all-runs-tell_fitly r o w u A B run) (one-there r o w u B run one) before (alone-runs-never_restart r o w u A B few run one before) after e.happens in
     λ a i. quiet a (subst (λ z. Has a (tries z.lines)) e.after i)

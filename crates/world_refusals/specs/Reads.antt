@@ -1,5 +1,5 @@
 -- A Fetch, and a Verdict that sets Fetches free: a read at a snapshot is refused by nothing that is kept, since the snapshot is frozen there.
-use Rattle.std.specs.Prelude.{ℕ, ◌≡◌, ◌++◌, ◌&&◌, Bool, true, false, not, nat_le, List, [], ◌∷◌, filter, map, Option, Some, None, refl}
+use Rattle.std.specs.Prelude.{ℕ, ◌≡◌, ◌++◌, Bool, true, false, List, [], ◌∷◌, filter, map, Option, Some, None, refl}
 use Rattle.std.proofs.Common.{sym, ◌∙◌, ap, subst, inl, inr}
 use Rattle.base_types.specs.declared.entry.Verdict.{Verdict}
 use Rattle.base_types.specs.declared.entry.Verdict.TheVariants as verdicts
@@ -13,13 +13,11 @@ use Rattle.base_messages.specs.declared.message.Message.{Message}
 use Rattle.base_messages.specs.declared.message.Message.TheVariants as message
 use Rattle.base_messages.specs.declared.message.Post.{Post}
 use Rattle.daos_model.specs.declared.durable.Durable.{Durable}
-use Rattle.daos_model.specs.Durables.{is_frozen, row_of}
+use Rattle.daos_model.specs.Durables.{is_frozen}
 use Rattle.dtx_base.specs.declared.member.Parked.{Parked}
 use Rattle.dtx_base.specs.Joining.{all_unresolved_told, is_parked_on, is_waiting, parked_ask, unresolved, unresolved_told, verdict_heard}
 use Rattle.model_laws.specs.Members.{Has, has-from_filter, has-from_map}
 use Rattle.model_lone.specs.Refusals.{GoesWithCommand}
-use Rattle.vos_stamp.specs.Stamps.{read_cause}
-use Rattle.vos_store.specs.Answers.{is_past}
 use Rattle.world_base.specs.declared.did.Did.{Did}
 use Rattle.world_base.specs.declared.request.FetchRequest.{FetchRequest}
 use Rattle.world_base.specs.declared.target.TargetMemory.{TargetMemory}
@@ -40,6 +38,7 @@ use Rattle.world_letters.specs.clients.Snapshots.{is_at_snapshot}
 use Rattle.world_letters.specs.epochs.Epochs.{is_making}
 use Rattle.world_refusals.specs.Commands.{plain-goes, unresolved-goes}
 use Rattle.world_refusals.specs.Posts.{PostsFit, both-fit, none-fits, one-fits, single-fits}
+use Rattle.world_upheld.specs.causing.SnapshotReads.{frozen-there, none-refuses}
 
 -- ---- what is known of a Fetch
 
@@ -58,21 +57,6 @@ abbrev pub AreAsksFit : Rules → Durable → List Message → Type 0
 AreAsksFit r d asks = (m : Message) → Has m asks → IsAskFit r d m
 
 -- ---- a read at a snapshot isn't refused
-
-none-refuses : (t : TargetPlan) (q : FetchRequest) (e : Epoch) (d : Durable) → q.snapshot ≡ true → is_frozen d (read_path q.read).cont e ≡ true → read.fetch_cause t q e d ≡ None
-unfolding is_past
-none-refuses t q e d snap frozen = by q.snapshot snap (nat_le e.0 (row_of d (read_path q.read).cont).aggregated.0) (is_frozen d (read_path q.read).cont e) frozen
-  where
-    by : (s : Bool) → s ≡ true → (a b : Bool) → b ≡ true
-        → read_cause t.me e.0 (read.aggregated_unless (a && not b) (row_of d (read_path q.read).cont)) (read.later_unless s (read.later_of t q.first e (read_path q.read) d)) ≡ None
-    by true on true true is = refl
-    by true on false true is = refl
-    by true on a false is = let no : ⊥ = cc in absurd no
-    by false on a b is = let no : ⊥ = cc in absurd no
-
-frozen-still : (d x : Durable) (q : FetchRequest) (e : Epoch) → x.snaps ≡ d.snaps → is_frozen d (read_path q.read).cont e ≡ true → is_frozen x (read_path q.read).cont e ≡ true
-unfolding is_frozen
-frozen-still d x q e same is = ap (λ ss. is_frozen (record d { snaps = ss }) (read_path q.read).cont e) same ∙ is
 
 -- at a snapshot a Fetch is tried at the epoch that it bears
 abbrev IsAtItsOwn : FetchRequest → read.FetchStage → Type 0
@@ -96,7 +80,7 @@ module _ (r : Rules) (t : TargetPlan) (m : TargetMemory) (reading : ℕ) (q : Fe
   ends-fit s k left h same (read.IsRefused j e decided c z why is) = one-fits r.script z.1 _ (ap (λ o. o.1.posts) is) (by q.snapshot refl)
     where
       by : (b : Bool) → q.snapshot ≡ b → GoesWithCommand r.script q.attempt (outcome.Restart c)
-      by true on = let none = none-refuses t q e j.durable on (frozen-still d j.durable q e same (A.frozen on e (h on))) in let no : ⊥ = cc (none, why) in absurd no
+      by true on = let none = none-refuses t q e j.durable on (frozen-there d j.durable q e same (A.frozen on e (h on))) in let no : ⊥ = cc (none, why) in absurd no
       by false off = plain-goes r q.attempt (outcome.Restart c) (sym A.at ∙ off) A.unmade
   ends-fit s k left h same (read.MeetsUnresolved j e decided a z free unsettled unknown alone is) = one-fits r.script z.1 _ (ap (λ o. o.1.posts) is) (unresolved-goes r.script q.attempt a)
   ends-fit s k left h same (read.IsParked j e decided a leader z free unsettled other is) = one-fits r.script z.1 _ (ap (λ o. o.1.posts) is) tt

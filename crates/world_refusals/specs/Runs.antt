@@ -3,11 +3,11 @@ use Rattle.daos_model.specs.Opening.{Opening}
 use Rattle.world_base.specs.declared.world.World.{World}
 use Rattle.world_base.specs.Events.{Rules}
 use Rattle.world_base.specs.Stops.{Begins, Goes, WorldRun}
-use Rattle.world_plain.specs.whole.Begins.{held_at}
 use Rattle.world_refusals.specs.Events.{all-events-keep_fit, fit-begins}
 use Rattle.world_refusals.specs.Telling.{AllTellFitly}
 use Rattle.world_upheld.specs.upheld.Begins.{AreRulesInForm, RunBeginsWith}
-use Rattle.world_upheld.specs.upheld.Runs.{held-first, runs-are_upheld}
+use Rattle.world_upheld.specs.upheld.Runs.{runs-have_grounds}
+use Rattle.world_upheld.specs.upheld.BeginVersions.{begins-well}
 
 abbrev pub AllRunsTellFitly : Type 0
 AllRunsTellFitly = (r : Rules) (o : Opening) (w v : World) → AreRulesInForm r → RunBeginsWith r o w → WorldRun r w v → AllTellFitly r v
@@ -15,5 +15,5 @@ AllRunsTellFitly = (r : Rules) (o : Opening) (w v : World) → AreRulesInForm r 
 pub all-runs-tell_fitly : AllRunsTellFitly
 all-runs-tell_fitly r o w v A B Begins = fit-begins r w B.messages
 all-runs-tell_fitly r o w v A B (Goes u x run e) =
-    let k = runs-are_upheld r o w u A B run in
-    all-events-keep_fit r o (held_at w) k.0 u v (held-first r o w A B) k.1.heard e (all-runs-tell_fitly r o w u A B run)
+    let k = runs-have_grounds r o w u A (begins-well r o w B) run in
+    all-events-keep_fit r o k.0 u v k.1.heard e (all-runs-tell_fitly r o w u A B run)

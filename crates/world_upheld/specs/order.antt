@@ -8,5 +8,3 @@ pub mod Known
 pub mod Stored
 pub mod Passing
 pub mod Clients
-pub mod Laws
-pub mod Events

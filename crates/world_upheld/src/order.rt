@@ -4,7 +4,6 @@ ghost use Rattle.world_upheld.specs.order.Answers.{AnswersLieBehind};
 ghost use Rattle.world_upheld.specs.order.Clients.{ClientsKeepOrder};
 ghost use Rattle.world_upheld.specs.order.Guards.{AccessesLieBehind, ReadsAreAbove, WritesAreAbove};
 ghost use Rattle.world_upheld.specs.order.Known.{LinesAreKnown, ReadersAreBorneFirsts, WritersAreBorneFirsts};
-ghost use Rattle.world_upheld.specs.order.Laws.{MakingCutsKeepOrder, MakingKeepsOrder, MakingTellsNone};
 ghost use Rattle.world_upheld.specs.order.Passing.{SweepingKeepsOrder, TargetsKeepOrder};
 ghost use Rattle.world_upheld.specs.order.Serving.{OthersAreUnfrozen, ServedLieBehind};
 ghost use Rattle.world_upheld.specs.order.Stored.{HappeningsStoreBehind};
@@ -19,9 +18,7 @@ ghost use Rattle.world_upheld.specs.order.Stored.{HappeningsStoreBehind};
 /// committed attempts that lines tell of, writes are decided and reads were served, also at snapshots; and
 /// with what is asked the first epoch of its command goes, unless at a snapshot. So whatever becomes of a
 /// target keeps the order: what targets keep stored, and what they served at no snapshot, lies behind what
-/// was answered before. Where a target hears of a snapshot or an aggregation, no line tells of an attempt,
-/// and what was served and stored lies as it lay, also where it is cut in that. And what clients do keeps the
-/// order, where it keeps their conversations and epochs.
+/// was answered before. And what clients do keeps the order, where it keeps their conversations and epochs.
 pub fn laws_of_order_making()
     ensures behind { AccessesLieBehind }
     ensures above { WritesAreAbove }
@@ -36,7 +33,4 @@ pub fn laws_of_order_making()
     ensures targets { TargetsKeepOrder }
     ensures clients { ClientsKeepOrder }
     ensures swept { SweepingKeepsOrder }
-    ensures lines { MakingTellsNone }
-    ensures heard { MakingKeepsOrder }
-    ensures cut { MakingCutsKeepOrder }
 {}

@@ -8,12 +8,13 @@ ghost use Rattle.world_upheld.specs.reasons.Leaders.{AllAcksAreKnown, AllAsksAre
 ghost use Rattle.world_upheld.specs.reasons.Reasons.{AllEventsKeepReasons, RunsBeginWithReasons, RunsHaveReasons};
 ghost use Rattle.world_upheld.specs.reasons.Requests.{AllCommitsAreKnown, AllFetchesAreKnown, AllPreparesAreKnown, SnapshotFetchesAreKnown};
 
-/// Says what goes on together in any run of a script in form: all that is upheld, that clients ask within the
-/// groups of their paths, by what freezes are refused, that what tells of an attempt's loss at a stop has such a
+/// Says what goes on together in any run of a script in form, whatever its targets' versions stood for when it
+/// began: its grounds, by what freezes are refused, that what tells of an attempt's loss at a stop has such a
 /// stop behind it, that who is told that a target is down is told so of one that was given up, that leaders know
-/// no others to be down, and that each attempt was stored at most once at each target, one with writes, of what
-/// was decided, aborted, served and stored by then. Each event keeps it, with what is stored in it; a run begins
-/// with it, with nothing stored; and so it holds at each moment. Then a client that hears that a request of its
+/// no others to be down, that each attempt was stored at most once at each target, one with writes, and that each
+/// version above the opening is a write of an attempt that was stored there, and each timestamp of one that reads
+/// there, of what was decided, aborted and stored by then. Each event keeps it, with what is stored in it; a run
+/// begins with it, with nothing stored; and so it holds at each moment. Then a client that hears that a request of its
 /// attempt was lost, also one for a snapshot or an aggregation, is told so of a target of the attempt: one that
 /// was given up, or one that stopped since the attempt began.
 pub fn laws_of_accounts()

@@ -3,8 +3,8 @@
 ghost use Rattle.world_upheld.specs.upheld.Containers.{AllEventsKeepContainers, RunsKnowDeclared};
 ghost use Rattle.world_upheld.specs.upheld.Heard.{AllHeardIsRight};
 ghost use Rattle.world_upheld.specs.upheld.PlainRuns.{PlainRunsBeginSo};
-ghost use Rattle.world_upheld.specs.upheld.Runs.{RunsAreUpheld, RunsBeginUpheld, RunsHearAllRightly, RunsReadFrozen};
-ghost use Rattle.world_upheld.specs.upheld.Upheld.{AllEventsUphold};
+ghost use Rattle.world_upheld.specs.upheld.Runs.{RunsAreUpheld, RunsBeginUpheld, RunsBeginWell, RunsBeginWithGrounds, RunsHaveGrounds, RunsHearAllRightly, RunsReadFrozen};
+ghost use Rattle.world_upheld.specs.upheld.Upheld.{AllEventsKeepGrounds, AllEventsUphold, GroundsGoOn};
 
 /// Says that what the targets of a run hear is right, whatever clients ask: a read is what the present attempt
 /// of its client has to ask of that target, of a group of a declared object, also one that waits there; a read
@@ -18,23 +18,35 @@ pub fn laws_of_requests()
     ensures right { AllHeardIsRight }
 {}
 
+/// Says what any run stands on, whatever its targets' versions stood for when it began: replicas may have differed then, and versions
+/// lain anywhere. What goes on together, whatever happens, of what was decided and aborted by then: that what is heard is right; of which
+/// attempts snapshots and aggregations come, that targets know their containers, and what is frozen where; who sends and answers, how
+/// attempts end and what lines and ends tell of it; floors, first epochs, and the lines of targets. No event is excluded: clients make
+/// snapshots, read at them and aggregate, targets stop in any turn, open again, fail to, or are given up. A run of a script in form begins
+/// with it where nothing is left to settle, no target keeps an epoch above its lease, what target 0 holds as created is frozen at every
+/// target, and clients know just such snapshots; and so it holds at each moment. One whose targets stand for the opening begins so. Then each
+/// attempt that reads at a snapshot reads at one that is frozen at every target.
+pub fn laws_of_grounds()
+    ensures events { AllEventsKeepGrounds }
+    ensures later { GroundsGoOn }
+    ensures well { RunsBeginWell }
+    ensures begin { RunsBeginWithGrounds }
+    ensures runs { RunsHaveGrounds }
+    ensures seen { RunsReadFrozen }
+{}
+
 /// Says that all that holds between two events of a run goes on together, whatever happens, of what was decided,
-/// aborted and served by then, which only grows: that what is heard is right; of which attempts snapshots and
-/// aggregations come, that targets know their containers, and what is frozen where; who sends and answers, how
-/// attempts end and what lines and ends tell of it; what targets keep, what they answered and what clients were
-/// told; floors, first epochs, and the lines of targets. No event is excluded: clients make snapshots, read at
-/// them and aggregate, targets stop in any turn, open again, fail to, or are given up. A run of a script in form
-/// begins with it over stores that stand for what the opening does, where what target 0 holds as created is
-/// frozen at every target, where its cells below its epoch give the map that the opening keeps of it, and where
-/// clients know just such snapshots; and so it holds at each moment. Then what targets hear is right, and each
-/// attempt that reads at a snapshot reads at one that is frozen at every target. Runs of scripts without snapshots
-/// and aggregation, over stores without snapshots, are such runs.
+/// aborted and served by then, which only grows: what any run stands on, and with it what targets keep, what they
+/// answered and what clients were told. A run of a script in form begins with it over stores that stand for what the
+/// opening does, where what target 0 holds as created is frozen at every target, where its cells below its epoch give
+/// the map that the opening keeps of it, and where clients know just such snapshots; and so it holds at each moment.
+/// Then what targets hear is right. Runs of scripts without snapshots and aggregation, over stores without snapshots,
+/// are such runs.
 pub fn laws_of_upheld()
     ensures events { AllEventsUphold }
     ensures begin { RunsBeginUpheld }
     ensures runs { RunsAreUpheld }
     ensures hear { RunsHearAllRightly }
-    ensures seen { RunsReadFrozen }
     ensures plain { PlainRunsBeginSo }
 {}
 

@@ -20,14 +20,20 @@ use Rattle.world_base.specs.Events.{ByClient, ByTarget, Rules, ToClient, ToTarge
 use Rattle.world_base.specs.Letters.{target}
 use Rattle.world_base.specs.Stops.{AtWork, CutOf, Draws, Fails, Further, GivenUp, Happening, Hearing, IdleWork, IsCut, IsInHand, Opens, Plainly, WorldEvent}
 use Rattle.world_letters.specs.epochs.Sayings.{AreKnown, Known, known-all, known-each}
-use Rattle.world_commit.specs.fates.Facts.{IsSaidSo}
+use Rattle.world_commit.specs.fates.Facts.{Attempts, IsSaidSo}
 use Rattle.world_contents.specs.reads.EventLaws.{at-or-there}
-use Rattle.world_contents.specs.reads.Given.{IsMessageRight}
+use Rattle.world_contents.specs.reads.Given.{Given, IsMessageRight}
 use Rattle.world_commit.specs.statuses.Events.{HappensWithoutSnapshots}
 use Rattle.world_commit.specs.stops.CutEvents.{IsWithoutSnapshots}
-use Rattle.world_causes.specs.hearing.Going.{Before, EntriesWrite}
+use Rattle.world_causes.specs.hearing.Going.{EntriesWrite}
 use Rattle.world_causes.specs.hearing.PlainTurns.{others-write}
 use Rattle.world_causes.specs.hearing.Storing.{BringsKnown, KeptSo, further-kept, hearing-cut-kept, hears-kept, idle-cut-kept, idle-kept}
+
+-- what it rests on in an event: that what is heard is right, what became of attempts, and that it was so before
+pub record EntriesKnown (r : Rules) (o : Opening) (held : ℕ → List Version) (h : History) (w : World) : Type 0 where
+  pub given : Given r o held w
+  pub attempts : Attempts r h w
+  pub writes : EntriesWrite r w
 
 -- it is so where no target has an entry
 abbrev pub EntriesBegin : Type 0
@@ -35,14 +41,14 @@ EntriesBegin = (r : Rules) (w : World) → ((t : ℕ) (s : TargetState) → slic
 
 -- and stays so, whatever happens but for what is heard of snapshots and aggregation
 abbrev pub EventsKeepEntries : Type 0
-EventsKeepEntries = (r : Rules) (o : Opening) (held : ℕ → List Version) (h : History) (w v : World) → Before r o held h w → (e : WorldEvent r w v) → HappensWithoutSnapshots e.happens → EntriesWrite r v
+EventsKeepEntries = (r : Rules) (o : Opening) (held : ℕ → List Version) (h : History) (w v : World) → EntriesKnown r o held h w → (e : WorldEvent r w v) → HappensWithoutSnapshots e.happens → EntriesWrite r v
 
 -- an attempt that writes something, at whatever epoch
 abbrev Writes : Rules → Known
 Writes r x e = writes_of r x ≢ []
 
 -- what is heard brings entries of such attempts
-brings : (r : Rules) (o : Opening) (held : ℕ → List Version) (h : History) (w : World) → Before r o held h w → (l : Letter) (t : ℕ) (s : TargetState) → Has l w.messages → l.to ≡ target t → slice_get w.targets t ≡ Some s → s.life ≡ Running
+brings : (r : Rules) (o : Opening) (held : ℕ → List Version) (h : History) (w : World) → EntriesKnown r o held h w → (l : Letter) (t : ℕ) (s : TargetState) → Has l w.messages → l.to ≡ target t → slice_get w.targets t ≡ Some s → s.life ≡ Running
     → BringsKnown (Writes r) l.message
 brings r o held h w b l t s among to_it here runs = by l.message refl
   where
@@ -76,7 +82,7 @@ unfolding reopened
 reopened-entries d = refl
 
 -- so it is after every event
-pub entries-write : (r : Rules) (o : Opening) (held : ℕ → List Version) (h : History) (w v : World) → Before r o held h w → (e : Happening r w v) → HappensWithoutSnapshots e → EntriesWrite r v
+pub entries-write : (r : Rules) (o : Opening) (held : ℕ → List Version) (h : History) (w v : World) → EntriesKnown r o held h w → (e : Happening r w v) → HappensWithoutSnapshots e → EntriesWrite r v
 entries-write r o held h w v b (Plainly (ByClient g) up) ours = none-set r w v b.writes (ap (λ u. u.targets) g.after)
 entries-write r o held h w v b (Plainly (ToClient g) up) ours = none-set r w v b.writes (ap (λ u. u.targets) g.after)
 entries-write r o held h w v b (Plainly (ToTarget g) up) ours =

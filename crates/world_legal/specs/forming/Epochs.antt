@@ -1,5 +1,6 @@
 -- Leases cover epochs and floors, so these are as short as their types hold.
-use Rattle.std.specs.Prelude.{ℕ, ◌≡◌, ◌≤◌, ◌<◌, ◌/◌, ◌%◌, ◌^◌, List, length, Option, Some, None, refl}
+use Rattle.world_base.specs.declared.target.TargetState.{TargetState}
+use Rattle.std.specs.Prelude.{ℕ, ◌≡◌, ◌≤◌, ◌<◌, ◌/◌, ◌%◌, ◌^◌, length, slice_get, Option, Some, None, refl}
 use Rattle.std.proofs.Common.{inl, sym, ◌∙◌, arith}
 use Rattle.base_types.specs.declared.epoch.Epoch.{Epoch}
 use Rattle.base_types.specs.declared.id.AttemptId.{AttemptId}
@@ -10,19 +11,16 @@ use Rattle.model_laws.specs.DecidedLaws.{has-all}
 use Rattle.model_laws.specs.Lists.{at-within}
 use Rattle.model_laws.specs.Members.{Has, contains-from_has, has-filter}
 use Rattle.model_laws.specs.TargetLaws.{same_number}
-use Rattle.daos_model.specs.declared.durable.Version.{Version}
 use Rattle.daos_model.specs.Attempts.{tries}
 use Rattle.daos_model.specs.Opening.{Opening, top}
 use Rattle.daos_model.specs.Stops.{HasTarget, floors, is_at, lines_at, opened_floor}
 use Rattle.report_writer.specs.Forms.{IsEpoch, IsEpochOrNone}
-use Rattle.world_commit.specs.attempts.History.{History}
 use Rattle.world_base.specs.declared.world.World.{World}
 use Rattle.world_base.specs.Events.{Rules}
 use Rattle.world_letters.specs.epochs.Epochs.{Epochs, IsEpochOf, IsIssued, IsOwn, IsSeen, Unsnapped}
 use Rattle.world_letters.specs.epochs.PlainScripts.{no-snapshots}
 use Rattle.world_letters.specs.lives.Lives.{Lives}
 use Rattle.world_letters.specs.lives.Numbers.{gather-has}
-use Rattle.world_contents.specs.reads.Versions.{Versions}
 
 issued-low : (e lease : ℕ) → e / 256 ≤ lease → lease < 2 ^ 56 → e < 2 ^ 64
 issued-low e lease covered low = omega (arith, covered, low)
@@ -30,10 +28,14 @@ issued-low e lease covered low = omega (arith, covered, low)
 floor-low : (f lease : ℕ) → f ≤ restart_floor lease → lease < 2 ^ 56 → f < 2 ^ 64
 floor-low f lease covered low = omega (arith, covered, low)
 
-module _ (r : Rules) (o : Opening) (held : ℕ → List Version) (h : History) (w : World) (epochs : Epochs r (top o) w) (versions : Versions r o held h w) where
+-- the lease of each target fits
+abbrev pub LeasesFit : World → Type 0
+LeasesFit w = (t : ℕ) (s : TargetState) → slice_get w.targets t ≡ Some s → s.durable.lease < 2 ^ 56
+
+module _ (r : Rules) (o : Opening) (w : World) (epochs : Epochs r (top o) w) (leases : LeasesFit w) where
   -- an epoch that was issued
   pub issued-short : (x : AttemptId) (e : Epoch) → IsIssued w x e → IsEpoch e
-  issued-short x e i = let t = epochs.issuer x e i in issued-low e.0 t.0.durable.lease (epochs.leased x e t.0 i t.1) (versions.stand (e.0 % 256) t.0 t.1).form.lease
+  issued-short x e i = let t = epochs.issuer x e i in issued-low e.0 t.0.durable.lease (epochs.leased x e t.0 i t.1) (leases (e.0 % 256) t.0 t.1)
 
   -- and one that a line shows of an attempt
   pub shown-short : Unsnapped r → (a : Attempt) → Has a (tries w.lines) → IsEpochOrNone a.epoch
@@ -54,4 +56,4 @@ module _ (r : Rules) (o : Opening) (held : ℕ → List Version) (h : History) (
       let s = at-within w.targets t low in
       let at : Has (line.Restart n t incarnation floor) (lines_at t w.lines) = has-filter (is_at t) w.lines (line.Restart n t incarnation floor) i (same_number t) in
       let among : Has floor.0 (floors (lines_at t w.lines)) = gather-has opened_floor floors refl (λ l ls. refl) (lines_at t w.lines) (line.Restart n t incarnation floor) floor.0 at (inl refl) in
-      floor-low floor.0 s.0.durable.lease (has-all (λ f. f ≤ restart_floor s.0.durable.lease) (floors (lines_at t w.lines)) floor.0 (k.told t s.0 s.1).covered among) (versions.stand t s.0 s.1).form.lease
+      floor-low floor.0 s.0.durable.lease (has-all (λ f. f ≤ restart_floor s.0.durable.lease) (floors (lines_at t w.lines)) floor.0 (k.told t s.0 s.1).covered among) (leases t s.0 s.1)

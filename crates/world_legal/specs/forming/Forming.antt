@@ -92,7 +92,7 @@ module _ (g : Given) (held : ℕ → List Version) (stored : Stored) (h : Histor
         which = counts.0;
         of_target = there (line.Restart n t incarnation floor) t i refl;
         opening = counts.1;
-        issued = floor-short r g.opening held h v stand.heard.epochs stand.versions stand.lives n t incarnation floor i;
+        issued = floor-short r g.opening v stand.heard.epochs (λ t s here. (stand.versions.stand t s here).form.lease) stand.lives n t incarnation floor i;
       }
   other-form (line.Freeze t cont epoch) i apart = let from = comes (line.Freeze t cont epoch) i in absurd (none-made g from.0 (Snap from.2.0 cont) A.unsnapped from.2.1 refl)
   other-form (line.Snapshot name cont epoch) i apart = let from = comes (line.Snapshot name cont epoch) i in absurd (none-made g from.0 (Snap name cont) A.unsnapped from.2 refl)
@@ -109,14 +109,14 @@ module _ (g : Given) (held : ℕ → List Version) (stored : Stored) (h : Histor
     keys = keys;
     unsnapped = A.unsnapped;
     ids = told-id r A.form A.some_attempt byte v stand.lines;
-    epochs = shown-short r g.opening held h v stand.heard.epochs stand.versions A.unsnapped;
+    epochs = shown-short r g.opening v stand.heard.epochs (λ t s here. (stand.versions.stand t s here).form.lease) A.unsnapped;
     others = other-form;
   }
 
   short : AreShort v.issued
   short = record {
     id = issued-id r A.form A.some_attempt byte v stand.lines (top g.opening) stand.heard.epochs;
-    epoch = issued-short r g.opening held h v stand.heard.epochs stand.versions;
+    epoch = issued-short r g.opening v stand.heard.epochs (λ t s here. (stand.versions.stand t s here).form.lease);
   }
 
   told : (a : Attempt) → Has a (tries v.lines) → All IsGot a.gots × All IsCond a.conds

@@ -1,36 +1,19 @@
 -- What targets do is done alike where epochs of snapshots count as those of the attempts that read there.
-use Rattle.std.specs.Prelude.{ℕ, ◌≡◌, ◌++◌, true, List, [], map}
-use Rattle.std.proofs.Common.{append-nil, sym, ◌∙◌, ap, subst}
+use Rattle.std.specs.Prelude.{ℕ, ◌≡◌, ◌++◌, List, [], map}
+use Rattle.std.proofs.Common.{sym, ◌∙◌, ap}
 use Rattle.base_types.specs.declared.report.Line.{Line}
 use Rattle.base_messages.specs.declared.message.Message.{Message}
-use Rattle.daos_model.specs.Opening.{Opening}
-use Rattle.world_commit.specs.attempts.Counting.{has-taken}
-use Rattle.world_commit.specs.attempts.History.{History}
-use Rattle.world_base.specs.declared.letter.Letter.{Letter}
 use Rattle.world_base.specs.declared.world.World.{World}
 use Rattle.world_base.specs.Events as events
 use Rattle.world_base.specs.Events.{ByClient, ByTarget, Rules, TargetHearsBy, TargetHearsRightly, TargetIdles, ToClient, ToTarget, after_turn, kept, target_after, target_plan, with_epoch, with_target}
 use Rattle.world_base.specs.Further.{HearsFurther}
-use Rattle.world_base.specs.Letters.{Takes, target}
+use Rattle.world_base.specs.Letters.{target}
 use Rattle.world_base.specs.MemoryLaws.{hears-follows, idles-follows}
-use Rattle.world_base.specs.Stops.{AtWork, Draws, Fails, Further, GivenUp, Happening, Hearing, HearsMore, IdleWork, IsCut, IsInHand, IsNumberFresh, NumbersDrawn, OpeningFails, Opens, Plainly, TargetCut, TargetGivenUp, TargetOpens}
-use Rattle.world_causes.specs.causes.Causes.{Dated, Stored}
-use Rattle.world_causes.specs.causes.Heard.{IsHeardAs}
-use Rattle.world_causes.specs.causes.Shown.{Causes}
-use Rattle.world_causes.specs.causes.TargetLaws.{target-hears-keeps, target-idles-keeps}
+use Rattle.world_base.specs.Stops.{AtWork, Hearing, HearsMore, IdleWork, IsInHand, IsNumberFresh, NumbersDrawn, OpeningFails, TargetCut, TargetGivenUp, TargetOpens}
+use Rattle.world_causes.specs.causes.Causes.{Dated}
 use Rattle.world_upheld.specs.causing.Dates.{with_dates}
-use Rattle.world_commit.specs.fates.Facts.{Attempts}
-use Rattle.world_commit.specs.fates.Rightly.{letters-tell}
 use Rattle.world_letters.specs.lives.Events.{as-added}
 use Rattle.world_letters.specs.lives.TurnLines.{further-lines}
-use Rattle.world_causes.specs.showing.Cutting.{cuts-keep}
-use Rattle.world_causes.specs.showing.Further.{IsHeardFurther}
-use Rattle.world_causes.specs.showing.FurtherEvents.{further-keeps}
-use Rattle.world_causes.specs.showing.Happening.{stored_in}
-use Rattle.world_causes.specs.showing.Stopping.{failure-keeps, given_up-keeps, numbers-keep, opening-keeps}
-use Rattle.world_commit.specs.statuses.Heard.{is_of_attempts}
-use Rattle.world_commit.specs.stops.CutEvents.{IsWithoutSnapshots}
-use Rattle.world_commit.specs.stops.Happenings.{rightly}
 
 -- ---- an event where these count as the epochs of attempts
 

@@ -1,24 +1,18 @@
 -- Where epochs of snapshots count as those of the attempts that read there, a target that hears a Verdict keeps that outcomes show their causes, and
 -- so does one that hears that its question about what is in a Fetch's way got no answer.
-use Rattle.std.specs.Prelude.{Bool, ℕ, ◌≡◌, ◌≤◌, ◌+◌, ◌++◌, ◌⊎◌, true, List, [], ◌∷◌, filter, Contains, Option, Some, None, refl}
-use Rattle.std.proofs.Common.{append-nil, inl, inr, sym, ◌∙◌, ap, subst, arith}
+use Rattle.std.specs.Prelude.{Bool, ℕ, ◌≡◌, ◌≤◌, ◌+◌, ◌++◌, [], filter, Option, Some, refl}
+use Rattle.std.proofs.Common.{append-nil, sym, ◌∙◌, ap, subst, arith}
 use Rattle.base_types.specs.declared.entry.Verdict.{Verdict}
 use Rattle.base_types.specs.declared.entry.Verdict.TheVariants as verdicts
-use Rattle.base_types.specs.declared.epoch.Epoch.{Epoch}
 use Rattle.base_types.specs.declared.id.AttemptId.{AttemptId}
 use Rattle.base_messages.specs.declared.message.Message.{Message, more_of-Message}
 use Rattle.base_messages.specs.declared.message.Message.TheVariants as message
 use Rattle.model_laws.specs.Members.{Has, has-from_filter}
 use Rattle.daos_model.specs.Opening.{Opening, top}
-use Rattle.daos_model.specs.declared.durable.Durable.{Durable}
 use Rattle.dtx_base.specs.declared.member.Parked.{Parked}
-use Rattle.dtx_base.specs.Joining as joining
-use Rattle.dtx_base.specs.Joining.{is_not_waiting, is_waiting, unresolved, verdict_heard}
+use Rattle.dtx_base.specs.Joining.{is_not_waiting, is_waiting, unresolved}
 use Rattle.world_base.specs.declared.did.Did.{Did}
-use Rattle.world_base.specs.declared.letter.Letter.{Letter}
 use Rattle.world_base.specs.declared.target.TargetMemory.{TargetMemory}
-use Rattle.world_base.specs.declared.target.TargetPlan.{TargetPlan}
-use Rattle.world_base.specs.declared.target.TargetState.{TargetState}
 use Rattle.world_base.specs.declared.world.World.{World}
 use Rattle.world_base.specs.ChangeLaws.{lease-same}
 use Rattle.world_base.specs.Changes.{Change, Kept, Steps}
@@ -28,7 +22,7 @@ use Rattle.world_base.specs.Further.{HearsFurther, reset_by}
 use Rattle.world_base.specs.RightTurns.{HearsRightly}
 use Rattle.world_base.specs.MemoryLaws.{hears-follows}
 use Rattle.world_base.specs.PathLaws.{path-keeps}
-use Rattle.world_base.specs.Roles.{is_in_doubt, member_at}
+use Rattle.world_base.specs.Roles.{is_in_doubt}
 use Rattle.world_base.specs.Statuses.{AtOnce, EndsAs, IsDone, Looking, Looks, NoChange, reset_left}
 use Rattle.world_base.specs.Stops.{HearsMore}
 use Rattle.world_base.specs.TurnLaws.{KeepsAs, rightly-keeps}
@@ -38,8 +32,8 @@ use Rattle.world_causes.specs.causes.AtFloors.{IsTarget}
 use Rattle.world_causes.specs.causes.Causes.{Dated, Stored, stored_by}
 use Rattle.world_causes.specs.causes.Paths.{AreOpen}
 use Rattle.world_causes.specs.causes.CommitTurns.{space-same}
-use Rattle.world_causes.specs.causes.Heard.{IsKnownAt, meet-at}
-use Rattle.world_causes.specs.causes.Leases.{AsksBelow, VerdictBelow, verdict-to, was-leased, whole-to}
+use Rattle.world_causes.specs.causes.Heard.{meet-at}
+use Rattle.world_causes.specs.causes.Leases.{VerdictBelow, verdict-to, was-leased, whole-to}
 use Rattle.world_causes.specs.causes.ReadTurns.{meet-more}
 use Rattle.world_causes.specs.causes.Shown.{Causes, limit_over}
 use Rattle.world_causes.specs.causes.TargetLaws.{leaves-keep}

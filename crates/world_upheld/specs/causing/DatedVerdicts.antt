@@ -1,6 +1,6 @@
 -- Where epochs of snapshots count as those of the attempts that read there, a target that hears a Verdict answers the Fetches that it sets free, at
 -- their own epochs and at snapshots, and shows what each meets.
-use Rattle.std.specs.Prelude.{ℕ, ◌≡◌, ◌≤◌, ◌/◌, ◌++◌, ◌⊎◌, Bool, true, false, filter, map, List, [], ◌∷◌, Contains, Option, Some, None, refl}
+use Rattle.std.specs.Prelude.{ℕ, ◌≡◌, ◌≤◌, ◌/◌, ◌++◌, Bool, true, false, filter, map, List, [], ◌∷◌, Contains, Option, Some, None, refl}
 use Rattle.std.proofs.Common.{append-nil, inl, inr, sym, ◌∙◌, ap, subst, arith}
 use Rattle.base_types.specs.declared.entry.Settle.{Settle}
 use Rattle.base_types.specs.declared.entry.Settle.TheVariants.{Abort, Commit, Confirm, Forget}

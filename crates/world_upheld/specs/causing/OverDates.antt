@@ -1,6 +1,6 @@
 -- Outcomes show their causes over dates: where epochs of snapshots count as those of the attempts that read there. Every event of a run keeps it, and a run
 -- begins with it.
-use Rattle.std.specs.Prelude.{ℕ, ◌≡◌, ◌≤◌, ◌+◌, ◌/◌, ◌++◌, ◌⊎◌, Bool, true, false, not, List, [], ◌∷◌, filter, Contains, Some, refl, if◌then◌else◌}
+use Rattle.std.specs.Prelude.{ℕ, ◌≡◌, ◌≤◌, ◌+◌, ◌/◌, ◌++◌, Bool, true, false, not, List, [], ◌∷◌, filter, Contains, refl, if◌then◌else◌}
 use Rattle.std.proofs.Common.{sym, ◌∙◌, ap, subst, arith}
 use Rattle.base_types.specs.declared.epoch.Epoch.{Epoch}
 use Rattle.base_types.specs.declared.id.AttemptId.{AttemptId}
@@ -128,7 +128,7 @@ one-later r x e at same = by (is_at_snapshot r x) at same
     by false is k = let no : ⊥ = cc in no
 
 -- what counts both ways was issued
-both-issued : (r : Rules) (o : Opening) (stored : Stored) (w : World) (x : AttemptId) (d : Epoch) → Epochs r (top o) w → (k : CausesOverDates r o 0 stored w) (l : CausesOverDates r o 1 stored w) → Contains k.dated (x, d) → Contains l.dated (x, d) → Contains w.issued (x, d)
+pub both-issued : (r : Rules) (o : Opening) (stored : Stored) (w : World) (x : AttemptId) (d : Epoch) → Epochs r (top o) w → (k : CausesOverDates r o 0 stored w) (l : CausesOverDates r o 1 stored w) → Contains k.dated (x, d) → Contains l.dated (x, d) → Contains w.issued (x, d)
 both-issued r o stored w x d E k l i j = by (is_at_snapshot r x) refl
   where
     by : (b : Bool) → is_at_snapshot r x ≡ b → Contains w.issued (x, d)

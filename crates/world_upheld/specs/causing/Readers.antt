@@ -1,6 +1,6 @@
 -- Reads at snapshots that wait meet what they wait for, where epochs of snapshots count as those of the attempts that read there.
-use Rattle.std.specs.Prelude.{ℕ, ◌≡◌, ◌++◌, ◌⊎◌, Bool, true, false, List, [], filter, slice_get, Some, refl}
-use Rattle.std.proofs.Common.{append-nil, inl, inr, sym, ◌∙◌, ap, subst}
+use Rattle.std.specs.Prelude.{ℕ, ◌≡◌, ◌++◌, Bool, true, false, List, [], slice_get, Some, refl}
+use Rattle.std.proofs.Common.{inl, inr, sym, ◌∙◌, ap, subst}
 use Rattle.std.proofs.Math.ListN.{set}
 use Rattle.base_types.specs.declared.id.AttemptId.{AttemptId}
 use Rattle.base_types.specs.declared.epoch.Epoch.{Epoch}
@@ -9,8 +9,7 @@ use Rattle.base_messages.specs.declared.actor.ActorId.{ActorId}
 use Rattle.base_messages.specs.declared.message.Message.{Message, more_of-Message}
 use Rattle.base_messages.specs.declared.message.Message.TheVariants as message
 use Rattle.model_laws.specs.Members.{Has, has-from_filter}
-use Rattle.daos_model.specs.BoolLaws.{clash}
-use Rattle.daos_model.specs.Opening.{Opening, top}
+use Rattle.daos_model.specs.Opening.{Opening}
 use Rattle.dtx_base.specs.declared.member.Parked.{Parked}
 use Rattle.dtx_base.specs.Joining as joining
 use Rattle.dtx_base.specs.Joining.{MemberOf, is_not_waiting, unresolved}
@@ -30,27 +29,23 @@ use Rattle.world_base.specs.Further.{CommitDown, HearsFurther, IsSpent, IsUnknow
 use Rattle.world_base.specs.MemoryLaws.{ack-leaves, commit-leaves, idle-leaves, mark-leaves, marked-leaves, prepare-leaves, query-leaves}
 use Rattle.world_base.specs.RightTurns.{HearsRightly}
 use Rattle.world_base.specs.Roles.{member_at}
-use Rattle.world_base.specs.Requests.{fetch_message}
 use Rattle.world_base.specs.StepLaws.{by-hearing, by-next}
-use Rattle.world_base.specs.Statuses.{EndsAs, IsDone, ask_left, reset_left, status_left}
+use Rattle.world_base.specs.Statuses.{ask_left, reset_left, status_left}
 use Rattle.world_base.specs.Stops.{Draws, Fails, Further, GivenUp, Happening, HearsMore, IsCut, Opens, Plainly, WorldEvent, opened_at, stopped_at}
 use Rattle.world_base.specs.TargetTurns.{commit_request, fetch_request, prepare_request}
-use Rattle.world_base.specs.Turns.{Whole}
-use Rattle.world_base.specs.Verdicts as turn
 use Rattle.world_causes.specs.causes.Causes.{Dated, MeetsOther, Stored}
 use Rattle.world_causes.specs.causes.Growth.{meets-more}
 use Rattle.world_causes.specs.causes.Heard.{IsKnownAt, meet-at}
 use Rattle.world_causes.specs.causes.Shown.{Causes}
 use Rattle.world_upheld.specs.causing.DatedTurns.{looks-so}
-use Rattle.world_upheld.specs.causing.DatedVerdicts.{AsksFor, IsVerdictRight, ReadsMeet, own-waits, verdict-reads_meet}
+use Rattle.world_upheld.specs.causing.DatedVerdicts.{AsksFor, ReadsMeet, own-waits, verdict-reads_meet}
 use Rattle.world_upheld.specs.causing.Dates.{newly_dated, with_dates}
-use Rattle.world_upheld.specs.causing.Happening.{frees_none, IsHeardSo, IsHeardThen, IsOther, IsOtherwiseKnown, IsRead, IsVerdict}
+use Rattle.world_upheld.specs.causing.Happening.{frees_none, IsHeardSo, IsOther, IsOtherwiseKnown, IsRead, IsVerdict}
 use Rattle.world_upheld.specs.causing.SnapshotReads.{SnapshotReadLeaves, snapshot-reads_show}
 use Rattle.world_upheld.specs.causing.Events.{of-making}
 use Rattle.world_letters.specs.epochs.Epochs.{reads_snapshot}
 use Rattle.world_commit.specs.fates.Facts.{Attempts}
 use Rattle.world_commit.specs.fates.Rightly.{letters-tell}
-use Rattle.world_making.specs.making.Making.{MakingLeaves}
 use Rattle.world_making.specs.making.Turns.{hearings-leave}
 use Rattle.world_contents.specs.reads.EventLaws.{at-or-there}
 use Rattle.world_commit.specs.statuses.Heard.{is_of_attempts}

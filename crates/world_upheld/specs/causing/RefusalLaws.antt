@@ -22,7 +22,6 @@ use Rattle.world_base.specs.declared.client.Present.{Present}
 use Rattle.world_base.specs.declared.letter.Letter.{Letter}
 use Rattle.world_base.specs.declared.world.World.{World}
 use Rattle.world_base.specs.ClientTurns.{heard, listed, moved, waits}
-use Rattle.world_base.specs.Events as events
 use Rattle.world_base.specs.Events.{ByClient, ByTarget, Event, Rules, TargetHearsBy, ToClient, ToTarget, client_plan, kept, target_plan, with_epoch}
 use Rattle.world_base.specs.Further.{HearsFurther}
 use Rattle.world_base.specs.Letters.{client, letter_of, letters_of, target}

@@ -116,12 +116,12 @@ module _ (r : Rules) (o : Opening) (lines : List Line) (t : TargetPlan) (m : Tar
   reads-path opens did s k path = path-keeps (read.FetchNext t m reading q) ReadsSo reads-step read.Asked old did s k path (lasts-here r.script t lines (top o) old m.leader.decided opens, refl)
 
 -- what is frozen isn't past
-frozen-there : (d x : Durable) (q : FetchRequest) (e : Epoch) → x.snaps ≡ d.snaps → is_frozen d (read_path q.read).cont e ≡ true → is_frozen x (read_path q.read).cont e ≡ true
+pub frozen-there : (d x : Durable) (q : FetchRequest) (e : Epoch) → x.snaps ≡ d.snaps → is_frozen d (read_path q.read).cont e ≡ true → is_frozen x (read_path q.read).cont e ≡ true
 unfolding is_frozen
 frozen-there d x q e same is = ap (λ ss. is_frozen (record d { snaps = ss }) (read_path q.read).cont e) same ∙ is
 
 -- so it isn't refused
-none-refuses : (t : TargetPlan) (q : FetchRequest) (e : Epoch) (d : Durable) → q.snapshot ≡ true → is_frozen d (read_path q.read).cont e ≡ true → read.fetch_cause t q e d ≡ None
+pub none-refuses : (t : TargetPlan) (q : FetchRequest) (e : Epoch) (d : Durable) → q.snapshot ≡ true → is_frozen d (read_path q.read).cont e ≡ true → read.fetch_cause t q e d ≡ None
 unfolding is_past
 none-refuses t q e d snap frozen = by q.snapshot snap (nat_le e.0 (row_of d (read_path q.read).cont).aggregated.0) (is_frozen d (read_path q.read).cont e) frozen
   where

@@ -75,7 +75,7 @@ length-map f (x ∷ xs) = let k : length (map f xs) ≡ length xs = length-map f
 pub kept-no-more : KeptAreNoMore
 kept-no-more r o w B kept t s here =
     let low : length s.durable.snaps ≤ length (map kept_key o.stand.snaps) =
-    rising-short snap_key s.durable.snaps (map kept_key o.stand.snaps) (B.snapshots t s here).form.snaps
+    rising-short snap_key s.durable.snaps (map kept_key o.stand.snaps) (B.starts t s here).keeps.form.snaps
     (λ x i. kept-has x.cont x.epoch.0 o.stand.snaps (kept t s here x (contains-from_has s.durable.snaps x i))) in
     let same : length (map kept_key o.stand.snaps) ≡ length o.stand.snaps = length-map kept_key o.stand.snaps in
     omega (arith, low, same)

@@ -15,21 +15,23 @@ use Rattle.world_causes.specs.causes.CauseLaws.{IsBegun}
 use Rattle.world_upheld.specs.causing.Begin.{refusals-and_places_begin}
 use Rattle.world_upheld.specs.causing.OverDates.{causes-over_dates_begin, later-reads_issued}
 use Rattle.world_legal.specs.reasons.Accounted.{stored_over}
-use Rattle.world_upheld.specs.upheld.Begins.{RunBeginsWith, client_begins}
-use Rattle.world_upheld.specs.upheld.BeginVersions.{same-row}
-use Rattle.world_upheld.specs.upheld.Runs.{held-first}
+use Rattle.world_upheld.specs.upheld.Begins.{RunBeginsWell, client_begins}
+use Rattle.world_upheld.specs.upheld.BeginVersions.{begins-well}
+use Rattle.world_upheld.specs.upheld.Events.{grows-with, later-with}
+use Rattle.world_commit.specs.statuses.Events.{told_by}
+use Rattle.world_upheld.specs.upheld.Runs.{contents-begin, held-first}
 use Rattle.world_upheld.specs.reasons.Reasons.{reasons-begin}
 use Rattle.world_plain.specs.whole.BeginLaws.{get-map}
 use Rattle.world_plain.specs.whole.Begins.{held_at, no_history}
-use Rattle.world_upheld.specs.explained.Explanations.{AllRunsNameIssuedReads, AllRunsShowCauses, RunsBeginWithExplanations, RunsHaveExplanations}
-use Rattle.world_upheld.specs.explained.Events.{all-events-keep_explanations}
+use Rattle.world_upheld.specs.explained.Explanations.{AllRunsNameIssuedReads, AllRunsShowCauses, RunsAreExplained, RunsBeginWithExplanations, RunsHaveExplanations}
+use Rattle.world_upheld.specs.explained.Events.{all-events-explain, all-events-keep_explanations}
 
 -- ---- the beginning
 
 epoch-low : (lease : ℕ) → (lease * 256 + 255) / 256 ≤ lease
 epoch-low lease = omega arith
 
-module _ (r : Rules) (o : Opening) (w : World) (B : RunBeginsWith r o w) where
+module _ (r : Rules) (o : Opening) (w : World) (B : RunBeginsWell r o w) where
   -- clients' trackers cover all epochs of the opening, and no more
   tracker-is : (n : ℕ) (c : ClientState) → slice_get w.clients n ≡ Some c → c.tracker.0 ≡ top o
   tracker-is n c here =
@@ -42,7 +44,7 @@ module _ (r : Rules) (o : Opening) (w : World) (B : RunBeginsWith r o w) where
   floor-low t s c here = by (nat_lt s.opening.0.0 (row_of s.durable c).floor.0)
     where
       by : (b : Bool) → (if b then ((row_of s.durable c).floor, (row_of s.durable c).why) else s.opening).0.0 ≤ top o
-      by true = subst (λ x. x.floor.0 ≤ top o) (same-row s.durable c) ((B.starts t s here).opens.floors c).0
+      by true = ((B.starts t s here).keeps.floors c).0
       by false = (B.starts t s here).floor
 
   begun : IsBegun o w
@@ -54,8 +56,8 @@ module _ (r : Rules) (o : Opening) (w : World) (B : RunBeginsWith r o w) where
     space = λ t s here. (B.starts t s here).free;
     ticks = λ t s here. (B.starts t s here).ticks;
     trackers = λ n c here. subst (λ e. e / 256 ≤ o.lease) (sym (tracker-is n c here)) (epoch-low o.lease);
-    floors = λ t s c here. (floor-low t s c here, subst (λ x. x.aggregated.0 ≤ top o) (same-row s.durable c) ((B.starts t s here).opens.floors c).1);
-    leases = λ t s here. (B.starts t s here).opens.lease;
+    floors = λ t s c here. (floor-low t s c here, ((B.starts t s here).keeps.floors c).1);
+    leases = λ t s here. (B.starts t s here).keeps.lease;
   }
 
 pub explanations-begin : RunsBeginWithExplanations
@@ -68,8 +70,7 @@ pub runs-have_explanations : RunsHaveExplanations
 runs-have_explanations r o w v A B few Begins = (no_history, explanations-begin r o w A B few)
 runs-have_explanations r o w v A B few (Goes u x run e) =
     let k = runs-have_explanations r o w u A B few run in
-    let s = all-events-keep_explanations r o (held_at w) k.0 (stored_over r run) u v A (held-first r o w A B) k.1 e in
-    (s.later, s.explanations)
+    (later-with k.0 (told_by e.happens), all-events-keep_explanations r o k.0 (later-with k.0 (told_by e.happens)) (stored_over r run) u v A k.1 e (grows-with k.0 (told_by e.happens)))
 
 pub all-runs-show : AllRunsShowCauses
 all-runs-show r o w v A B few run = (runs-have_explanations r o w v A B few run).1.causes
@@ -77,4 +78,13 @@ all-runs-show r o w v A B few run = (runs-have_explanations r o w v A B few run)
 pub all-runs-name_issued : AllRunsNameIssuedReads
 all-runs-name_issued r o w v A B few run before a after by epoch path among is =
     let k = (runs-have_explanations r o w v A B few run).1 in
-    later-reads_issued r o (stored_over r run) v k.reasons.accounted.upheld.heard.epochs (k.causes 0 (omega arith)) (k.causes 1 (omega arith)) before a after by epoch path among is
+    later-reads_issued r o (stored_over r run) v k.reasons.accounted.grounds.heard.epochs (k.causes 0 (omega arith)) (k.causes 1 (omega arith)) before a after by epoch path among is
+
+-- ---- runs that stand for the opening
+
+pub runs-are_explained : RunsAreExplained
+runs-are_explained r o w v A B few Begins = (no_history, record { explanations = explanations-begin r o w A (begins-well r o w B) few; contents = contents-begin r o w A B })
+runs-are_explained r o w v A B few (Goes u x run e) =
+    let k = runs-are_explained r o w u A B few run in
+    let s = all-events-explain r o (held_at w) k.0 (stored_over r run) u v A (held-first r o w A B) k.1 e in
+    (s.later, s.explained)

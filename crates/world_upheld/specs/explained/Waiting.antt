@@ -1,5 +1,5 @@
 -- A Fetch that waits at a target is as its client asked it, which is at its attempt; at a snapshot, too.
-use Rattle.std.specs.Prelude.{ℕ, ◌≡◌, ◌<◌, ◌≤◌, ◌/◌, Bool, true, false, List, length, slice_get, Contains, Some, is_some, refl}
+use Rattle.std.specs.Prelude.{ℕ, ◌≡◌, ◌<◌, ◌≤◌, ◌/◌, Bool, true, false, length, slice_get, Contains, Some, is_some, refl}
 use Rattle.std.proofs.Common.{arith, sym, ◌∙◌, ap, subst}
 use Rattle.std.proofs.lemmas.Option.{slice_get_within}
 use Rattle.base_types.specs.declared.epoch.Epoch.{Epoch}
@@ -9,7 +9,6 @@ use Rattle.base_messages.specs.declared.message.Message.{Message}
 use Rattle.base_messages.specs.declared.message.Message.TheVariants as message
 use Rattle.daos_model.specs.Accesses.{access_paths, attempt_targets, op_path}
 use Rattle.daos_model.specs.BoolLaws.{clash}
-use Rattle.daos_model.specs.declared.durable.Version.{Version}
 use Rattle.daos_model.specs.Opening.{Opening, top}
 use Rattle.daos_model.specs.Transactions.{attempt_ops, ops_or_none}
 use Rattle.dtx_base.specs.declared.member.Parked.{Parked}
@@ -61,8 +60,8 @@ issued-own : (r : Rules) (w : World) (x : AttemptId) (e : Epoch) → is_at_snaps
 issued-own r w x e off (IsOwn i) = i
 issued-own r w x e off (IsSeen named) = clash (is_at_snapshot r x) (ap is_some named.reads) off
 
-module _ (r : Rules) (o : Opening) (held : ℕ → List Version) (h : History) (stored : Stored) (w : World) (A : AreRulesInForm r)
-    (k : AccountedFor r o held h stored w) (late : ℕ) (X : CausesOverDates r o late stored w) (t : ℕ) (s : TargetState) (here : slice_get w.targets t ≡ Some s) where
+module _ (r : Rules) (o : Opening) (h : History) (stored : Stored) (w : World) (A : AreRulesInForm r)
+    (k : AccountedFor r o h stored w) (late : ℕ) (X : CausesOverDates r o late stored w) (t : ℕ) (s : TargetState) (here : slice_get w.targets t ≡ Some s) where
   abbrev dated : Dated
   dated = X.dated
 
@@ -70,7 +69,7 @@ module _ (r : Rules) (o : Opening) (held : ℕ → List Version) (h : History) (
   C = X.causes
 
   heard : HeardUpheld r o h w
-  heard = k.upheld.heard
+  heard = k.grounds.heard
 
   epochs : Epochs r (top o) w
   epochs = heard.epochs
@@ -138,7 +137,7 @@ module _ (r : Rules) (o : Opening) (held : ℕ → List Version) (h : History) (
       is-target =
           subst (Contains (attempt_targets r.script y.f.attempt)) (ap (λ a. a.number) y.to)
           (subst (λ x. Contains (attempt_targets r.script x) y.z.q.to.number) (sym its.attempt)
-          (question-target r w heard.stand (places-of_rules r A) k.within y.z.n y.z.c y.z.here y.z.a y.z.at y.z.q y.z.question))
+          (question-target r w heard.stand (places-of_rules r A) heard.within y.z.n y.z.c y.z.here y.z.a y.z.at y.z.q y.z.question))
 
       -- at its own epoch
       module _ (plain : y.f.snapshot ≡ false) where
@@ -154,7 +153,7 @@ module _ (r : Rules) (o : Opening) (held : ℕ → List Version) (h : History) (
         first : IsFirstOf dated w.lines y.f.attempt y.f.first
         first = first-counts w.issued dated w.lines y.f.attempt y.f.first
             (λ x e j. contains-from_has dated (x, e) (counts-issued r late dated w X.dates x e (has-from_contains w.issued (x, e) j)))
-            (subst (MessageBears (GoesWith r w.issued w.lines)) y.it (k.upheld.firsts.parked t s p here among) off)
+            (subst (MessageBears (GoesWith r w.issued w.lines)) y.it (k.grounds.firsts.parked t s p here among) off)
 
         fit : IsAskFit r o dated w.lines (target_plan r t) p.ask
         fit = record {

@@ -1,6 +1,6 @@
 -- Versions above the opening are writes of attempts to which their epochs were issued, and what isn't settled there a read may meet.
-use Rattle.std.specs.Prelude.{ℕ, ◌≡◌, ◌≤◌, ◌<◌, ◌⊎◌, ◌==◌, Any, Bool, true, false, List, Contains, slice_get, Some, None, refl, if◌then◌else◌}
-use Rattle.std.proofs.Common.{inl, inr, sym, ◌∙◌, ap, arith, subst}
+use Rattle.std.specs.Prelude.{ℕ, ◌≡◌, ◌<◌, ◌⊎◌, ◌==◌, Any, Bool, true, false, slice_get, Some, None, refl, if◌then◌else◌}
+use Rattle.std.proofs.Common.{inl, inr, sym, ◌∙◌, ap, subst}
 use Rattle.std.proofs.lemmas.Bool.{eqb-true}
 use Rattle.base_types.specs.declared.id.AttemptId.{AttemptId}
 use Rattle.base_types.specs.Operations.{write_path}
@@ -13,7 +13,7 @@ use Rattle.daos_model.specs.Transactions.{attempt_ops}
 use Rattle.daos_model.specs.Versions.{version_path}
 use Rattle.dtx_base.specs.Rows.{is_among}
 use Rattle.model_laws.specs.Lists.{any-of}
-use Rattle.model_laws.specs.Members.{Has, contains-from_has, has-from_contains}
+use Rattle.model_laws.specs.Members.{contains-from_has, has-from_contains}
 use Rattle.world_commit.specs.attempts.Attempts.{IsItsEntry, IsOther, entry_in, leader_of}
 use Rattle.world_commit.specs.attempts.History.{History}
 use Rattle.world_commit.specs.attempts.MemberBits.{other-no_leader}
@@ -26,15 +26,15 @@ use Rattle.world_base.specs.Roles.{other_leader, other_leader_of}
 use Rattle.base_types.specs.declared.entry.Entry.{Entry}
 use Rattle.world_causes.specs.causes.Paths.{AreOpen, IsKnown, IsMet, IsOpenStill, IsOthers}
 use Rattle.world_causes.specs.causes.Premises.{AreWritten}
-use Rattle.world_causes.specs.causes.Unsettled.{versions-prepared}
+use Rattle.world_causes.specs.causes.Causes.{Stored}
+use Rattle.world_owners.specs.Owners.{AllKeepOwn}
 use Rattle.world_letters.specs.epochs.Epochs.{Epochs}
 use Rattle.world_commit.specs.fates.Facts.{Attempts}
 use Rattle.world_causes.specs.hearing.Going.{EntriesWrite}
 use Rattle.world_legal.specs.doubts.Doubts.{Doubts}
 use Rattle.world_legal.specs.shown.Open.{led-open}
 use Rattle.world_causes.specs.outcomes.Outcomes.{Outcomes}
-use Rattle.world_contents.specs.reads.Versions.{IsPreparedAt, IsVersionOf, Versions}
-use Rattle.world_plain.specs.whole.Everything.{AreBefore}
+use Rattle.world_contents.specs.reads.Versions.{IsPreparedAt, IsVersionOf}
 
 -- the write that a version is
 write-of : (r : Rules) (t : ℕ) (v : Version) → IsVersionOf r t v → Any (λ w. write_path w.write ≡ version_path v) (minor_writes 0 (attempt_ops r.script v.by))
@@ -47,31 +47,13 @@ leader-found : (p : TargetPlan) (d : Durable) (x : AttemptId) (e : Entry) → en
 unfolding other_leader
 leader-found p d x e found = ap (other_leader_of p.me) found
 
-module _ (r : Rules) (o : Opening) (held : ℕ → List Version) (h : History) (w : World) (epochs : Epochs r (top o) w) (attempts : Attempts r h w) (versions : Versions r o held h w)
+module _ (r : Rules) (o : Opening) (h : History) (stored : Stored) (w : World) (epochs : Epochs r (top o) w) (attempts : Attempts r h w) (owned : AllKeepOwn r (top o) stored w)
     (t : ℕ) (s : TargetState) (here : slice_get w.targets t ≡ Some s) where
-  -- the entry of a version that isn't settled
-  prepared : (v : Version) → Has v s.durable.versions → v.done ≡ false → IsPreparedAt s.durable v.by v.epoch
-  prepared v i unsettled = versions-prepared r o held h w versions t s v here (contains-from_has s.durable.versions v i) unsettled
-
   its-entry : (v : Version) (p : IsPreparedAt s.durable v.by v.epoch) → IsItsEntry r w v.by t p.entry
   its-entry v p = (attempts.on.each v.by).entries.one t p.entry (ap (λ z. entry_in z v.by) here ∙ p.found)
 
-  pub all-written : AreBefore o held → AreWritten r w.issued (top o) s.durable.versions
-  all-written before v i above = by v.done refl
-    where
-      among : Contains s.durable.versions v
-      among = contains-from_has s.durable.versions v i
-
-      by : (b : Bool) → v.done ≡ b → Contains w.issued (v.by, v.epoch) × Any (λ w. write_path w.write ≡ version_path v) (minor_writes 0 (attempt_ops r.script v.by))
-      by true is = elim ((versions.stand t s here).done v among is) [
-        | inl j ↦ let low : v.epoch.0 ≤ top o = before t v j in absurd (omega (arith, low, above))
-        | inr j ↦ (versions.issued v.by v.epoch j.0, write-of r t v j.1)
-      ]
-      by false is =
-          let p = prepared v i is in (
-            subst (λ f. Contains w.issued (v.by, f)) p.epoch (contains-from_has w.issued (v.by, p.entry.epoch) (its-entry v p).issued),
-            write-of r t v ((versions.stand t s here).only v among is),
-          )
+  pub all-written : AreWritten r w.issued (top o) s.durable.versions
+  all-written v i above = let k = owned t s here in (k.written v i above, write-of r t v (k.its v i above))
 
   pub opens-there : Outcomes r h w → EntriesWrite r w → Doubts r h w → AreOpen r.script (target_plan r t) w.lines (top o) s.durable s.memory.leader.decided
   opens-there outcomes writes doubts v i unsettled = record {
@@ -80,7 +62,7 @@ module _ (r : Rules) (o : Opening) (held : ℕ → List Version) (h : History) (
   }
     where
       p : IsPreparedAt s.durable v.by v.epoch
-      p = prepared v i unsettled
+      p = (owned t s here).unsettled v i unsettled
 
       its : IsItsEntry r w v.by t p.entry
       its = its-entry v p

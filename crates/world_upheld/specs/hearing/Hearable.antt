@@ -27,7 +27,7 @@ use Rattle.daos_model.specs.Transactions.{attempt_ops}
 use Rattle.dtx_base.specs.Members.{is_written_at, writes_at}
 use Rattle.world_commit.specs.attempts.Asked.{IsCommitNew}
 use Rattle.world_commit.specs.attempts.Attempts.{IsOther, entry_at, entry_in, leader_of, writes_of}
-use Rattle.world_commit.specs.attempts.History.{Decided, History}
+use Rattle.world_commit.specs.attempts.History.{History}
 use Rattle.world_commit.specs.attempts.Overs.{prepare-to}
 use Rattle.world_base.specs.declared.letter.Letter.{Letter}
 use Rattle.world_base.specs.declared.target.TargetPlan.{TargetPlan}
@@ -42,9 +42,6 @@ use Rattle.world_letters.specs.epochs.Epochs.{AsksEpoch, IsReadOf}
 use Rattle.world_commit.specs.fates.Asked.{AskedRight}
 use Rattle.world_commit.specs.fates.Facts.{IsPrepareRight, IsSaidSo}
 use Rattle.world_contents.specs.gots.FormLaws.{ops-form, read-declared, write-declared}
-use Rattle.world_causes.specs.handing.Dates.{epochs-of_commits}
-use Rattle.world_causes.specs.handing.Handing.{asked-right}
-use Rattle.world_causes.specs.handing.Places.{snapshots-read}
 use Rattle.world_standing.specs.hearable.Hearable.{CanHearOn, cont-declared, heard-in_form, leads-within}
 use Rattle.world_standing.specs.hearable.Sent.{AreSentSo, IsSentSo}
 use Rattle.world_making.specs.makers.Makers.{IsPruneRight, IsToldByMaker}
@@ -52,19 +49,21 @@ use Rattle.world_contents.specs.posts.Forms.{IsInForm, IsReadAsked, is_collectin
 use Rattle.world_contents.specs.reads.Given.{FitsTargets, Given, IsFetchRight, IsItsEpoch, IsMessageRight}
 use Rattle.world_contents.specs.reads.ListLaws.{some-in_form}
 use Rattle.world_contents.specs.reads.Reads.{IsOfAttempt}
-use Rattle.world_contents.specs.reads.Versions.{VersionsStand}
 use Rattle.world_letters.specs.snapshots.Makings.{AsksSo, IsAggregationOf, IsSnapIn, IsSo}
 use Rattle.world_letters.specs.waits.Premises.{is_end}
 use Rattle.world_letters.specs.waits.Requests.{is_lost_request, is_request}
 use Rattle.world_plain.specs.whole.Asking.{question-form}
 use Rattle.world_plain.specs.whole.Begins.{AreEnlisted}
-use Rattle.world_plain.specs.whole.Everything.{AreBefore}
 use Rattle.world_plain.specs.whole.Hearable.{CanCommit, CanPrepare, CanStore}
 use Rattle.world_plain.specs.whole.ScriptForm.{writes-declared}
 use Rattle.world_plain.specs.whole.Sharing.{leader-writes, members-below, others-write}
 use Rattle.world_upheld.specs.upheld.Dated.{issued-its}
-use Rattle.world_upheld.specs.upheld.Heard.{all-heard_right}
-use Rattle.world_upheld.specs.upheld.Upheld.{Upheld}
+use Rattle.world_causes.specs.causes.Causes.{Stored}
+use Rattle.world_causes.specs.causes.Storing.{IsPrepareOf}
+use Rattle.world_causes.specs.causes.StoreTurns.{IsCommitOf}
+use Rattle.world_upheld.specs.reasons.Accounted.{AccountedFor}
+use Rattle.world_upheld.specs.upheld.Events.{asked-so, given-before, nothing_held}
+use Rattle.world_upheld.specs.upheld.Upheld.{Grounds}
 use Rattle.world_upheld.specs.hearing.Across.{ComesFromAnother, GoAcross, IsAskedAcross, IsToldAcross}
 
 -- ---- the statements
@@ -126,12 +125,12 @@ CanHearLetter r t d l = CanHearOn r t d l.message ⊎ IsMakingHeard r.script.tar
 abbrev pub AllHeardIsInForm : Type 0
 AllHeardIsInForm = (r : Rules) (t : ℕ) (d : Durable) (l : Letter) → r.script.targets ≤ 64 → CanHearLetter r t d l → IsInForm (target_plan r t) l.message
 
--- Where all is upheld, the declared containers are known, Resets tell of targets, and what asks for freezes and prunes goes from one target
--- to another, what goes to a running target it can hear.
+-- Where all is accounted for, the declared containers are known, Resets tell of targets, and what asks for freezes and prunes goes from one
+-- target to another, what goes to a running target it can hear.
 abbrev pub AllLettersCanBeHeard : Type 0
 AllLettersCanBeHeard =
-    (r : Rules) (o : Opening) (held : ℕ → List Version) (h : History) (w : World) (l : Letter) (t : ℕ) (s : TargetState) → 0 < r.script.targets → AreBefore o held
-    → Upheld r o held h w → AreSentSo r.script.targets w → GoAcross r.script.targets w → AreEnlisted r.script s.durable → Contains w.messages l → l.to ≡ target t → slice_get w.targets t ≡ Some s → s.life ≡ Running
+    (r : Rules) (o : Opening) (h : History) (stored : Stored) (w : World) (l : Letter) (t : ℕ) (s : TargetState) → 0 < r.script.targets
+    → AccountedFor r o h stored w → AreSentSo r.script.targets w → GoAcross r.script.targets w → AreEnlisted r.script s.durable → Contains w.messages l → l.to ≡ target t → slice_get w.targets t ≡ Some s → s.life ≡ Running
     → CanHearLetter r t s.durable l
 
 -- ---- the form
@@ -163,17 +162,15 @@ in-form e lease covered low = omega arith
 
 -- ---- what can be stored
 
-module _ (r : Rules) (o : Opening) (held : ℕ → List Version) (h : History) (w : World) (some : 0 < r.script.targets) (before : AreBefore o held) (k : Upheld r o held h w) (t : ℕ) (s : TargetState) (here : slice_get w.targets t ≡ Some s) where
-  given : Given r o held w
-  given = all-heard_right r o held h w before k.heard
+module _ (r : Rules) (o : Opening) (h : History) (stored : Stored) (w : World) (some : 0 < r.script.targets) (accounted : AccountedFor r o h stored w) (t : ℕ) (s : TargetState) (here : slice_get w.targets t ≡ Some s) where
+  k : Grounds r o h w
+  k = accounted.grounds
+
+  given : Given r o nothing_held w
+  given = given-before r o h w k.heard
 
   asked : AskedRight r h w
-  asked =
-      asked-right r h w k.heard.talk k.heard.requests k.heard.stand k.outcomes
-      (epochs-of_commits r (top o) w k.heard.talk k.heard.requests k.heard.stand (snapshots-read r r.script.targets k.heard.form) k.heard.epochs)
-
-  stands : VersionsStand r o (held t) h t s.durable
-  stands = k.versions.stand t s here
+  asked = asked-so r o h w k
 
   entry-here : (x : AttemptId) → entry_at w t x ≡ entry_of s.durable x
   entry-here x = ap (λ z. entry_in z x) here
@@ -183,56 +180,15 @@ module _ (r : Rules) (o : Opening) (held : ℕ → List Version) (h : History) (
   issued-fits x e i =
       let at = contains-from_has w.issued (x, e) i in
       let z = k.heard.epochs.issuer x e at in
-      in-form e.0 z.0.durable.lease (k.heard.epochs.leased x e z.0 at z.1) (k.versions.stand (e.0 % 256) z.0 z.1).form.lease
+      in-form e.0 z.0.durable.lease (k.heard.epochs.leased x e z.0 at z.1) (accounted.owned (e.0 % 256) z.0 z.1).lease
 
-  -- a version of the run is of an attempt that was issued its epoch
-  its-issued : (v : Version) → Contains s.durable.versions v → top o < v.epoch.0 → Contains w.issued (v.by, v.epoch)
-  its-issued v i above = by v.done refl
-    where
-      by : (b : Bool) → v.done ≡ b → Contains w.issued (v.by, v.epoch)
-      by false is =
-          let e = stands.unsettled v i is in
-          let its = ((k.heard.attempts.on.each v.by).entries.one t e.entry (entry-here v.by ∙ e.found)).issued in
-          contains-from_has w.issued (v.by, v.epoch) (subst (λ f. Has (v.by, f) w.issued) e.epoch its)
-      by true is = elim (stands.done v i is) [
-        | inl j ↦ let low : v.epoch.0 ≤ top o = before t v j in absurd (omega (arith, low, above))
-        | inr j ↦ k.versions.issued v.by v.epoch j.0
-      ]
-
-  -- no version has the epoch of an attempt that has no entry here and isn't decided
-  no-version : (x : AttemptId) (e : Epoch) → entry_of s.durable x ≡ None → ((f : Epoch) → Decided h x f → ⊥) → top o < e.0 → ((y : AttemptId) (f : Epoch) → Contains w.issued (y, f) → f.0 ≡ e.0 → y ≡ x) → (v : Version) → Has v s.durable.versions → v.epoch.0 ≡ e.0 → ⊥
-  no-version x e absent undecided above alone v i same = by v.done refl
-    where
-      here-too : Contains s.durable.versions v
-      here-too = contains-from_has s.durable.versions v i
-
-      up : top o < v.epoch.0
-      up = omega (arith, above, same)
-
-      mine : v.by ≡ x
-      mine = alone v.by v.epoch (its-issued v here-too up) same
-
-      by : (b : Bool) → v.done ≡ b → ⊥
-      by false is =
-          let e' = stands.unsettled v here-too is in
-          let found : entry_of s.durable x ≡ Some e'.entry = ap (entry_of s.durable) (sym mine) ∙ e'.found in
-          let no : ⊥ = cc in no
-      by true is = elim (stands.done v here-too is) [
-        | inl j ↦ let low : v.epoch.0 ≤ top o = before t v j in let no : ⊥ = omega (arith, low, up) in no
-        | inr j ↦ undecided v.epoch (subst (λ y. Decided h y v.epoch) mine j.0)
-      ]
-
-  -- an attempt that has no entry at its leader isn't decided
-  undecided-there : (x : AttemptId) → entry_at w (leader_of r x) x ≡ None → (f : Epoch) → Decided h x f → ⊥
-  undecided-there x none f d =
-      let held' = (k.heard.attempts.on.each x).entries.held_by_leader f d in
-      let found : entry_at w (leader_of r x) x ≡ Some held'.entry = held'.found in let no : ⊥ = cc in no
-
-  -- nor is one that has none at another member
-  undecided-at : (x : AttemptId) → IsOther r x t → entry_of s.durable x ≡ None → (f : Epoch) → Decided h x f → ⊥
-  undecided-at x other none f d =
-      let held' = (k.heard.attempts.on.each x).entries.held_by_others f t d other in
-      let found : entry_of s.durable x ≡ Some held'.entry = sym (entry-here x) ∙ held'.found in let no : ⊥ = cc in no
+  -- no version has the epoch of an attempt that wasn't stored here
+  no-version : (x : AttemptId) (e : Epoch) → (Contains stored (t, x) → ⊥) → top o < e.0 → ((y : AttemptId) (f : Epoch) → Contains w.issued (y, f) → f.0 ≡ e.0 → y ≡ x) → (v : Version) → Has v s.durable.versions → v.epoch.0 ≡ e.0 → ⊥
+  no-version x e unstored above alone v i same =
+      let own = accounted.owned t s here in
+      let up : top o < v.epoch.0 = omega (arith, above, same) in
+      let mine : v.by ≡ x = alone v.by v.epoch (own.written v i up) same in
+      unstored (subst (λ y. Contains stored (t, y)) mine (own.stored_here v i up))
 
   -- a container of which an attempt makes a snapshot, or that it aggregates
   known-cont : (x : AttemptId) (c : ContId) → IsSnapIn r x c ⊎ IsAggregationOf r x c → is_enlisted s.durable c ≡ true
@@ -244,14 +200,14 @@ module _ (r : Rules) (o : Opening) (held : ℕ → List Version) (h : History) (
         (cont-declared r (write_path m.write) k.heard.form
         (write-declared r.script.objs m.write (writes-declared r.script.objs (attempt_ops r.script x) (ops-form r.script.targets r.script x k.heard.form) m i)))
 
-    -- some of an attempt's writes can be stored where it has no entry, isn't decided, and an epoch is its own
-    can-store : (x : AttemptId) (ep : Option Epoch) (ws : List MinorWrite) → AreWritesInForm ws → ((m : MinorWrite) → Has m ws → Has m (writes_of r x)) → entry_of s.durable x ≡ None → ((f : Epoch) → Decided h x f → ⊥)
+    -- some of an attempt's writes can be stored where it has no entry, wasn't stored, and an epoch is its own
+    can-store : (x : AttemptId) (ep : Option Epoch) (ws : List MinorWrite) → AreWritesInForm ws → ((m : MinorWrite) → Has m ws → Has m (writes_of r x)) → entry_of s.durable x ≡ None → (Contains stored (t, x) → ⊥)
         → ((e : Epoch) → ep ≡ Some e → IsItsEpoch o w x ep e) → CanStore s.durable x ep ws
-    can-store x ep ws form its absent undecided own = record {
+    can-store x ep ws form its absent unstored own = record {
       form = form;
       enlisted = all-from_has (λ m. is_enlisted s.durable (write_path m.write).cont ≡ true) ws (λ m i. known x m (its m i));
       absent = absent;
-      new = λ e is. all-from_has (λ v. v.epoch.0 ≡ e.0 → ⊥) s.durable.versions (no-version x e absent undecided (own e is).above (own e is).alone);
+      new = λ e is. all-from_has (λ v. v.epoch.0 ≡ e.0 → ⊥) s.durable.versions (no-version x e unstored (own e is).above (own e is).alone);
     }
 
     fits-each : (x : AttemptId) (m : MinorWrite) → Has m (writes_of r x) → FitsTargets r m.write
@@ -259,7 +215,7 @@ module _ (r : Rules) (o : Opening) (held : ℕ → List Version) (h : History) (
 
     can-commit : (l : Letter) (x : AttemptId) (ep first : Option Epoch) (tracker : Epoch) (ws : List MinorWrite) → Contains w.messages l → l.to ≡ target t → l.message ≡ message.Commit x ep first tracker ws → IsMessageRight r o w t s (message.Commit x ep first tracker ws) → CanCommit r t s.durable x ep ws
     can-commit l x ep first tracker ws among to says right = record {
-      store = can-store x ep ws (subst AreWritesInForm (sym its) (given.forms x)) (λ m i. subst (Has m) its i) (sym (entry-here x) ∙ ap (λ u. entry_at w u x) leads ∙ new.unstored) (undecided-there x new.unstored) epochs;
+      store = can-store x ep ws (subst AreWritesInForm (sym its) (given.forms x)) (λ m i. subst (Has m) its i) (sym (entry-here x) ∙ ap (λ u. entry_at w u x) leads ∙ new.unstored) (λ i. accounted.once.uncommitted t x l i among (subst (λ m. IsCommitOf m x) (sym says) refl)) epochs;
       some = subst (λ u. 0 < length (own_writes (target_plan r u) ws)) (sym leads) (subst (λ vs. 0 < length (own_writes (target_plan r (leader_of r x)) vs)) (sym its) (leader-writes r x (fits-each x) (λ none. right.0.some (its ∙ none))));
       fit = all-from_has (λ m. IfSome (write_path m.write).obj (λ obj. ClassFits obj.class r.script.targets)) ws (λ m i. fits-one m.write (fits-each x m (subst (Has m) its i)));
     }
@@ -282,7 +238,7 @@ module _ (r : Rules) (o : Opening) (held : ℕ → List Version) (h : History) (
     can-prepare : (l : Letter) (e : Entry) (first : Option Epoch) (ws : List MinorWrite) (inc : ℕ) → Contains w.messages l → l.to ≡ target t → l.message ≡ message.Prepare e first ws inc → IsPrepareRight r h w l.from l.to e ws inc → CanPrepare r s.durable e ws
     can-prepare l e first ws inc among to says p = record {
       store = can-store e.attempt (Some e.epoch) ws (subst AreWritesInForm (sym mine) (some-in_form (is_written_at r.script.targets t) (writes_of r e.attempt) (given.forms e.attempt)))
-          (λ m i. (has-from_filter (is_written_at r.script.targets t) (writes_of r e.attempt) m (subst (Has m) mine i)).0) absent (undecided-at e.attempt other absent) epochs;
+          (λ m i. (has-from_filter (is_written_at r.script.targets t) (writes_of r e.attempt) m (subst (Has m) mine i)).0) absent (accounted.once.so.asked t e.attempt (record { l = l; among = among; to = to; its = subst (λ m. IsPrepareOf m e.attempt) (sym says) refl })) epochs;
       some = subst (λ vs. 0 < length vs) (sym mine) (others-write r e.attempt t other);
       undecided = ap (λ z. z.committed) p.entry;
       unconfirmed = ap (λ z. z.confirmed) p.entry;
@@ -400,4 +356,4 @@ module _ (r : Rules) (o : Opening) (held : ℕ → List Version) (h : History) (
           by (message.Prune x c (Some tracker) (Some g)) it = absurd (told (message.Prune x c (Some tracker) (Some g)) it)
 
 pub all-letters_can_be_heard : AllLettersCanBeHeard
-all-letters_can_be_heard r o held h w l t s some before k sent across enlisted among to here runs = can-hear_letter r o held h w some before k t s here enlisted sent across l among to runs
+all-letters_can_be_heard r o h stored w l t s some k sent across enlisted among to here runs = can-hear_letter r o h stored w some k t s here enlisted sent across l among to runs

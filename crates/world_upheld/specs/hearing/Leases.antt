@@ -27,13 +27,11 @@ use Rattle.world_base.specs.CutTurns.{Cutting}
 use Rattle.world_base.specs.Events.{Rules, target_plan}
 use Rattle.world_base.specs.Snapshots.{prune_limit}
 use Rattle.world_base.specs.StepLaws.{set-here}
-use Rattle.world_base.specs.Stops.{AtWork, CutOf, Goes, IsCut, TargetCut, WorldEvent, WorldRun, swept}
+use Rattle.world_base.specs.Stops.{AtWork, Begins, CutOf, Goes, IsCut, TargetCut, WorldEvent, WorldRun, swept}
 use Rattle.world_standing.specs.hearable.Covered.{AreCovered, IsCovered, stays-covered}
 use Rattle.world_standing.specs.standing.Covering.{all-put, epochs-puts}
-use Rattle.world_upheld.specs.upheld.Begins.{AreRulesInForm, RunBeginsWith}
-use Rattle.world_upheld.specs.upheld.Runs.{runs-are_upheld}
+use Rattle.world_upheld.specs.upheld.Begins.{AreRulesInForm, RunBeginsWell}
 use Rattle.world_upheld.specs.upheld.Upheld.{Upheld}
-use Rattle.world_plain.specs.whole.Begins.{held_at}
 use Rattle.world_upheld.specs.hearing.Staying.{StaysCoveredOn, cuts-leave_what_stays, events-keep_what_stays}
 
 -- ---- the statements
@@ -53,11 +51,11 @@ UpheldIsCovered = (r : Rules) (o : Opening) (held : ℕ → List Version) (h : H
 
 -- so at each moment of any run
 abbrev pub AllRunsAreCovered : Type 0
-AllRunsAreCovered = (r : Rules) (o : Opening) (w v : World) → AreRulesInForm r → RunBeginsWith r o w → WorldRun r w v → AllKeepCovered v
+AllRunsAreCovered = (r : Rules) (o : Opening) (w v : World) → AreRulesInForm r → RunBeginsWell r o w → WorldRun r w v → AllKeepCovered v
 
 -- and so it is of what a cut leaves, of any turn of a running target
 abbrev pub AllRunsCutCovered : Type 0
-AllRunsCutCovered = (r : Rules) (o : Opening) (w v u : World) → AreRulesInForm r → RunBeginsWith r o w → WorldRun r w v → (g : TargetCut r v u) → KeepsCovered g.cut.left.durable
+AllRunsCutCovered = (r : Rules) (o : Opening) (w v u : World) → AreRulesInForm r → RunBeginsWell r o w → WorldRun r w v → (g : TargetCut r v u) → KeepsCovered g.cut.left.durable
 
 -- Each event keeps it, whatever else holds.
 abbrev pub AllEventsKeepCovered : Type 0
@@ -197,11 +195,20 @@ all-cuts-leave_covered = cuts-leave_what_stays KeepsCovered stays-kept
 
 pub upheld-is_covered : UpheldIsCovered
 upheld-is_covered r o held h w k t s here =
-    let z = k.versions.stand t s here in
+    let z = k.contents.versions.stand t s here in
     record { versions = all-from_has (λ v. v.epoch.0 / 256 ≤ s.durable.lease) s.durable.versions (λ v i. z.leased v (contains-from_has s.durable.versions v i)); snapshots = all-from_has (λ x. x.epoch.0 / 256 ≤ s.durable.lease) s.durable.snaps (λ x i. z.snapshots.leased x (contains-from_has s.durable.snaps x i)) }
 
+covered-begins : (r : Rules) (o : Opening) (w : World) → RunBeginsWell r o w → AllKeepCovered w
+covered-begins r o w B t s here =
+    let k = (B.starts t s here).keeps in
+    record {
+      versions = all-from_has (λ v. v.epoch.0 / 256 ≤ s.durable.lease) s.durable.versions (λ v i. (k.covered v (contains-from_has s.durable.versions v i)).1);
+      snapshots = all-from_has (λ x. x.epoch.0 / 256 ≤ s.durable.lease) s.durable.snaps (λ x i. k.leased x (contains-from_has s.durable.snaps x i));
+    }
+
 pub all-runs-are_covered : AllRunsAreCovered
-all-runs-are_covered r o w v A B run = let k = runs-are_upheld r o w v A B run in upheld-is_covered r o (held_at w) k.0 v k.1
+all-runs-are_covered r o w v A B Begins = covered-begins r o w B
+all-runs-are_covered r o w v A B (Goes u x run e) = all-events-keep_covered r u v e (all-runs-are_covered r o w u A B run)
 
 -- what a cut leaves is kept then
 pub all-runs-cut_covered : AllRunsCutCovered

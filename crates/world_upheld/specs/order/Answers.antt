@@ -45,7 +45,7 @@ use Rattle.world_base.specs.VerdictLaws.{Tries, verdict-keeps}
 use Rattle.world_base.specs.Verdicts as verdict
 use Rattle.world_standing.specs.external.Kept.{IsServedBehind}
 use Rattle.world_standing.specs.external.Silent.{ack-silent, commit-silent, mark-silent, marked-silent, prepare-silent, query-silent}
-use Rattle.world_standing.specs.external.Storing.{FirstIsKnown}
+use Rattle.world_standing.specs.external.Behind.{FirstIsKnown}
 use Rattle.world_causes.specs.hearing.Going.{Before}
 use Rattle.world_causes.specs.hearing.PlainTurns.{knows}
 use Rattle.world_upheld.specs.order.Serving.{served-lie-behind}

@@ -40,9 +40,8 @@ use Rattle.world_base.specs.declared.target.TargetPlan.{TargetPlan}
 use Rattle.world_base.specs.Commits.{IsAllowed, first_floor, or_else}
 use Rattle.world_base.specs.Events.{Rules, target_plan}
 use Rattle.world_base.specs.Reads.{aggregated_unless, fetch_cause, later_of, later_unless, uncertain_from}
-use Rattle.world_standing.specs.external.Behind.{IsBehind, IsFar, IsFarOfFirst, IsLater, Issued, WritesAt}
+use Rattle.world_standing.specs.external.Behind.{FirstIsKnown, IsBehind, IsFar, IsFarOfFirst, IsLater, Issued, WritesAt}
 use Rattle.world_standing.specs.external.Checks.{unrefused}
-use Rattle.world_standing.specs.external.Storing.{FirstIsKnown}
 use Rattle.world_contents.specs.reads.Transactions.{counts_by, decided_of, transactions}
 use Rattle.world_contents.specs.reads.Versions.{VersionsStand, is_own_in, mark_of}
 

@@ -19,7 +19,7 @@ use Rattle.world_base.specs.Events.{Rules}
 use Rattle.world_causes.specs.causes.Shown.{IsFirstOf}
 use Rattle.world_letters.specs.clients.Snapshots.{is_at_snapshot}
 use Rattle.world_letters.specs.epochs.Epochs.{AsksEpoch, Epochs}
-use Rattle.world_standing.specs.external.Storing.{FirstIsKnown}
+use Rattle.world_standing.specs.external.Behind.{FirstIsKnown}
 use Rattle.world_standing.specs.external.Told.{line-served, none-has}
 use Rattle.world_commit.specs.fates.Asked.{AskedRight}
 use Rattle.world_commit.specs.fates.Facts.{Attempts, IsSaidSo}

@@ -21,9 +21,8 @@ use Rattle.world_base.specs.declared.world.World.{World}
 use Rattle.world_base.specs.Events.{Rules, target_plan}
 use Rattle.world_base.specs.Reads.{fetch_cause, later_of, later_unless}
 use Rattle.world_letters.specs.epochs.Epochs.{Epochs, IsIssued, is_making, makes}
-use Rattle.world_standing.specs.external.Behind.{Issued}
+use Rattle.world_standing.specs.external.Behind.{FirstIsKnown, Issued}
 use Rattle.world_standing.specs.external.Kept.{IsServedBehind}
-use Rattle.world_standing.specs.external.Storing.{FirstIsKnown}
 use Rattle.world_upheld.specs.order.Guards.{accesses-lie-behind, reads-are-above}
 use Rattle.world_upheld.specs.order.Storing.{KnowsTold}
 use Rattle.world_contents.specs.reads.Adds.{served_at}

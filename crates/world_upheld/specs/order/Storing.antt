@@ -34,10 +34,9 @@ use Rattle.world_base.specs.Prepares as prepare
 use Rattle.world_base.specs.TurnLaws.{commit-plain, prepare-plain}
 use Rattle.world_base.specs.Turns.{Reached}
 use Rattle.world_letters.specs.epochs.Sayings.{AreKnown, Known, known-all, known-each}
-use Rattle.world_standing.specs.external.Behind.{IsBehind, Issued, WasAnswered, WritesAt}
+use Rattle.world_standing.specs.external.Behind.{FirstIsKnown, IsBehind, Issued, WasAnswered, WritesAt}
 use Rattle.world_standing.specs.external.Checks.{each-unrefused}
 use Rattle.world_standing.specs.external.Kept.{IsStoredBehind, ReadsAt}
-use Rattle.world_standing.specs.external.Storing.{FirstIsKnown}
 use Rattle.world_upheld.specs.order.Guards.{accesses-lie-behind, writes-are-above}
 use Rattle.world_contents.specs.reads.Beginning.{TurnBegins}
 use Rattle.world_contents.specs.reads.CommitLaws.{CommitMid, HearsCommit, MayBeStored, PrepareMid, commit-step, prepare-step}

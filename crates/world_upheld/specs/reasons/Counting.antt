@@ -1,5 +1,5 @@
 -- Which epochs count as those of attempts, where some count besides those that were issued.
-use Rattle.std.specs.Prelude.{ℕ, ◌≡◌, false, List, Contains, Option, Some, None}
+use Rattle.std.specs.Prelude.{◌≡◌, false, List, Contains, Option, Some, None}
 use Rattle.base_types.specs.declared.epoch.Epoch.{Epoch}
 use Rattle.base_types.specs.declared.id.AttemptId.{AttemptId}
 use Rattle.base_types.specs.declared.report.Line.{Line}

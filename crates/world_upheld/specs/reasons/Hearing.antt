@@ -1,13 +1,12 @@
 -- What is lost at a target that was given up was asked of one of its attempt's targets, and a line tells of it; so a client that hears of a loss
 -- has a stop for it, or such a line.
-use Rattle.std.specs.Prelude.{ℕ, ◌≡◌, Bool, true, false, List, Contains, Some, None, refl}
+use Rattle.std.specs.Prelude.{ℕ, ◌≡◌, Bool, true, false, Contains, Some, None, refl}
 use Rattle.std.proofs.Common.{sym, ◌∙◌, ap, subst}
 use Rattle.base_types.specs.declared.id.AttemptId.{AttemptId}
 use Rattle.base_types.specs.declared.report.Line.TheVariants as line
 use Rattle.base_messages.specs.declared.message.Message.{Message, more_of-Message}
 use Rattle.base_messages.specs.declared.message.Message.TheVariants as message
 use Rattle.daos_model.specs.Accesses.{attempt_targets}
-use Rattle.daos_model.specs.declared.durable.Version.{Version}
 use Rattle.daos_model.specs.Opening.{Opening}
 use Rattle.dtx_base.specs.LeaderLaws.{same-is}
 use Rattle.model_laws.specs.Members.{Has, contains-from_has}
@@ -42,19 +41,19 @@ use Rattle.world_upheld.specs.reasons.Events.{places-of_rules}
 
 -- what is lost at a target that was given up was asked of one of its attempt's targets, and a line tells of it
 abbrev pub AllLossesTellOfGivenUp : Type 0
-AllLossesTellOfGivenUp = (r : Rules) (o : Opening) (held : ℕ → List Version) (h : History) (stored : Stored) (w : World) → AreRulesInForm r → AccountedFor r o held h stored w
+AllLossesTellOfGivenUp = (r : Rules) (o : Opening) (h : History) (stored : Stored) (w : World) → AreRulesInForm r → AccountedFor r o h stored w
     → GivenUpAreTold r w
 
 -- A client that hears that a request of its attempt was lost is told so of a target of the attempt: one that was given up, where it is down,
 -- or else one that stopped since the attempt began.
 abbrev pub AllClientsHearOfStops : Type 0
 AllClientsHearOfStops =
-    (r : Rules) (o : Opening) (held : ℕ → List Version) (h : History) (stored : Stored) (w v : World) → AreRulesInForm r → AccountedFor r o held h stored w
+    (r : Rules) (o : Opening) (h : History) (stored : Stored) (w v : World) → AreRulesInForm r → AccountedFor r o h stored w
     → (g : ClientHears r w v) → LossesStand r w.lines g.n g.c g.l.message
 
 -- ---- what is lost
 
-module _ (r : Rules) (o : Opening) (held : ℕ → List Version) (h : History) (stored : Stored) (w : World) (A : AreRulesInForm r) (k : AccountedFor r o held h stored w) (l : Letter)
+module _ (r : Rules) (o : Opening) (h : History) (stored : Stored) (w : World) (A : AreRulesInForm r) (k : AccountedFor r o h stored w) (l : Letter)
     (t : ℕ) (q : Message) (x : AttemptId) (i : Has l w.messages) (at : IsLossAt t true l.message) (tells : TellsLoss l.message q) where
   abbrev Targets : ℕ → Type 0
   Targets n = Contains (attempt_targets r.script x) n
@@ -94,13 +93,13 @@ module _ (r : Rules) (o : Opening) (held : ℕ → List Version) (h : History) (
       n = l.to.number
 
       to : l.to ≡ client n
-      to = ap (λ b. record { client = b; number = n }) ((k.upheld.heard.requests.letters l i).lost (lost-kind l.message tells asks))
+      to = ap (λ b. record { client = b; number = n }) ((k.grounds.heard.requests.letters l i).lost (lost-kind l.message tells asks))
 
       rest : (left : _) × Takes w.messages l left
       rest = taken-from w.messages l (contains-from_has w.messages l i)
 
       z : IsToldTo r w n l
-      z = told-to r w k.upheld.heard.talk n l rest.0 rest.1 to (loss-reset l.message q tells).1
+      z = told-to r w k.grounds.heard.talk n l rest.0 rest.1 to (loss-reset l.message q tells).1
 
       by : IsReplyTo z.q l.message → Targets t
       by (IsAnswer answers) = let bad : true ≡ false = sym (loss-reset l.message q tells).0 ∙ answers-no_reset z.q.message l.message answers in let no : ⊥ = cc in absurd no
@@ -113,7 +112,7 @@ module _ (r : Rules) (o : Opening) (held : ℕ → List Version) (h : History) (
           let own : attempt_id (client_plan r n) z.c p.a ≡ x = cc in
           subst Targets there.0
           (subst (λ y. Contains (attempt_targets r.script y) z.q.to.number) own
-          (question-target r w k.upheld.heard.stand (places-of_rules r A) k.within n z.c z.here p.a p.at z.q z.question))
+          (question-target r w k.grounds.heard.stand (places-of_rules r A) k.grounds.heard.within n z.c z.here p.a p.at z.q z.question))
 
   asked-so : (m : Message) → TellsLoss m q → IsSaidSo r h w l.from l.to m → IsAskedSo r h w l.to l.from q
   asked-so (message.Reset' u d place (more_of-Message y more)) is so = subst (IsAskedSo r h w l.to l.from) is so
@@ -128,11 +127,11 @@ module _ (r : Rules) (o : Opening) (held : ℕ → List Version) (h : History) (
     where
       by : (b : Bool) → is_request q ≡ b → Targets t
       by true asks = of-client asks its
-      by false off = of-leader q its off (asked-so l.message tells (k.upheld.heard.attempts.on.letters l i)) (sent-by l.message at (k.upheld.senders l i))
+      by false off = of-leader q its off (asked-so l.message tells (k.grounds.heard.attempts.on.letters l i)) (sent-by l.message at (k.grounds.senders l i))
 
 pub all-given-up_told : AllLossesTellOfGivenUp
-all-given-up_told r o held h stored w A k l t q x i at tells its present = told r o held h stored w A k l t q x i at tells its
+all-given-up_told r o h stored w A k l t q x i at tells its present = told r o h stored w A k l t q x i at tells its
 
 pub all-hear-of_stops : AllClientsHearOfStops
-all-hear-of_stops r o held h stored w v A k g =
-    losses-stand r w g.n g.c g.l g.rest k.losses (losses-asked r w k.upheld.heard.talk) (all-given-up_told r o held h stored w A k) g.here g.takes g.to_it
+all-hear-of_stops r o h stored w v A k g =
+    losses-stand r w g.n g.c g.l g.rest k.losses (losses-asked r w k.grounds.heard.talk) (all-given-up_told r o h stored w A k) g.here g.takes g.to_it

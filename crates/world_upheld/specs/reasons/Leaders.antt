@@ -1,6 +1,6 @@
 -- What a leader hears of attempts that it leads is known: who waits is the attempt's client; a refusal, or the news that a member holds
 -- nothing, shows why; and who asks what became of an attempt has a stop, or a target that was given up, to be told of.
-use Rattle.std.specs.Prelude.{ℕ, ◌≡◌, ◌≤◌, ◌/◌, true, false, List, slice_get, Contains, Option, Some}
+use Rattle.std.specs.Prelude.{ℕ, ◌≡◌, ◌≤◌, ◌/◌, true, false, slice_get, Contains, Option, Some}
 use Rattle.std.proofs.Common.{sym, ◌∙◌, ap, subst}
 use Rattle.base_types.specs.declared.entry.Entry.{Entry}
 use Rattle.base_types.specs.declared.entry.EntryState.{EntryState}
@@ -17,7 +17,6 @@ use Rattle.base_messages.specs.declared.message.Message.{Message, more_of-Messag
 use Rattle.base_messages.specs.declared.message.Message.TheVariants as message
 use Rattle.daos_model.specs.Accesses.{attempt_targets}
 use Rattle.daos_model.specs.EntryLaws.{same_attempt-itself}
-use Rattle.daos_model.specs.declared.durable.Version.{Version}
 use Rattle.daos_model.specs.Opening.{Opening, top}
 use Rattle.daos_model.specs.Order.{told_by}
 use Rattle.dtx_base.specs.declared.leading.Undecided.{Undecided}
@@ -68,14 +67,14 @@ use Rattle.world_legal.specs.reasons.Waiting.{waiter-present}
 -- a leader that is asked what became of an attempt
 abbrev pub AllAsksAreKnown : Type 0
 AllAsksAreKnown =
-    (r : Rules) (o : Opening) (held : ℕ → List Version) (h : History) (stored : Stored) (w : World) → AccountedFor r o held h stored w → (dated : Dated) → CountAsDates r w dated → Causes r o stored (record w { issued = dated })
+    (r : Rules) (o : Opening) (h : History) (stored : Stored) (w : World) → AccountedFor r o h stored w → (dated : Dated) → CountAsDates r w dated → Causes r o stored (record w { issued = dated })
     → (t : ℕ) (s : TargetState) → slice_get w.targets t ≡ Some s → (l : Letter) (x : AttemptId) → Has l w.messages → l.message ≡ message.Ask x
     → IsAskKnown r o (record w { issued = dated }) l.from x (leader_at (target_plan r t) s.memory s.durable)
 
 -- one that is answered by a member
 abbrev pub AllAcksAreKnown : Type 0
 AllAcksAreKnown =
-    (r : Rules) (o : Opening) (held : ℕ → List Version) (h : History) (stored : Stored) (w : World) → AccountedFor r o held h stored w → (dated : Dated) → CountAsDates r w dated → Causes r o stored (record w { issued = dated })
+    (r : Rules) (o : Opening) (h : History) (stored : Stored) (w : World) → AccountedFor r o h stored w → (dated : Dated) → CountAsDates r w dated → Causes r o stored (record w { issued = dated })
     → (t : ℕ) (s : TargetState) → slice_get w.targets t ≡ Some s → (l : Letter) (x : AttemptId) (inc : ℕ) (refusal : Option Outcome) → Has l w.messages
     → l.message ≡ message.Ack x inc refusal
     → IsAck r o stored dated w.lines x refusal (leader_at (target_plan r t) s.memory s.durable)
@@ -83,7 +82,7 @@ AllAcksAreKnown =
 -- or is told what a member holds
 abbrev pub AllStatesAreKnown : Type 0
 AllStatesAreKnown =
-    (r : Rules) (o : Opening) (held : ℕ → List Version) (h : History) (stored : Stored) (w : World) → AccountedFor r o held h stored w → (dated : Dated) → CountAsDates r w dated → Causes r o stored (record w { issued = dated })
+    (r : Rules) (o : Opening) (h : History) (stored : Stored) (w : World) → AccountedFor r o h stored w → (dated : Dated) → CountAsDates r w dated → Causes r o stored (record w { issued = dated })
     → (t : ℕ) (s : TargetState) → slice_get w.targets t ≡ Some s → (l : Letter) (x : AttemptId) (inc : ℕ) (how : EntryState) → Has l w.messages
     → l.message ≡ message.StatusIs x inc how
     → IsAck r o stored dated w.lines x (status_refusal x how) (leader_at (target_plan r t) s.memory s.durable)
@@ -91,7 +90,7 @@ AllStatesAreKnown =
 -- A leader to which a client hands an attempt over, of which it knows a member to be down: that is a target of the attempt, and was given up.
 abbrev pub AllCommitsMeetGivenUp : Type 0
 AllCommitsMeetGivenUp =
-    (r : Rules) (o : Opening) (held : ℕ → List Version) (h : History) (stored : Stored) (w : World) → AreRulesInForm r → AccountedFor r o held h stored w
+    (r : Rules) (o : Opening) (h : History) (stored : Stored) (w : World) → AreRulesInForm r → AccountedFor r o h stored w
     → (t : ℕ) (s : TargetState) → slice_get w.targets t ≡ Some s → (l : Letter) (q : CommitRequest) (e : Epoch) (down : ℕ) → Has l w.messages → l.message ≡ commit_of q
     → down_of (target_plan r t) s.memory q e ≡ Some down → IsGone r w.lines q.attempt down
 
@@ -99,7 +98,7 @@ AllCommitsMeetGivenUp =
 -- and that target is one of the attempt's, and was given up.
 abbrev pub AllLostQuestionsAreKnown : Type 0
 AllLostQuestionsAreKnown =
-    (r : Rules) (o : Opening) (held : ℕ → List Version) (h : History) (stored : Stored) (w : World) → AccountedFor r o held h stored w → (dated : Dated) → CountAsDates r w dated → Causes r o stored (record w { issued = dated })
+    (r : Rules) (o : Opening) (h : History) (stored : Stored) (w : World) → AccountedFor r o h stored w → (dated : Dated) → CountAsDates r w dated → Causes r o stored (record w { issued = dated })
     → (t : ℕ) (s : TargetState) → slice_get w.targets t ≡ Some s → (l : Letter) (by : ℕ) (q : Message) → Has l w.messages → TellsReset by true q l.message
     → (x : AttemptId) (e : Entry) (u : Undecided) (c : ActorId) → AsksAfter q x → entry_led x (leader_at (target_plan r t) s.memory s.durable) ≡ Some e
     → undecided_of x (leader_at (target_plan r t) s.memory s.durable) ≡ Some u → u.client ≡ Some c
@@ -107,7 +106,7 @@ AllLostQuestionsAreKnown =
 
 -- ---- what is found
 
-module _ (r : Rules) (o : Opening) (held : ℕ → List Version) (h : History) (stored : Stored) (w : World) (k : AccountedFor r o held h stored w) (dated : Dated) (D : CountAsDates r w dated) (C : Causes r o stored (record w { issued = dated })) (t : ℕ)
+module _ (r : Rules) (o : Opening) (h : History) (stored : Stored) (w : World) (k : AccountedFor r o h stored w) (dated : Dated) (D : CountAsDates r w dated) (C : Causes r o stored (record w { issued = dated })) (t : ℕ)
     (s : TargetState) (here : slice_get w.targets t ≡ Some s) where
   abbrev leader : LeaderOf
   leader = leader_at (target_plan r t) s.memory s.durable
@@ -116,14 +115,14 @@ module _ (r : Rules) (o : Opening) (held : ℕ → List Version) (h : History) (
     -- an entry that is led here has its epoch, and the attempt's members
     within : (e : Entry) → entry_led x leader ≡ Some e → e.epoch.0 / 256 ≤ limit_over o w.lines dated
     within e f =
-        let found = (led-found (target_plan r t) s.memory s.durable x e (k.upheld.heard.attempts.on.ordered t s here).entries f).0 in
-        let its = (k.upheld.heard.attempts.on.each x).entries.one t e (ap (λ y. entry_in y x) here ∙ found) in
+        let found = (led-found (target_plan r t) s.memory s.durable x e (k.grounds.heard.attempts.on.ordered t s here).entries f).0 in
+        let its = (k.grounds.heard.attempts.on.each x).entries.one t e (ap (λ y. entry_in y x) here ∙ found) in
         C.bounded.issued x e.epoch (D.issued x e.epoch (contains-from_has w.issued (x, e.epoch) its.issued))
 
     gone : (e : Entry) (down : ℕ) → entry_led x leader ≡ Some e → first_down e.members s.memory.leader.down ≡ Some down → IsGone r w.lines x down
     gone e down f first =
-        let found = (led-found (target_plan r t) s.memory s.durable x e (k.upheld.heard.attempts.on.ordered t s here).entries f).0 in
-        let its = (k.upheld.heard.attempts.on.each x).entries.one t e (ap (λ y. entry_in y x) here ∙ found) in
+        let found = (led-found (target_plan r t) s.memory s.durable x e (k.grounds.heard.attempts.on.ordered t s here).entries f).0 in
+        let its = (k.grounds.heard.attempts.on.each x).entries.one t e (ap (λ y. entry_in y x) here ∙ found) in
         let is = down-so e.members s.memory.leader.down down first in (
           contains-from_has (attempt_targets r.script x) down (member-is_target r x down (bit-of _ down (ap (λ n. has_target n down) (sym its.members) ∙ is.0))),
           contains-from_has w.lines (line.Down down) (k.knows t down s here is.1),
@@ -131,16 +130,16 @@ module _ (r : Rules) (o : Opening) (held : ℕ → List Version) (h : History) (
 
     -- who waits is the attempt's client, which is at it
     waits : (u : Undecided) (c : ActorId) → undecided_of x leader ≡ Some u → u.client ≡ Some c → c ≡ client x.client
-    waits u c row told = ((k.upheld.heard.attempts.on.each x).rows.undecided t u (ap (λ y. row_in y x) here ∙ row)).client c told
+    waits u c row told = ((k.grounds.heard.attempts.on.each x).rows.undecided t u (ap (λ y. row_in y x) here ∙ row)).client c told
 
     waiter : (u : Undecided) (c : ActorId) → undecided_of x leader ≡ Some u → u.client ≡ Some c → IsPresent r w x
     waiter u c row told =
         let f = found-row x s.memory.leader.undecided u row in
-        subst (IsPresent r w) f.1 (waiter-present r w k.upheld.heard.talk t s here u f.0 x.client (told ∙ ap (λ y. Some y) (waits u c row told)))
+        subst (IsPresent r w) f.1 (waiter-present r w k.grounds.heard.talk t s here u f.0 x.client (told ∙ ap (λ y. Some y) (waits u c row told)))
 
   ask-known : (l : Letter) (x : AttemptId) → Has l w.messages → l.message ≡ message.Ask x → IsAskKnown r o (record w { issued = dated }) l.from x leader
   ask-known l x i is = record {
-    own = subst (IsSentRightly l.from) is (k.upheld.senders l i);
+    own = subst (IsSentRightly l.from) is (k.grounds.senders l i);
     within = λ e f. within x e f;
     lost = λ none. k.losses.letters l x i (ap (tells_stop x) is ∙ same_attempt-itself x) present;
     gone = λ e down f first. gone x e down f first;
@@ -148,7 +147,7 @@ module _ (r : Rules) (o : Opening) (held : ℕ → List Version) (h : History) (
     where
       present : IsPresent r w x
       present =
-          let z = (hands-over r w k.upheld.heard.talk k.upheld.heard.requests).waits l x i (ap (hands x) is ∙ same_attempt-itself x) in
+          let z = (hands-over r w k.grounds.heard.talk k.grounds.heard.requests).waits l x i (ap (hands x) is ∙ same_attempt-itself x) in
           record { c = z.c; a = z.waits.a; here = z.here; at = z.waits.present; own = z.waits.own }
 
   ack-known : (l : Letter) (x : AttemptId) (inc : ℕ) (refusal : Option Outcome) → Has l w.messages → l.message ≡ message.Ack x inc refusal
@@ -188,7 +187,7 @@ module _ (r : Rules) (o : Opening) (held : ℕ → List Version) (h : History) (
 
   -- a target that didn't answer a leader's question about an attempt is one of its members
   asked-member : (l : Letter) (by : ℕ) (x : AttemptId) (q : Message) → Has l w.messages → TellsReset by true q l.message → AsksAfter q x → Contains (attempt_targets r.script x) by
-  asked-member l by x q i tells asks = of l.message tells (k.upheld.heard.attempts.on.letters l i) (k.upheld.senders l i)
+  asked-member l by x q i tells asks = of l.message tells (k.grounds.heard.attempts.on.letters l i) (k.grounds.senders l i)
     where
       member : (m : ℕ) → IsOther r x m → l.from ≡ target m → l.from ≡ target by → Contains (attempt_targets r.script x) by
       member m other receiver from = subst (Contains (attempt_targets r.script x)) (ap (λ a. a.number) (sym receiver ∙ from)) (other-is_target r x m other)
@@ -214,32 +213,32 @@ module _ (r : Rules) (o : Opening) (held : ℕ → List Version) (h : History) (
       downs m is = absurd is
 
 pub all-commits_meet : AllCommitsMeetGivenUp
-all-commits_meet r o held h stored w A k t s here l q e down i says first = (
+all-commits_meet r o h stored w A k t s here l q e down i says first = (
   contains-from_has (attempt_targets r.script q.attempt) down
       (member-is_target r q.attempt down (subst (λ ws. Has down (writes_members ws r.script.targets)) new.writes (bit-of (writes_members q.writes r.script.targets) down is.0))),
   contains-from_has w.lines (line.Down down) (k.knows t down s here is.1),
 )
   where
     z : HeardUpheld r o h w
-    z = k.upheld.heard
+    z = k.grounds.heard
 
     new : IsCommitNew r h w l.to q.attempt q.ep q.writes
     new =
-        (asked-right r h w z.talk z.requests z.stand k.upheld.outcomes
+        (asked-right r h w z.talk z.requests z.stand k.grounds.outcomes
         (epochs-of_commits r (top o) w z.talk z.requests z.stand (snapshots-read r r.script.targets A.form) z.epochs)).commits l q.attempt q.ep q.first q.tracker q.writes i says
 
     is : (has_target (led_entry (target_plan r t) q e).members down ≡ true) × (has_target s.memory.leader.down down ≡ true)
     is = down-so (led_entry (target_plan r t) q e).members s.memory.leader.down down first
 
 pub all-lost-questions_known : AllLostQuestionsAreKnown
-all-lost-questions_known r o held h stored w k dated D C t s here l by q i tells x e u c asks found row told =
-    lost-known r o held h stored w k dated D C t s here l by q i tells x e u c asks found row told
+all-lost-questions_known r o h stored w k dated D C t s here l by q i tells x e u c asks found row told =
+    lost-known r o h stored w k dated D C t s here l by q i tells x e u c asks found row told
 
 pub all-asks_known : AllAsksAreKnown
-all-asks_known r o held h stored w k dated D C t s here l x i is = ask-known r o held h stored w k dated D C t s here l x i is
+all-asks_known r o h stored w k dated D C t s here l x i is = ask-known r o h stored w k dated D C t s here l x i is
 
 pub all-acks_known : AllAcksAreKnown
-all-acks_known r o held h stored w k dated D C t s here l x inc refusal i is = ack-known r o held h stored w k dated D C t s here l x inc refusal i is
+all-acks_known r o h stored w k dated D C t s here l x inc refusal i is = ack-known r o h stored w k dated D C t s here l x inc refusal i is
 
 pub all-states_known : AllStatesAreKnown
-all-states_known r o held h stored w k dated D C t s here l x inc how i is = state-known r o held h stored w k dated D C t s here l x inc how i is
+all-states_known r o h stored w k dated D C t s here l x inc how i is = state-known r o h stored w k dated D C t s here l x inc how i is

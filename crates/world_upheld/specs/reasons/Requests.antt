@@ -8,7 +8,6 @@ use Rattle.base_types.specs.declared.id.AttemptId.{AttemptId}
 use Rattle.base_types.specs.Operations.{read_path}
 use Rattle.base_types.specs.Placement.{writes_leader}
 use Rattle.base_messages.specs.declared.message.Message.TheVariants as message
-use Rattle.daos_model.specs.declared.durable.Version.{Version}
 use Rattle.daos_model.specs.Accesses.{access_paths, attempt_targets, op_path}
 use Rattle.daos_model.specs.Attempts.{snapshot_of}
 use Rattle.daos_model.specs.Blocks.{blocks}
@@ -72,7 +71,7 @@ use Rattle.world_upheld.specs.reasons.Events.{places-of_rules}
 -- command's first; its client sends it. A target of whose floor a line tells is one of the attempt's.
 abbrev pub AllFetchesAreKnown : Type 0
 AllFetchesAreKnown =
-    (r : Rules) (o : Opening) (held : ℕ → List Version) (h : History) (stored : Stored) (w : World) → AreRulesInForm r → AccountedFor r o held h stored w → (dated : Dated) → CountAsDates r w dated → Causes r o stored (record w { issued = dated })
+    (r : Rules) (o : Opening) (h : History) (stored : Stored) (w : World) → AreRulesInForm r → AccountedFor r o h stored w → (dated : Dated) → CountAsDates r w dated → Causes r o stored (record w { issued = dated })
     → (t : ℕ) (s : TargetState) → slice_get w.targets t ≡ Some s → (l : Letter) (q : FetchRequest) → Has l w.messages → l.to ≡ target t → l.message ≡ fetch_message q
     → q.snapshot ≡ false → IsFetch r o dated w.lines (target_plan r t) q × (l.from ≡ client q.attempt.client)
 
@@ -91,7 +90,7 @@ pub record IsSnapshotFetch (r : Rules) (o : Opening) (w : World) (t : ℕ) (q : 
 -- So it is of one that is in flight; it reads what its attempt accesses, and its client sends it.
 abbrev pub SnapshotFetchesAreKnown : Type 0
 SnapshotFetchesAreKnown =
-    (r : Rules) (o : Opening) (held : ℕ → List Version) (h : History) (stored : Stored) (w : World) → AreRulesInForm r → AccountedFor r o held h stored w
+    (r : Rules) (o : Opening) (h : History) (stored : Stored) (w : World) → AreRulesInForm r → AccountedFor r o h stored w
     → (t : ℕ) (s : TargetState) → slice_get w.targets t ≡ Some s → (l : Letter) (q : FetchRequest) → Has l w.messages → l.to ≡ target t → l.message ≡ fetch_message q
     → q.snapshot ≡ true → IsSnapshotFetch r o w t q × (l.from ≡ client q.attempt.client)
 
@@ -99,7 +98,7 @@ SnapshotFetchesAreKnown =
 -- no entry of the attempt; its client sends it. A target of whose floor a line tells is one of the attempt's.
 abbrev pub AllCommitsAreKnown : Type 0
 AllCommitsAreKnown =
-    (r : Rules) (o : Opening) (held : ℕ → List Version) (h : History) (stored : Stored) (w : World) → AreRulesInForm r → AccountedFor r o held h stored w → (dated : Dated) → CountAsDates r w dated → Causes r o stored (record w { issued = dated })
+    (r : Rules) (o : Opening) (h : History) (stored : Stored) (w : World) → AreRulesInForm r → AccountedFor r o h stored w → (dated : Dated) → CountAsDates r w dated → Causes r o stored (record w { issued = dated })
     → (t : ℕ) (s : TargetState) → slice_get w.targets t ≡ Some s → (l : Letter) (q : CommitRequest) → Has l w.messages → l.to ≡ target t → l.message ≡ commit_of q
     → IsCommit r o dated w.lines t (kept s) q × (l.from ≡ client q.attempt.client)
 
@@ -107,7 +106,7 @@ AllCommitsAreKnown =
 -- to it and its command's first; the target has no entry of the attempt. A target of whose floor a line tells is one of the attempt's.
 abbrev pub AllPreparesAreKnown : Type 0
 AllPreparesAreKnown =
-    (r : Rules) (o : Opening) (held : ℕ → List Version) (h : History) (stored : Stored) (w : World) → AreRulesInForm r → AccountedFor r o held h stored w → (dated : Dated) → CountAsDates r w dated
+    (r : Rules) (o : Opening) (h : History) (stored : Stored) (w : World) → AreRulesInForm r → AccountedFor r o h stored w → (dated : Dated) → CountAsDates r w dated
     → (t : ℕ) (s : TargetState) → slice_get w.targets t ≡ Some s → (l : Letter) (q : PrepareRequest) → Has l w.messages → l.to ≡ target t
     → l.message ≡ message.Prepare q.entry q.first q.writes q.inc → IsPrepare r o dated w.lines t (kept s) q
 
@@ -126,11 +125,11 @@ own-epoch : (r : Rules) (w : World) (x : AttemptId) (e : Epoch) → is_at_snapsh
 own-epoch r w x e off (IsOwn i) = i
 own-epoch r w x e off (IsSeen named) = clash (is_at_snapshot r x) (ap is_some named.reads) off
 
-module _ (r : Rules) (o : Opening) (held : ℕ → List Version) (h : History) (stored : Stored) (w : World) (A : AreRulesInForm r) (k : AccountedFor r o held h stored w) (t : ℕ)
+module _ (r : Rules) (o : Opening) (h : History) (stored : Stored) (w : World) (A : AreRulesInForm r) (k : AccountedFor r o h stored w) (t : ℕ)
     (s : TargetState)
     (here : slice_get w.targets t ≡ Some s) (l : Letter) (i : Has l w.messages) (to : l.to ≡ target t) where
   heard : HeardUpheld r o h w
-  heard = k.upheld.heard
+  heard = k.grounds.heard
 
   epochs : Epochs r (top o) w
   epochs = heard.epochs
@@ -146,7 +145,7 @@ module _ (r : Rules) (o : Opening) (held : ℕ → List Version) (h : History) (
 
   -- the first epoch that goes with an attempt is its command's, unless it reads at a snapshot
   told : MessageTells r w.issued w.lines l.message
-  told = k.upheld.firsts.flight l among
+  told = k.grounds.firsts.flight l among
 
   dates : EpochsOfCommits w
   dates = epochs-of_commits r (top o) w heard.talk heard.requests heard.stand (snapshots-read r r.script.targets A.form) epochs
@@ -163,7 +162,7 @@ module _ (r : Rules) (o : Opening) (held : ℕ → List Version) (h : History) (
       let own : attempt_id (client_plan r z.n) z.c z.a ≡ x = cc in
       let number : z.q.to.number ≡ t = ap (λ y. y.to.number) (sym z.is) ∙ ap (λ y. y.number) to in
       subst (λ u. Contains (attempt_targets r.script x) u) number
-      (subst (λ y. Contains (attempt_targets r.script y) z.q.to.number) own (question-target r w heard.stand (places-of_rules r A) k.within z.n z.c z.here z.a z.at z.q z.question))
+      (subst (λ y. Contains (attempt_targets r.script y) z.q.to.number) own (question-target r w heard.stand (places-of_rules r A) k.grounds.heard.within z.n z.c z.here z.a z.at z.q z.question))
 
   -- what is known of a request's epochs
   request-known : (dated : Dated) → CountAsDates r w dated → Causes r o stored (record w { issued = dated }) → (x : AttemptId) (ep first : Option Epoch) (tracker : Epoch) → (ep ≡ None → AsksEpoch l.message x tracker)
@@ -284,7 +283,7 @@ module _ (r : Rules) (o : Opening) (held : ℕ → List Version) (h : History) (
           (sym (ap (λ z. z.message) handing-over.it) ∙ is)
 
       new : IsCommitNew r h w l.to q.attempt q.ep q.writes
-      new = (asked-right r h w heard.talk heard.requests heard.stand k.upheld.outcomes dates).commits l q.attempt q.ep q.first q.tracker q.writes i is
+      new = (asked-right r h w heard.talk heard.requests heard.stand k.grounds.outcomes dates).commits l q.attempt q.ep q.first q.tracker q.writes i is
 
       leads : t ≡ leader_of r q.attempt
       leads = ap (λ y. y.number) (sym to ∙ new.receiver)
@@ -326,13 +325,13 @@ module _ (r : Rules) (o : Opening) (held : ℕ → List Version) (h : History) (
 -- ---- the laws
 
 pub all-fetches_known : AllFetchesAreKnown
-all-fetches_known r o held h stored w A k dated D C t s here l q i to is plain = fetch-known r o held h stored w A k t s here l i to q is dated D C plain
+all-fetches_known r o h stored w A k dated D C t s here l q i to is plain = fetch-known r o h stored w A k t s here l i to q is dated D C plain
 
 pub snapshot-fetches_known : SnapshotFetchesAreKnown
-snapshot-fetches_known r o held h stored w A k t s here l q i to is on = snapshot-known r o held h stored w A k t s here l i to q is on
+snapshot-fetches_known r o h stored w A k t s here l q i to is on = snapshot-known r o h stored w A k t s here l i to q is on
 
 pub all-commits_known : AllCommitsAreKnown
-all-commits_known r o held h stored w A k dated D C t s here l q i to is = commit-known r o held h stored w A k t s here l i to dated D C q is
+all-commits_known r o h stored w A k dated D C t s here l q i to is = commit-known r o h stored w A k t s here l i to dated D C q is
 
 pub all-prepares_known : AllPreparesAreKnown
-all-prepares_known r o held h stored w A k dated D t s here l q i to is = prepare-known r o held h stored w A k t s here l i to dated D q is
+all-prepares_known r o h stored w A k dated D t s here l q i to is = prepare-known r o h stored w A k t s here l i to dated D q is

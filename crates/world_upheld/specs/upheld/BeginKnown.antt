@@ -18,7 +18,7 @@ use Rattle.world_base.specs.Events.{Rules}
 use Rattle.world_making.specs.freezings.Freezings.{IsFromBefore, IsKnownSo}
 use Rattle.world_making.specs.freezings.Snapping.{created-frozen}
 use Rattle.world_making.specs.making.Snapshots.{holds_created}
-use Rattle.world_upheld.specs.upheld.Begins.{AreRulesInForm, RunBeginsWith, snaps_held}
+use Rattle.world_upheld.specs.upheld.Begins.{AreRulesInForm, RunBeginsWell, snaps_held}
 use Rattle.world_upheld.specs.upheld.BeginVersions.{frozen-before}
 use Rattle.world_upheld.specs.upheld.Named.{first-alone, name_of_snap}
 
@@ -37,7 +37,7 @@ find-own (x ∷ xs) more d apart (inr i) = by (same_key d.name x.name) refl ∙ 
         (sym ((same_key-Decides d.name x.name).0 is)))
     by false off = ap (λ b. if b then Some x else find (is_named d.name) xs) off
 
-module _ (r : Rules) (o : Opening) (w : World) (A : AreRulesInForm r) (B : RunBeginsWith r o w) where
+module _ (r : Rules) (o : Opening) (w : World) (A : AreRulesInForm r) (B : RunBeginsWell r o w) where
   -- of target 0's snapshots
   pub known-first : (n : ℕ) (snaps : Option TargetState) → slice_get w.targets 0 ≡ snaps → (k : KnownSnap)
       → Has k (map known_of (filter (is_created_old (snaps_held snaps)) r.script.olds)) → IsKnownSo r o w n k
@@ -54,5 +54,5 @@ module _ (r : Rules) (o : Opening) (w : World) (A : AreRulesInForm r) (B : RunBe
       let m = B.kept s d.cont d.epoch here made in
       let named : d.name ≡ k.name = ap (λ y. y.name) z.2 in
       IsFromBefore d m.0 (ap (λ y. find (is_named y) r.script.olds) (sym named) ∙ find-own r.script.olds (all_snaps r.script.clients) d A.form.snap_names f.0) (ap (λ y. y.epoch) z.2)
-      (frozen-before r o 0 s.durable (B.starts 0 s here).opens (B.snapshots 0 s here) d.cont d.epoch (created-frozen s.durable d.cont d.epoch made)) m.1
+      (frozen-before o s.durable (B.starts 0 s here).keeps d.cont d.epoch (created-frozen s.durable d.cont d.epoch made)) m.1
       (λ y at. let e : Some s ≡ Some y = sym here ∙ at in let one : s ≡ y = cc (e) in subst (λ x. holds_created x.durable d.cont d.epoch ≡ true) one made)

@@ -19,13 +19,14 @@ use Rattle.model_laws.specs.Lists.{none-in}
 use Rattle.model_laws.specs.MatchLaws.{filter_on}
 use Rattle.model_laws.specs.Matches.{Matches, counts_under}
 use Rattle.model_laws.specs.Members.{contains-from_has, has-any}
+use Rattle.world_base.specs.declared.world.World.{World}
 use Rattle.world_base.specs.Events.{Rules}
 use Rattle.world_commit.specs.attempts.History.{is_decided}
 use Rattle.world_contents.specs.reads.Transactions.{counts_by, transactions}
 use Rattle.world_contents.specs.reads.Versions.{VersionsStand, is_own_in}
 use Rattle.world_plain.specs.whole.BeginLaws.{stand-begins}
 use Rattle.world_plain.specs.whole.Begins.{OpensWith, no_history}
-use Rattle.world_upheld.specs.upheld.Begins.{KeepsSnapshots, is_settled_version}
+use Rattle.world_upheld.specs.upheld.Begins.{KeepsSnapshots, KeepsWell, RunBeginsWell, RunBeginsWith, is_settled_version}
 
 -- without its snapshots it keeps the same rows
 pub same-row : (d : Durable) (c : ContId) → row_of (record d { snaps = [] }) c ≡ row_of d c
@@ -35,6 +36,13 @@ same-row d c = refl
 above-is : (a b : ℕ) → (a == b) ≡ true → a ≡ b
 above-is a b h = grind (arith, nat_tests)
 
+-- what is frozen is of before the run
+pub frozen-before : (o : Opening) (d : Durable) → KeepsWell o d → (c : ContId) (s : Epoch) → is_frozen d c s ≡ true → s.0 ≤ top o
+unfolding is_frozen
+frozen-before o d k c s is =
+    let z = has-any (is_snap_at c s) d.snaps is in
+    subst (λ n. n ≤ top o) (above-is z.0.epoch.0 s.0 (and_right (z.0.cont.0 == c.0) (z.0.epoch.0 == s.0) z.2)) (k.early z.0 (contains-from_has d.snaps z.0 z.1))
+
 module _ (r : Rules) (o : Opening) (t : ℕ) (d : Durable) (k : OpensWith r.script.targets t o (record d { snaps = [] })) (S : KeepsSnapshots r.script.targets t o d) where
   -- each snapshot is of before the run
   pub snap-before : (s : Snap) → Contains d.snaps s → s.epoch.0 ≤ top o
@@ -43,11 +51,18 @@ module _ (r : Rules) (o : Opening) (t : ℕ) (d : Durable) (k : OpensWith r.scri
       let low : (row_of d s.cont).floor.0 ≤ top o = subst (λ x. x.floor.0 ≤ top o) (same-row d s.cont) (k.floors s.cont).0 in
       omega (arith, under, low)
 
-  pub frozen-before : (c : ContId) (s : Epoch) → is_frozen d c s ≡ true → s.0 ≤ top o
-  unfolding is_frozen
-  frozen-before c s is =
-      let z = has-any (is_snap_at c s) d.snaps is in
-      subst (λ n. n ≤ top o) (above-is z.0.epoch.0 s.0 (and_right (z.0.cont.0 == c.0) (z.0.epoch.0 == s.0) z.2)) (snap-before z.0 (contains-from_has d.snaps z.0 z.1))
+  -- so it keeps its own well
+  pub keeps-well : KeepsWell o d
+  keeps-well = record {
+    form = S.form;
+    done = k.done;
+    entries = k.entries;
+    lease = k.lease;
+    covered = k.covered;
+    floors = λ c. (subst (λ x. x.floor.0 ≤ top o) (same-row d c) (k.floors c).0, subst (λ x. x.aggregated.0 ≤ top o) (same-row d c) (k.floors c).1);
+    early = snap-before;
+    leased = S.leased;
+  }
 
   -- all versions count
   counts-same : (e : ℕ) → filter (counts_under (counts_by no_history) e) d.versions ≡ filter (counts_under is_settled_version e) d.versions
@@ -88,3 +103,19 @@ module _ (r : Rules) (o : Opening) (t : ℕ) (d : Durable) (k : OpensWith r.scri
     where
       bare : VersionsStand r o d.versions no_history t (record d { snaps = [] })
       bare = stand-begins r o t (record d { snaps = [] }) k
+
+-- A run that begins with what the opening stands for begins well.
+pub begins-well : (r : Rules) (o : Opening) (w : World) → RunBeginsWith r o w → RunBeginsWell r o w
+begins-well r o w B = record {
+  targets = B.targets;
+  starts = λ t s here. (let b = B.starts t s here in
+      record { keeps = keeps-well r o t s.durable b.opens (B.snapshots t s here); free = b.free; floor = b.floor; runs = b.runs; ticks = b.ticks; stamps = b.stamps; leader = b.leader; member = b.member; collecting = b.collecting });
+  frozen = B.frozen;
+  kept = B.kept;
+  enlisted = B.enlisted;
+  clients = B.clients;
+  messages = B.messages;
+  asked = B.asked;
+  issued = B.issued;
+  lines = B.lines;
+}

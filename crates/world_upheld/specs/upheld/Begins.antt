@@ -9,8 +9,9 @@ use Rattle.daos_model.specs.declared.cell.CellValue.{CellValue}
 use Rattle.daos_model.specs.declared.durable.Durable.{Durable}
 use Rattle.daos_model.specs.declared.durable.Version.{Version}
 use Rattle.daos_model.specs.Durables.{IsInForm, row_of}
-use Rattle.daos_model.specs.Opening.{Opening, kept_map}
+use Rattle.daos_model.specs.Opening.{Opening, kept_map, top}
 use Rattle.world_base.specs.declared.client.ClientState.{ClientState}
+use Rattle.world_base.specs.declared.target.Life.TheVariants.{Running}
 use Rattle.world_base.specs.declared.target.TargetState.{TargetState}
 use Rattle.world_base.specs.declared.world.World.{World}
 use Rattle.world_base.specs.ClientTurns.{at_first}
@@ -18,7 +19,7 @@ use Rattle.world_base.specs.Events.{Rules}
 use Rattle.world_making.specs.freezings.Freezings.{KeepsFrozen}
 use Rattle.world_making.specs.making.Snapshots.{holds_created}
 use Rattle.world_contents.specs.reads.Versions.{HoldsMap, is_own_in}
-use Rattle.world_plain.specs.whole.Begins.{AreEnlisted, StartsWith, first_tracker}
+use Rattle.world_plain.specs.whole.Begins.{AreEnlisted, StartsWith, first_tracker, no_joining, no_leading}
 
 -- ---- the rules
 
@@ -47,6 +48,32 @@ pub record KeepsSnapshots (targets t : ℕ) (o : Opening) (d : Durable) : Type 0
 abbrev pub without_snaps : TargetState → TargetState
 without_snaps s = record s { durable = record s.durable { snaps = [] } }
 
+-- ---- whatever it stands for
+
+-- What a target keeps when a run begins, whatever its versions stand for: it is in form, nothing is left to settle, and no epoch is above the
+-- opening's top, or beyond what its lease covers.
+pub record KeepsWell (o : Opening) (d : Durable) : Type 0 where
+  pub form : IsInForm d
+  pub done : (v : Version) → Contains d.versions v → v.done ≡ true
+  pub entries : d.entries ≡ []
+  pub lease : d.lease ≤ o.lease
+  pub covered : (v : Version) → Contains d.versions v → (v.epoch.0 ≤ top o) × (v.epoch.0 / 256 ≤ d.lease)
+  pub floors : (cont : ContId) → ((row_of d cont).floor.0 ≤ top o) × ((row_of d cont).aggregated.0 ≤ top o)
+  pub early : (s : Snap) → Contains d.snaps s → s.epoch.0 ≤ top o
+  pub leased : (s : Snap) → Contains d.snaps s → s.epoch.0 / 256 ≤ d.lease
+
+-- a target that runs, and has heard nothing yet
+pub record StartsWell (t : ℕ) (o : Opening) (s : TargetState) : Type 0 where
+  pub keeps : KeepsWell o s.durable
+  pub free : o.free t ≤ s.free
+  pub floor : s.opening.0.0 ≤ top o
+  pub runs : s.life ≡ Running
+  pub ticks : s.memory.ticks ≤ o.lease
+  pub stamps : s.memory.stamps ≡ []
+  pub leader : s.memory.leader ≡ no_leading
+  pub member : s.memory.member ≡ no_joining
+  pub collecting : s.memory.collecting ≡ []
+
 -- ---- the world
 
 -- the snapshots that a target holds
@@ -65,6 +92,21 @@ pub record RunBeginsWith (r : Rules) (o : Opening) (w : World) : Type 0 where
   pub targets : length w.targets ≡ r.script.targets
   pub starts : (t : ℕ) (s : TargetState) → slice_get w.targets t ≡ Some s → StartsWith r.script.targets t o (without_snaps s)
   pub snapshots : (t : ℕ) (s : TargetState) → slice_get w.targets t ≡ Some s → KeepsSnapshots r.script.targets t o s.durable
+  pub frozen : (z : TargetState) (c : ContId) (s : Epoch) → slice_get w.targets 0 ≡ Some z → holds_created z.durable c s ≡ true → (t : ℕ) → KeepsFrozen w t c s
+  pub kept : (z : TargetState) (c : ContId) (s : Epoch) → slice_get w.targets 0 ≡ Some z → holds_created z.durable c s ≡ true
+      → (m : List CellValue) × (kept_map c s.0 o.stand.snaps ≡ Some m)
+  pub enlisted : (t : ℕ) (s : TargetState) → slice_get w.targets t ≡ Some s → AreEnlisted r.script s.durable
+  pub clients : w.clients ≡ map (client_begins r o w) r.script.clients
+  pub messages : w.messages ≡ []
+  pub asked : w.asked ≡ []
+  pub issued : w.issued ≡ []
+  pub lines : w.lines ≡ []
+
+-- A world before its first event, whatever its targets' versions stand for: replicas may differ, and versions lie anywhere. What target 0 holds
+-- as created each target holds frozen, and the opening keeps a map for it.
+pub record RunBeginsWell (r : Rules) (o : Opening) (w : World) : Type 0 where
+  pub targets : length w.targets ≡ r.script.targets
+  pub starts : (t : ℕ) (s : TargetState) → slice_get w.targets t ≡ Some s → StartsWell t o s
   pub frozen : (z : TargetState) (c : ContId) (s : Epoch) → slice_get w.targets 0 ≡ Some z → holds_created z.durable c s ≡ true → (t : ℕ) → KeepsFrozen w t c s
   pub kept : (z : TargetState) (c : ContId) (s : Epoch) → slice_get w.targets 0 ≡ Some z → holds_created z.durable c s ≡ true
       → (m : List CellValue) × (kept_map c s.0 o.stand.snaps ≡ Some m)

@@ -23,7 +23,7 @@ use Rattle.world_contents.specs.frozen.Rows.{of-marked_at, of-raised_at}
 use Rattle.world_making.specs.making.Leaving.{IsThereStill, event-left}
 use Rattle.world_plain.specs.whole.Begins.{AreEnlisted}
 use Rattle.world_plain.specs.whole.Whole.{enlisted-same}
-use Rattle.world_upheld.specs.upheld.Begins.{RunBeginsWith}
+use Rattle.world_upheld.specs.upheld.Begins.{RunBeginsWell}
 use Rattle.world_upheld.specs.upheld.Events.{event-many}
 
 -- ---- the statements
@@ -41,7 +41,7 @@ AllEventsKeepContainers = (r : Rules) (w v : World) → WorldEvent r w v → Goe
 -- so at each moment of a run each target knows the containers that the script declares
 abbrev pub RunsKnowDeclared : Type 0
 RunsKnowDeclared =
-    (r : Rules) (o : Opening) (w v : World) → RunBeginsWith r o w → WorldRun r w v → (t : ℕ) (s : TargetState) → slice_get v.targets t ≡ Some s → AreEnlisted r.script s.durable
+    (r : Rules) (o : Opening) (w v : World) → RunBeginsWell r o w → WorldRun r w v → (t : ℕ) (s : TargetState) → slice_get v.targets t ≡ Some s → AreEnlisted r.script s.durable
 
 -- ---- one change
 

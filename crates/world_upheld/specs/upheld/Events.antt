@@ -1,9 +1,10 @@
 -- Each event of any run keeps all that holds between events.
-use Rattle.std.specs.Prelude.{ℕ, ◌≡◌, ◌<◌, List, [], length, Contains, slice_get}
+use Rattle.std.specs.Prelude.{ℕ, ◌≡◌, ◌<◌, List, [], length, Contains, slice_get, refl}
+use Rattle.base_messages.specs.declared.message.Post.{Post}
 use Rattle.std.proofs.Common.{inl, inr, sym, ◌∙◌, ap, subst}
 use Rattle.daos_model.specs.declared.durable.Version.{Version}
 use Rattle.daos_model.specs.Opening.{Opening, top}
-use Rattle.model_laws.specs.Members.{contains-from_has}
+use Rattle.model_laws.specs.Members.{contains-from_has, has-from_contains}
 use Rattle.world_commit.specs.attempts.History.{Grew, GrowsBy, History}
 use Rattle.world_base.specs.declared.world.World.{World}
 use Rattle.world_base.specs.Events.{ByClient, ByTarget, Rules, ToClient, ToTarget}
@@ -22,7 +23,9 @@ use Rattle.world_causes.specs.handing.Dates.{SnapshotsAreRead, epochs-of_commits
 use Rattle.world_causes.specs.handing.Handing.{asked-right, asks-right, commits-of_clients, hands-over}
 use Rattle.world_causes.specs.handing.Places.{snapshots-read}
 use Rattle.world_causes.specs.hearing.Going.{AnswersAreServed, Before, GoesOn}
+use Rattle.world_causes.specs.handing.Groups.{groups-stay}
 use Rattle.world_causes.specs.hearing.HappeningEpochs.{events-keep-clients}
+use Rattle.world_causes.specs.hearing.Writing.{EntriesKnown}
 use Rattle.world_letters.specs.lines.Lines.{Lines}
 use Rattle.world_letters.specs.lives.Events as life
 use Rattle.world_making.specs.makers.Events as maker
@@ -51,7 +54,10 @@ use Rattle.world_plain.specs.whole.Everything.{AreBefore}
 use Rattle.world_upheld.specs.upheld.Clients.{client-goes, client-hears}
 use Rattle.world_upheld.specs.upheld.Heard.{HeardUpheld, all-heard_right}
 use Rattle.world_upheld.specs.upheld.Telling.{all-targets_tell}
-use Rattle.world_upheld.specs.upheld.Upheld.{AllEventsUphold, IsUpheldStill, Upheld}
+use Rattle.world_contents.specs.reads.Given.{Given}
+use Rattle.world_contents.specs.reads.Growing.{committed_in, grown}
+use Rattle.world_contents.specs.reads.GrowLaws.{grown-grows}
+use Rattle.world_upheld.specs.upheld.Upheld.{AllEventsKeepGrounds, AllEventsUphold, Contents, Grounds, GroundsGoOn, IsUpheldStill}
 
 -- ---- lines, and what is told of ends
 
@@ -85,7 +91,23 @@ event-many r w v e = ap (λ x. length x.targets) e.after ∙ happening-many r w 
 
 -- ---- one event
 
-module _ (r : Rules) (o : Opening) (held : ℕ → List Version) (h : History) (w v : World) (some : 0 < r.attempts) (before : AreBefore o held) (k : Upheld r o held h w) (e : WorldEvent r w v) where
+-- that what is heard is right rests on nothing that was held before the run
+pub nothing_held : ℕ → List Version
+nothing_held t = []
+
+none-before : (o : Opening) → AreBefore o nothing_held
+unfolding nothing_held
+none-before o t z i = absurd (has-from_contains [] z i)
+
+pub given-before : (r : Rules) (o : Opening) (h : History) (w : World) → HeardUpheld r o h w → Given r o nothing_held w
+given-before r o h w k = all-heard_right r o nothing_held h w (none-before o) k
+
+-- what is asked of targets is right, and no attempt has two epochs
+pub asked-so : (r : Rules) (o : Opening) (h : History) (w : World) → Grounds r o h w → AskedRight r h w
+asked-so r o h w k =
+    asked-right r h w k.heard.talk k.heard.requests k.heard.stand k.outcomes (epochs-of_commits r (top o) w k.heard.talk k.heard.requests k.heard.stand (snapshots-read r r.script.targets k.heard.form) k.heard.epochs)
+
+module _ (r : Rules) (o : Opening) (h later : History) (w v : World) (some : 0 < r.attempts) (k : Grounds r o h w) (e : WorldEvent r w v) (grows : GrowsBy h (told_by e.happens) later) where
   abbrev pub u : World
   u = e.u
 
@@ -93,17 +115,7 @@ module _ (r : Rules) (o : Opening) (held : ℕ → List Version) (h : History) (
   alone = snapshots-read r r.script.targets k.heard.form
 
   pub right : AskedRight r h w
-  right = asked-right r h w k.heard.talk k.heard.requests k.heard.stand k.outcomes (epochs-of_commits r (top o) w k.heard.talk k.heard.requests k.heard.stand alone k.heard.epochs)
-
-  at-event : Before r o held h w
-  at-event =
-      record { given = all-heard_right r o held h w before k.heard; right = right; senders = k.senders; attempts = k.heard.attempts; writes = k.writes; versions = k.versions; reads = k.reads }
-
-  pub go : GoesOn r o held h v (told_by e.happens) (AnswersAreServed e.happens)
-  go = all-events-keep_reads r o held h w v at-event (record { epochs = k.heard.epochs; makings = k.heard.makings; known = k.known }) e
-
-  abbrev pub later : History
-  later = go.later
+  right = asked-so r o h w k
 
   -- ---- once it happened
 
@@ -111,7 +123,7 @@ module _ (r : Rules) (o : Opening) (held : ℕ → List Version) (h : History) (
   makings-right = record { makings = k.heard.makings; makers = k.makers; requests = k.heard.requests }
 
   pub attempts-happened : Attempts r later u
-  attempts-happened = fate.happening-keeps r h later w e.u right k.senders makings-right k.heard.attempts e.happens go.grows
+  attempts-happened = fate.happening-keeps r h later w e.u right k.senders makings-right k.heard.attempts e.happens grows
 
   pub requests-happened : RequestsAreOfClients u
   requests-happened = requests-happen r w e.u k.heard.requests e.happens
@@ -149,10 +161,18 @@ module _ (r : Rules) (o : Opening) (held : ℕ → List Version) (h : History) (
   }
 
   pub told : TellsOn r later u
-  told = tells-on r (top o) h later w e.u some speak k.heard.attempts usual e.happens go.grows
+  told = tells-on r (top o) h later w e.u some speak k.heard.attempts usual e.happens grows
 
   one-epoch : HaveOneEpoch w
   one-epoch x a b i j = k.heard.epochs.one x a b (contains-from_has w.issued (x, a) i) (contains-from_has w.issued (x, b) j)
+
+  -- what is heard is right
+  pub given : Given r o nothing_held w
+  given = given-before r o h w k.heard
+
+  -- which attempts have entries
+  entries-known : EntriesKnown r o nothing_held h w
+  entries-known = record { given = given; attempts = k.heard.attempts; writes = k.writes }
 
   -- ---- once what goes to targets that are given up is lost
 
@@ -164,17 +184,17 @@ module _ (r : Rules) (o : Opening) (held : ℕ → List Version) (h : History) (
     talk = wait.events-keep r w v k.heard.requests leaders e k.heard.talk;
     requests = requests-stay r w v e k.heard.requests;
     stand = events-keep-clients r h w v some k.heard.attempts k.heard.stand e;
+    within = groups-stay r w v e k.heard.within;
     epochs = epochs-then;
-    gots = all-events-keep_gots r h later w v some go.served k.heard.talk k.senders k.heard.attempts k.heard.stand k.heard.gots e talk-happened go.also;
-    attempts = fate.all-events_keep r h later w v right k.senders makings-right k.heard.attempts e go.grows;
-    questions = question.all-events-keep-questions r h later w v right k.heard.attempts e (aborts-grow r h later w e.u e.happens go.grows) attempts-happened k.heard.questions;
+    attempts = fate.all-events_keep r h later w v right k.senders makings-right k.heard.attempts e grows;
+    questions = question.all-events-keep-questions r h later w v right k.heard.attempts e (aborts-grow r h later w e.u e.happens grows) attempts-happened k.heard.questions;
     makings = (making.event-keeps r some w v e k.endings k.heard.stand k.heard.makings).1;
     freezings =
         freezing.events-keep r o some k.heard.few w v k.heard.many one-epoch k.heard.makings k.endings k.heard.stand k.heard.requests leaders k.heard.talk e k.heard.freezings;
   }
 
-  pub upheld-then : Upheld r o held later v
-  upheld-then = record {
+  pub grounds-then : Grounds r o later v
+  grounds-then = record {
     heard = heard-then;
     makers = maker.event-keeps r w v e k.endings k.heard.makings k.makers;
     known = all-events-keep_makers r w v e k.known;
@@ -183,19 +203,62 @@ module _ (r : Rules) (o : Opening) (held : ℕ → List Version) (h : History) (
     endings = ending.event-keeps r w v e k.endings;
     lines = subst (Lines r) (sym e.after) (lines-on r e.u (swept e.u) (sweeping-tells e.u) told.lines);
     outcomes = subst (Outcomes r later) (sym e.after) (outcome.sweeping-keeps r later e.u (hands-over r e.u talk-happened requests-happened) past-happened told.outcomes);
-    writes = all-events-keep_entries r o held h w v at-event e;
-    versions = go.versions;
-    reads = go.reads;
+    writes = all-events-keep_entries r o nothing_held h w v entries-known e;
     floors = all-events-keep_floors r w v e o k.floors;
     firsts = first.event-keeps r (top o) some w v e k.heard.stand k.heard.epochs k.firsts;
     lives = life.event-keeps r w v e k.lives;
   }
 
-  pub grew : Grew h later
+pub all-events-keep_grounds : AllEventsKeepGrounds
+all-events-keep_grounds r o h later w v some k e grows = grounds-then r o h later w v some k e grows
+
+-- the history of what is told, besides what was
+pub later-with : History → List Post → History
+later-with h posts = grown h (committed_in posts) posts []
+
+pub grows-with : (h : History) (posts : List Post) → GrowsBy h posts (later-with h posts)
+unfolding later-with
+grows-with h posts = grown-grows h (committed_in posts) posts [] refl
+
+pub grounds-go_on : GroundsGoOn
+grounds-go_on r o h w v some k e =
+    let grows = grows-with h (told_by e.happens) in
+    record { later = later-with h (told_by e.happens); grows = grows; grounds = grounds-then r o h (later-with h (told_by e.happens)) w v some k e grows }
+
+-- ---- what targets keep and answer
+
+module _ (r : Rules) (o : Opening) (held : ℕ → List Version) (h : History) (w v : World) (some : 0 < r.attempts) (before : AreBefore o held) (k : Grounds r o h w) (c : Contents r o held h w) (e : WorldEvent r w v) where
+  at-event : Before r o held h w
+  at-event = record {
+    given = all-heard_right r o held h w before k.heard;
+    right = asked-so r o h w k;
+    senders = k.senders;
+    attempts = k.heard.attempts;
+    writes = k.writes;
+    versions = c.versions;
+    reads = c.reads;
+  }
+
+  pub go : GoesOn r o held h v (told_by e.happens) (AnswersAreServed e.happens)
+  go = all-events-keep_reads r o held h w v at-event (record { epochs = k.heard.epochs; makings = k.heard.makings; known = k.known }) e
+
+  abbrev pub later-so : History
+  later-so = go.later
+
+  pub contents-then : Contents r o held go.later v
+  contents-then = record {
+    gots =
+        all-events-keep_gots r h go.later w v some go.served k.heard.talk k.senders k.heard.attempts k.heard.stand c.gots e
+        (talk-happened r o h go.later w v some k e go.grows) go.also;
+    versions = go.versions;
+    reads = go.reads;
+  }
+
+  pub grew : Grew h go.later
   grew = record { decided = λ i j. go.grows.decided i.0 i.1 j; aborted = λ x j. go.grows.aborted x j; served = go.served }
 
   pub upholds : IsUpheldStill r o held h v
-  upholds = record { later = go.later; grew = grew; upheld = upheld-then }
+  upholds = record { later = go.later; grew = grew; upheld = record { grounds = grounds-then r o h go.later w v some k e go.grows; contents = contents-then } }
 
 pub all-events-uphold : AllEventsUphold
-all-events-uphold r o held h w v some before k e = upholds r o held h w v some before k e
+all-events-uphold r o held h w v some before k e = upholds r o held h w v some before k.grounds k.contents e

@@ -41,7 +41,7 @@ use Rattle.world_letters.specs.epochs.Epochs.{AsksEpoch, ClientsStand, Epochs, G
 use Rattle.world_commit.specs.fates.Facts.{Attempts, IsAckRight, IsSaidSo}
 use Rattle.world_making.specs.freezings.Freezings.{Freezings}
 use Rattle.world_making.specs.freezings.Seeing.{ANew, AnOld, NamesSnapshot, SeesFrozen, fetches-ask, waiting-see}
-use Rattle.world_contents.specs.gots.Gots.{Gots}
+use Rattle.world_causes.specs.handing.Groups.{ClientsAskWithin}
 use Rattle.world_contents.specs.gots.FormLaws.{ops-form}
 use Rattle.world_causes.specs.handing.Dates.{epochs-of_commits}
 use Rattle.world_causes.specs.handing.Places.{snapshots-read}
@@ -67,7 +67,7 @@ use Rattle.world_upheld.specs.upheld.Reading.{read-right}
 -- ---- what this stands on
 
 -- Of a script in form, with its targets, which are as many as a set of members holds: conversations, from whom requests come, where clients
--- stand, what they were told, epochs, what became of attempts, what targets ask one another, of what snapshots and aggregations come, and
+-- stand, that they ask within the groups of their paths, epochs, what became of attempts, what targets ask one another, of what snapshots and aggregations come, and
 -- what is frozen where.
 pub record HeardUpheld (r : Rules) (o : Opening) (h : History) (w : World) : Type 0 where
   pub form : IsInForm r.script.targets r.script
@@ -77,7 +77,7 @@ pub record HeardUpheld (r : Rules) (o : Opening) (h : History) (w : World) : Typ
   pub requests : RequestsAreOfClients w
   pub stand : ClientsStand r w
   pub epochs : Epochs r (top o) w
-  pub gots : Gots r h w
+  pub within : ClientsAskWithin r w
   pub attempts : Attempts r h w
   pub questions : Questions r h w
   pub makings : Makings r w
@@ -158,7 +158,7 @@ module _ (r : Rules) (o : Opening) (h : History) (w : World) (k : HeardUpheld r 
       fetch-right : IsFetchRight r t x op group q snapshot
       fetch-right =
           let z = read-asked (client_plan r by_client.n) by_client.c by_client.a by_client.q asks by_client.at by_client.question of_client in
-          read-right r h w t asks k.form k.stand k.gots
+          read-right r w t asks k.form k.stand k.within
           (record { n = by_client.n; c = by_client.c; a = by_client.a; here = by_client.here; present = by_client.at; k = z.0; q = by_client.q; asked = z.1; says = of_client; to = sym (ap (λ y. y.to) by_client.is) ∙ to }) at-it
 
       -- its own epoch
@@ -271,7 +271,7 @@ module _ (r : Rules) (o : Opening) (h : History) (w : World) (k : HeardUpheld r 
       right : IsFetchRight r t f.attempt f.op f.group f.read f.snapshot
       right =
           let a = read-asked (client_plan r z.n) z.c z.a z.q f z.at z.question says in
-          read-right r h w t f k.form k.stand k.gots (record { n = z.n; c = z.c; a = z.a; here = z.here; present = z.at; k = a.0; q = z.q; asked = a.1; says = says; to = to }) at-it
+          read-right r w t f k.form k.stand k.within (record { n = z.n; c = z.c; a = z.a; here = z.here; present = z.at; k = a.0; q = z.q; asked = a.1; says = says; to = to }) at-it
 
       its-own : IsEpochOf r w f.attempt e
       its-own = by f.snapshot (subst (λ m. GoesWith m both.0.x both.0.e) it both.0.bears)

@@ -1,7 +1,6 @@
 -- What a client asks to read is what its attempt has to ask of that target, and at a snapshot where it reads at one.
-use Rattle.std.specs.Prelude.{ℕ, ◌≡◌, ◌⊎◌, ◌<◌, is_some, max, List, slice_get, Option, Some, None, refl}
-use Rattle.std.proofs.Common.{inl, inr, sym, ◌∙◌, ap, subst, arith}
-use Rattle.base_types.specs.declared.id.AttemptId.{AttemptId}
+use Rattle.std.specs.Prelude.{ℕ, ◌≡◌, ◌⊎◌, ◌<◌, is_some, List, slice_get, Option, Some, None, refl}
+use Rattle.std.proofs.Common.{inl, inr, sym, ◌∙◌, ap, subst}
 use Rattle.base_types.specs.declared.id.ObjId.{ObjId}
 use Rattle.base_types.specs.declared.operation.Op.{Op}
 use Rattle.base_types.specs.declared.operation.Read.{Read}
@@ -15,23 +14,22 @@ use Rattle.base_messages.specs.declared.message.Message.TheVariants as message
 use Rattle.base_messages.specs.declared.message.Post.{Post}
 use Rattle.base_types.specs.declared.epoch.Epoch.{Epoch}
 use Rattle.daos_model.specs.Accesses.{asked_member}
-use Rattle.daos_model.specs.Transactions.{attempt_ops, ops_or_none}
+use Rattle.daos_model.specs.Transactions.{attempt_ops}
 use Rattle.model_laws.specs.Lists.{all-at}
-use Rattle.world_commit.specs.attempts.History.{History}
 use Rattle.world_base.specs.declared.client.ClientPlan.{ClientPlan}
 use Rattle.world_base.specs.declared.client.ClientState.{ClientState}
 use Rattle.world_base.specs.declared.client.Present.{Present}
 use Rattle.world_base.specs.declared.request.FetchRequest.{FetchRequest}
 use Rattle.world_base.specs.declared.world.World.{World}
-use Rattle.world_base.specs.ClientTurns.{attempt_id, group_asked, group_count, member_asked, question}
+use Rattle.world_base.specs.ClientTurns.{attempt_id, command_at, group_asked, group_count, member_asked, op_of, question}
 use Rattle.world_base.specs.Events.{Rules, client_plan}
 use Rattle.world_base.specs.Letters.{target}
 use Rattle.world_base.specs.Requests.{fetch_message}
-use Rattle.world_letters.specs.clients.Answered.{ops_here}
 use Rattle.world_letters.specs.clients.Snapshots.{is_at_snapshot}
 use Rattle.world_letters.specs.epochs.Epochs.{ClientsStand}
 use Rattle.world_contents.specs.gots.FormLaws.{fit-object, ops-form, read-declared}
-use Rattle.world_contents.specs.gots.Gots.{Found, Gots, IsFound, Nothing, groups_asked}
+use Rattle.world_contents.specs.gots.HearGots.{question-path}
+use Rattle.world_causes.specs.handing.Groups.{ClientsAskWithin, IsWithin}
 use Rattle.world_contents.specs.reads.Given.{IsFetchRight}
 use Rattle.world_letters.specs.talks.AskLaws.{asked-read}
 use Rattle.world_letters.specs.talks.Asked.{ARead, ASnapshot, AnAggregation, Asked, AsksRead, ItsWrites, group_of_read}
@@ -40,7 +38,7 @@ use Rattle.world_plain.specs.whole.Asking.{ReadIsAsked, question-form}
 use Rattle.world_plain.specs.whole.ScriptForm.{read-in-form}
 
 -- the group of a read is one of its object
-group-within : (obj : ObjId) (path : Path) (targets n : ℕ) → path.obj ≡ Some obj → ClassFits obj.class targets → (n ≡ 0) ⊎ (n < groups_asked path targets)
+group-within : (obj : ObjId) (path : Path) (targets n : ℕ) → path.obj ≡ Some obj → ClassFits obj.class targets → (n ≡ 0) ⊎ (n < group_count path.obj path.dkey targets)
     → group_asked path.obj path.dkey targets n < groups obj.class targets
 group-within obj path targets n is fits k = by path.dkey refl
   where
@@ -50,20 +48,18 @@ group-within obj path targets n is fits k = by path.dkey refl
     by : (d : Option (List ℕ)) → path.dkey ≡ d → group_asked path.obj path.dkey targets n < groups obj.class targets
     by None none = rw (is, none) (elim k [
       | inl first ↦ subst (λ m. m < groups obj.class targets) (sym first) some
-      | inr less ↦ let few : n < max 1 (groups obj.class targets) =
-          subst (λ m. n < m) (ap (λ o. max 1 (group_count o path.dkey targets)) is ∙ ap (λ d. max 1 (group_count (Some obj) d targets)) none) less in omega (arith, some, few)
+      | inr less ↦ subst (λ m. n < m) (ap (λ o. group_count o path.dkey targets) is ∙ ap (λ d. group_count (Some obj) d targets) none) less
     ])
     by (Some key) some' = rw (is, some') (group_of-within obj.class key targets fits)
 
--- the group that is asked is the first, or one of those of the read
-group-found : (h : History) (x : AttemptId) (targets : ℕ) (ops : List Op) (a : Present) (op : Op) (q : Read) → IsFound h x targets ops a → slice_get ops a.op ≡ Some op
+-- the group that a client asks about is the first, or one of those of the read's path
+group-found : (p : ClientPlan) (c : ClientState) (a : Present) (op : Op) (q : Read) → c.present ≡ Some a → IsWithin p c c.present → op_of (command_at p c) a.op ≡ Some op
     → question a.stage op ≡ Some q
-    → (a.group ≡ 0) ⊎ (a.group < groups_asked (read_path q) targets)
-group-found h x targets ops a op q (Nothing g f) at asks = inl g
-group-found h x targets ops a op q (Found op' q' at' asks' more joined) at asks =
-    let one : op' ≡ op = let e : Some op' ≡ Some op = sym at' ∙ at in cc in
-    let same : q' ≡ q = let e : Some q' ≡ Some q = sym asks' ∙ ap (question a.stage) one ∙ asks in cc in
-    inr (subst (λ z. a.group < groups_asked (read_path z) targets) same more)
+    → (a.group ≡ 0) ⊎ (a.group < group_count (read_path q).obj (read_path q).dkey p.targets)
+group-found p c a op q present within at asks = elim (subst (IsWithin p c) present within) [
+  | inl first ↦ inl first
+  | inr less ↦ inr (subst (λ z. a.group < group_count z.obj z.dkey p.targets) (sym (question-path a.stage op q asks)) (less op at))
+]
 
 -- the target that is asked
 read-target : (p : ClientPlan) (k : Epoch) (c : ClientState) (a : Present) (q : Post) (f : FetchRequest) → Asked p k c a q → q.message ≡ fetch_message f
@@ -78,17 +74,17 @@ read-target p k c a q f (ItsWrites ops turns snapshot w ws at last all says) it 
 read-target p k c a q f (ASnapshot name cont at says) it = let no : ⊥ = cc (ap (λ x. x.message) says, it) in absurd no
 read-target p k c a q f (AnAggregation cont at says) it = let no : ⊥ = cc (ap (λ x. x.message) says, it) in absurd no
 
-pub read-right : (r : Rules) (h : History) (w : World) (t : ℕ) (f : FetchRequest) → IsInForm r.script.targets r.script → ClientsStand r w → Gots r h w → ReadIsAsked r w t f
+pub read-right : (r : Rules) (w : World) (t : ℕ) (f : FetchRequest) → IsInForm r.script.targets r.script → ClientsStand r w → ClientsAskWithin r w → ReadIsAsked r w t f
     → f.snapshot ≡ is_at_snapshot r f.attempt
     → IsFetchRight r t f.attempt f.op f.group f.read f.snapshot
-read-right r h w t f form stand gots i at = record {
+read-right r w t f form stand within i at = record {
   at = at;
   form = read-in-form r.script.objs f.read form.declared.obj_units in_form;
   asked = λ e b. record { op = asks.o; at = (f.op, refl, ops-at); stage = i.a.stage; asks = asks.asked; obj = obj.0; of_object = obj.1; member = member };
   obj = obj.0;
   of_object = obj.1;
   fits = obj.2;
-  within = within;
+  within = group-in;
 }
   where
     asks : AsksRead (client_plan r i.n) i.k i.c i.a f
@@ -117,10 +113,8 @@ read-right r h w t f form stand gots i at = record {
         ap (λ z. z.number) (sym i.to ∙ read-target (client_plan r i.n) i.k i.c i.a i.q f i.asked i.says)
         ∙ ap (λ z. member_asked z i.c.command r.script.targets f.group) obj.1 ∙ ap (λ z. asked_member obj.0 z r.script.targets f.group) (sym (ap (λ x. x.command) asks.attempt))
 
-    found : (i.a.group ≡ 0) ⊎ (i.a.group < groups_asked (read_path f.read) r.script.targets)
-    found =
-        group-found h (attempt_id (client_plan r i.n) i.c i.a) r.script.targets (ops_here (client_plan r i.n) i.c) i.a asks.o f.read (gots.present i.n i.c i.a i.here i.present).found
-        (ap (λ z. slice_get (ops_or_none z) i.a.op) asks.at ∙ asks.here) asks.asked
+    found : (i.a.group ≡ 0) ⊎ (i.a.group < group_count (read_path f.read).obj (read_path f.read).dkey r.script.targets)
+    found = group-found (client_plan r i.n) i.c i.a asks.o f.read i.present (within i.n i.c i.here) (ap (λ z. op_of z i.a.op) asks.at ∙ asks.here) asks.asked
 
-    within : f.group < groups obj.0.class r.script.targets
-    within = subst (λ g. g < groups obj.0.class r.script.targets) (sym asks.group) (group-within obj.0 (read_path f.read) r.script.targets i.a.group obj.1 obj.2 found)
+    group-in : f.group < groups obj.0.class r.script.targets
+    group-in = subst (λ g. g < groups obj.0.class r.script.targets) (sym asks.group) (group-within obj.0 (read_path f.read) r.script.targets i.a.group obj.1 obj.2 found)

@@ -33,6 +33,7 @@ use Rattle.world_commit.specs.fates.KeepingLaws.{attempts-begin}
 use Rattle.world_causes.specs.firsts.Events.{firsts-begin}
 use Rattle.world_making.specs.freezings.Events.{freezings-begin}
 use Rattle.world_contents.specs.gots.Gots.{Gots, IsLineServed}
+use Rattle.world_causes.specs.handing.Groups.{ClientsAskWithin, IsWithin}
 use Rattle.world_causes.specs.hearing.Writing.{entries-begin}
 use Rattle.world_letters.specs.lines.Lines.{AreTheSame, HasLines, Lines}
 use Rattle.world_letters.specs.lives.Events.{lives-begin}
@@ -49,19 +50,31 @@ use Rattle.world_letters.specs.waits.Events.{conversations-begin}
 use Rattle.world_letters.specs.waits.Premises.{WaitersAreClients}
 use Rattle.world_letters.specs.waits.Waits.{HoldsNothing}
 use Rattle.world_plain.specs.whole.BeginLaws.{get-map}
-use Rattle.world_plain.specs.whole.Begins.{StartsWith, held_at, no_history, versions_in}
+use Rattle.world_plain.specs.whole.Begins.{held_at, no_history, versions_in}
 use Rattle.world_plain.specs.whole.Everything.{AreBefore}
 use Rattle.world_plain.specs.whole.Judged.{lines-stand}
 use Rattle.world_upheld.specs.upheld.BeginKnown.{known-first}
-use Rattle.world_upheld.specs.upheld.Begins.{AreRulesInForm, RunBeginsWith, client_begins, without_snaps}
-use Rattle.world_upheld.specs.upheld.BeginVersions.{frozen-before, same-row, versions-stand_first}
-use Rattle.world_upheld.specs.upheld.Events.{all-events-uphold}
+use Rattle.world_upheld.specs.upheld.Begins.{AreRulesInForm, RunBeginsWell, RunBeginsWith, StartsWell, client_begins}
+use Rattle.world_upheld.specs.upheld.BeginVersions.{begins-well, frozen-before, versions-stand_first}
+use Rattle.world_upheld.specs.upheld.Events.{all-events-uphold, grounds-go_on}
 use Rattle.world_upheld.specs.upheld.Heard.{HeardUpheld, all-heard_right}
-use Rattle.world_upheld.specs.upheld.Upheld.{Upheld}
+use Rattle.world_upheld.specs.upheld.Upheld.{Contents, Grounds, Upheld}
 
 -- ---- the statements
 
--- a run of a script in form begins so, of nothing decided, aborted or served
+-- a run of a script in form that begins well has its grounds, of nothing decided, aborted or served
+abbrev pub RunsBeginWithGrounds : Type 0
+RunsBeginWithGrounds = (r : Rules) (o : Opening) (w : World) → AreRulesInForm r → RunBeginsWell r o w → Grounds r o no_history w
+
+-- and at each moment, of what was decided and aborted by then
+abbrev pub RunsHaveGrounds : Type 0
+RunsHaveGrounds = (r : Rules) (o : Opening) (w v : World) → AreRulesInForm r → RunBeginsWell r o w → WorldRun r w v → (h : History) × Grounds r o h v
+
+-- one that stands for the opening begins well
+abbrev pub RunsBeginWell : Type 0
+RunsBeginWell = (r : Rules) (o : Opening) (w : World) → RunBeginsWith r o w → RunBeginsWell r o w
+
+-- a run that stands for the opening begins with all, of nothing decided, aborted or served
 abbrev pub RunsBeginUpheld : Type 0
 RunsBeginUpheld = (r : Rules) (o : Opening) (w : World) → AreRulesInForm r → RunBeginsWith r o w → Upheld r o (held_at w) no_history w
 
@@ -76,13 +89,13 @@ RunsHearAllRightly = (r : Rules) (o : Opening) (w v : World) → AreRulesInForm 
 -- and each attempt that reads at a snapshot, at its epoch, reads at one that is frozen at every target
 abbrev pub RunsReadFrozen : Type 0
 RunsReadFrozen =
-    (r : Rules) (o : Opening) (w v : World) → AreRulesInForm r → RunBeginsWith r o w → WorldRun r w v → (x : AttemptId) (e : Epoch) → is_at_snapshot r x ≡ true → IsEpochOf r v x e
+    (r : Rules) (o : Opening) (w v : World) → AreRulesInForm r → RunBeginsWell r o w → WorldRun r w v → (x : AttemptId) (e : Epoch) → is_at_snapshot r x ≡ true → IsEpochOf r v x e
     → SeesFrozen r o v x e
 
 -- ---- the beginning
 
-module _ (r : Rules) (o : Opening) (w : World) (A : AreRulesInForm r) (B : RunBeginsWith r o w) where
-  starts : (t : ℕ) (s : TargetState) → slice_get w.targets t ≡ Some s → StartsWith r.script.targets t o (without_snaps s)
+module _ (r : Rules) (o : Opening) (w : World) (A : AreRulesInForm r) (B : RunBeginsWell r o w) where
+  starts : (t : ℕ) (s : TargetState) → slice_get w.targets t ≡ Some s → StartsWell t o s
   starts = B.starts
 
   leads-none : (t : ℕ) (s : TargetState) → slice_get w.targets t ≡ Some s → (s.memory.leader.undecided ≡ []) × (s.memory.leader.decided ≡ [])
@@ -97,13 +110,13 @@ module _ (r : Rules) (o : Opening) (w : World) (A : AreRulesInForm r) (B : RunBe
       let x = mapped (client_begins r o w) (slice_get r.script.clients n) c (sym (get-map (client_begins r o w) r.script.clients n) ∙ ap (λ cs. slice_get cs n) (sym B.clients) ∙ here) in
       (x.0, x.2)
 
-  idle : (n : ℕ) (c : ClientState) → slice_get w.clients n ≡ Some c → c.present ≡ None
+  pub idle : (n : ℕ) (c : ClientState) → slice_get w.clients n ≡ Some c → c.present ≡ None
   idle n c here = sym (ap (λ z. z.present) (client-is n c here).1)
 
   no-attempt : {T : Type 0} (n : ℕ) (c : ClientState) (a : Present) → slice_get w.clients n ≡ Some c → c.present ≡ Some a → T
   no-attempt n c a here at = let none : c.present ≡ None = idle n c here in let no : ⊥ = cc in absurd no
 
-  no-tries : tries w.lines ≡ []
+  pub no-tries : tries w.lines ≡ []
   unfolding tries
   no-tries = ap tries B.lines
 
@@ -129,7 +142,7 @@ module _ (r : Rules) (o : Opening) (w : World) (A : AreRulesInForm r) (B : RunBe
       decided = refl;
       aborted = refl;
       messages = B.messages;
-      targets = λ t s here. record { entries = (starts t s here).opens.entries; undecided = (leads-none t s here).0; decided = (leads-none t s here).1 };
+      targets = λ t s here. record { entries = (starts t s here).keeps.entries; undecided = (leads-none t s here).0; decided = (leads-none t s here).1 };
     };
     asked = B.asked;
     quiet = λ t s here off. absurd (off (starts t s here).runs);
@@ -147,12 +160,8 @@ module _ (r : Rules) (o : Opening) (w : World) (A : AreRulesInForm r) (B : RunBe
   same-low : (n : ℕ) → n ≤ n
   same-low n = omega arith
 
-  gots-begin : Gots r no_history w
-  gots-begin = record {
-    present = λ n c a here at. no-attempt n c a here at;
-    lines = subst (All (IsLineServed r no_history)) (sym no-tries) (All-nil (IsLineServed r no_history));
-    flying = λ n c a l x op group own b here at i. absurd (none-in w.messages l B.messages i);
-  }
+  within-begins : ClientsAskWithin r w
+  within-begins n c here = subst (IsWithin (client_plan r n) c) (sym (idle n c here)) tt
 
   heard-begins : HeardUpheld r o no_history w
   heard-begins = record {
@@ -167,11 +176,11 @@ module _ (r : Rules) (o : Opening) (w : World) (A : AreRulesInForm r) (B : RunBe
       messages = B.messages;
       issued = B.issued;
       lines = B.lines;
-      entries = λ t s here. (starts t s here).opens.entries;
+      entries = λ t s here. (starts t s here).keeps.entries;
       parked = λ t s here. parks-none t s here;
       clients = λ n c here. (idle n c here, subst (λ z. top o ≤ z.tracker.0) (client-is n c here).1 (same-low (top o)));
     });
-    gots = gots-begin;
+    within = within-begins;
     attempts = attempts-begin r no_history w none-yet;
     questions = questions-begin r no_history w (record {
       messages = B.messages;
@@ -181,15 +190,52 @@ module _ (r : Rules) (o : Opening) (w : World) (A : AreRulesInForm r) (B : RunBe
     makings = makings-begin r w B.messages B.asked B.lines (λ t s here. (starts t s here).collecting);
     freezings =
         freezings-begin r o w B.messages B.lines (λ t s here. (starts t s here).collecting) B.frozen
-        (λ t s c e here is. frozen-before r o t s.durable (starts t s here).opens (B.snapshots t s here) c e is)
+        (λ t s c e here is. frozen-before o s.durable (starts t s here).keeps c e is)
         (λ n c k here i. known-first r o w A B n (slice_get w.targets 0) refl k (subst (λ z. Has k z.known) (sym (client-is n c here).1) i)) idle;
+  }
+
+  floors-begin : FloorsShown o w
+  floors-begin = record {
+    opening = λ t s c here runs. IsOfBefore (starts t s here).floor;
+    leased = λ t s here runs. inl (starts t s here).floor;
+    stored = λ t s c here. inl (IsOfBefore ((starts t s here).keeps.floors c).0);
+    aggregated = λ t s c here. IsOfBefore ((starts t s here).keeps.floors c).1;
+  }
+
+  pub grounds-begin : Grounds r o no_history w
+  grounds-begin = record {
+    heard = heard-begins;
+    makers = makers-begin r w B.messages B.asked;
+    known = declared-known r w A.form B.enlisted;
+    senders = λ l i. absurd (subst (Has l) B.messages i);
+    rows = λ t s here. ap (is_rising (row_key undecided_attempt)) (leads-none t s here).0;
+    endings = λ l i. absurd (none-in w.messages l B.messages i);
+    lines = lines-begin;
+    outcomes = outcomes-begin r no_history w none-yet B.lines;
+    writes = entries-begin r w (λ t s here. (starts t s here).keeps.entries);
+    floors = floors-begin;
+    firsts = firsts-begin r w idle B.messages parks-none;
+    lives = lives-begin w B.lines (λ t s here. (starts t s here).runs);
+  }
+
+-- ---- what targets keep, and what they answered
+
+module _ (r : Rules) (o : Opening) (w : World) (A : AreRulesInForm r) (B : RunBeginsWith r o w) where
+  well : RunBeginsWell r o w
+  well = begins-well r o w B
+
+  gots-begin : Gots r no_history w
+  gots-begin = record {
+    present = λ n c a here at. no-attempt r o w A well n c a here at;
+    lines = subst (All (IsLineServed r no_history)) (sym (no-tries r o w A well)) (All-nil (IsLineServed r no_history));
+    flying = λ n c a l x op group own b here at i. absurd (none-in w.messages l B.messages i);
   }
 
   versions-begin : Versions r o (held_at w) no_history w
   versions-begin = record {
     stand =
         λ t s here. subst (λ vs. VersionsStand r o vs no_history t s.durable) (sym (ap versions_in here))
-        (versions-stand_first r o t s.durable (starts t s here).opens (B.snapshots t s here));
+        (versions-stand_first r o t s.durable (B.starts t s here).opens (B.snapshots t s here));
     apart = record { apart = λ i j d lt within. absurd (omega (arith, lt, within)); numbered = All-nil _ };
     issued = λ x e i. absurd i;
     written = λ x e i. absurd i;
@@ -204,34 +250,14 @@ module _ (r : Rules) (o : Opening) (w : World) (A : AreRulesInForm r) (B : RunBe
     guarded = λ q s i. absurd i;
     leased = λ q s i. absurd i;
     barred = λ q s v i. absurd i;
-    stamps = λ t s z here runs i. absurd (none-in s.memory.stamps z (starts t s here).stamps i);
+    stamps = λ t s z here runs i. absurd (none-in s.memory.stamps z (B.starts t s here).stamps i);
   }
 
-  floors-begin : FloorsShown o w
-  floors-begin = record {
-    opening = λ t s c here runs. IsOfBefore (starts t s here).floor;
-    leased = λ t s here runs. inl (starts t s here).floor;
-    stored = λ t s c here. inl (IsOfBefore (subst (λ x. x.floor.0 ≤ top o) (same-row s.durable c) ((starts t s here).opens.floors c).0));
-    aggregated = λ t s c here. IsOfBefore (subst (λ x. x.aggregated.0 ≤ top o) (same-row s.durable c) ((starts t s here).opens.floors c).1);
-  }
+  pub contents-begin : Contents r o (held_at w) no_history w
+  contents-begin = record { gots = gots-begin; versions = versions-begin; reads = reads-begin }
 
   pub upheld-begins : Upheld r o (held_at w) no_history w
-  upheld-begins = record {
-    heard = heard-begins;
-    makers = makers-begin r w B.messages B.asked;
-    known = declared-known r w A.form B.enlisted;
-    senders = λ l i. absurd (subst (Has l) B.messages i);
-    rows = λ t s here. ap (is_rising (row_key undecided_attempt)) (leads-none t s here).0;
-    endings = λ l i. absurd (none-in w.messages l B.messages i);
-    lines = lines-begin;
-    outcomes = outcomes-begin r no_history w none-yet B.lines;
-    writes = entries-begin r w (λ t s here. (starts t s here).opens.entries);
-    versions = versions-begin;
-    reads = reads-begin;
-    floors = floors-begin;
-    firsts = firsts-begin r w idle B.messages parks-none;
-    lives = lives-begin w B.lines (λ t s here. (starts t s here).runs);
-  }
+  upheld-begins = record { grounds = grounds-begin r o w A well; contents = contents-begin }
 
   -- what targets held then is of before the run
   pub held-first : AreBefore o (held_at w)
@@ -239,9 +265,13 @@ module _ (r : Rules) (o : Opening) (w : World) (A : AreRulesInForm r) (B : RunBe
     where
       by : (s : Option TargetState) → slice_get w.targets t ≡ s → Contains (versions_in s) z → z.epoch.0 ≤ top o
       by None none j = absurd (has-from_contains [] z j)
-      by (Some s) here j = ((starts t s here).opens.covered z j).0
+      by (Some s) here j = ((B.starts t s here).opens.covered z j).0
 
 -- ---- runs
+
+pub runs-have_grounds : RunsHaveGrounds
+runs-have_grounds r o w v A B Begins = (no_history, grounds-begin r o w A B)
+runs-have_grounds r o w v A B (Goes u x run e) = let k = runs-have_grounds r o w u A B run in let s = grounds-go_on r o k.0 u v A.some_attempt k.1 e in (s.later, s.grounds)
 
 pub runs-are_upheld : RunsAreUpheld
 runs-are_upheld r o w v A B Begins = (no_history, upheld-begins r o w A B)
@@ -251,7 +281,7 @@ runs-are_upheld r o w v A B (Goes u x run e) =
     (s.later, s.upheld)
 
 pub runs-hear_all_rightly : RunsHearAllRightly
-runs-hear_all_rightly r o w v A B run = let k = runs-are_upheld r o w v A B run in all-heard_right r o (held_at w) k.0 v (held-first r o w A B) k.1.heard
+runs-hear_all_rightly r o w v A B run = let k = runs-are_upheld r o w v A B run in all-heard_right r o (held_at w) k.0 v (held-first r o w A B) k.1.grounds.heard
 
 pub runs-read_frozen : RunsReadFrozen
-runs-read_frozen r o w v A B run x e at of = let k = runs-are_upheld r o w v A B run in readers-see r o v k.1.heard.freezings k.1.heard.makings k.1.heard.epochs x e at of
+runs-read_frozen r o w v A B run x e at of = let k = runs-have_grounds r o w v A B run in readers-see r o v k.1.heard.freezings k.1.heard.makings k.1.heard.epochs x e at of

@@ -1,6 +1,5 @@
 use Rattle.world_upheld.specs.order.Answers.{answers-lie-behind}
 use Rattle.world_upheld.specs.order.Clients.{clients-keep-order}
-use Rattle.world_upheld.specs.order.Events.{making-cuts-keep-order, making-keeps-order, making-tells-none}
 use Rattle.world_upheld.specs.order.Guards.{accesses-lie-behind, reads-are-above, writes-are-above}
 use Rattle.world_upheld.specs.order.Known.{lines-are-known, readers-are-borne-firsts, writers-are-borne-firsts}
 use Rattle.world_upheld.specs.order.Passing.{sweeping-keeps-order, targets-keep-order}
@@ -23,7 +22,4 @@ returns c = record {
   targets = targets-keep-order;
   clients = clients-keep-order;
   swept = sweeping-keeps-order;
-  lines = making-tells-none;
-  heard = making-keeps-order;
-  cut = making-cuts-keep-order;
 }
