@@ -1,4 +1,5 @@
 -- The world of targets that start over stores which were opened for a run of any script, and of its clients: a run begins with it.
+use Rattle.world_upheld.specs.upheld.BeginVersions.{begins-well}
 use Rattle.std.specs.Prelude.{ℕ, ◌≡◌, ◌≤◌, ◌<◌, List, [], length, map, slice_get, Some}
 use Rattle.std.proofs.Common.{sym, ◌∙◌, ap, subst, arith}
 use Rattle.base_types.specs.declared.script.Command.{Command}
@@ -104,7 +105,7 @@ module _ (r : Rules) (B : List Durable) (free : ℕ → ℕ) (held : List Snap) 
   }
 
   pub begins-over : BeginsOver r o w
-  begins-over = record { begins = begins; few = kept-no-more r o w begins kept.known; holds = kept.held }
+  begins-over = record { begins = begins; few = kept-no-more r o w (begins-well r o w begins) kept.known; holds = kept.held }
 
 pub opened-runs-begin : OpenedRunsBegin
 opened-runs-begin r B free held w some as_many k holds keep new = begins-over r B free held w some as_many k holds keep new

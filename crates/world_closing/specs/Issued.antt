@@ -23,7 +23,6 @@ use Rattle.world_base.specs.CutTurns.{CommitIsCut, Cutting, HearingIsCut, NoneIs
 use Rattle.world_base.specs.Events as events
 use Rattle.world_base.specs.Events.{ByClient, ByTarget, Rules, ToClient, ToTarget, kept, target_plan}
 use Rattle.world_base.specs.Further.{CommitDown, HearsFurther, IsSpent, IsUnknown}
-use Rattle.world_base.specs.Letters.{Takes}
 use Rattle.world_base.specs.MemoryLaws.{hears-issues-none, idles-issue-none, may_be_issued}
 use Rattle.world_base.specs.Reads as read
 use Rattle.world_base.specs.Requests.{issued_for}
@@ -43,7 +42,6 @@ use Rattle.world_commit.specs.fates.Rightly.{letters-tell}
 use Rattle.world_making.specs.making.Making.{IsOfMaking, MakingRequest, asks_making, making_issue}
 use Rattle.world_making.specs.making.Turns.{cuts-leave, hearings-leave}
 use Rattle.world_commit.specs.statuses.Heard.{is_of_attempts}
-use Rattle.world_commit.specs.stops.CutEvents.{is_without_snapshots}
 use Rattle.world_commit.specs.stops.Happenings.{rightly}
 
 -- Each event of a run keeps it.

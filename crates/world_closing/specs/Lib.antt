@@ -5,5 +5,6 @@ pub mod Causes
 pub mod Dates
 pub mod Issued
 pub mod legal
+pub mod safety
 pub mod stands
 pub mod Whole

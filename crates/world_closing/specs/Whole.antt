@@ -20,7 +20,7 @@ use Rattle.world_making.specs.making.Snapshots.{holds_created}
 use Rattle.world_plain.specs.ends.Ends.{durables_of, rules_of}
 use Rattle.world_plain.specs.whole.Begins.{held_at}
 use Rattle.world_upheld.specs.explained.Explanations.{HoldNoMoreSnapshots}
-use Rattle.world_upheld.specs.explained.Runs.{runs-have_explanations}
+use Rattle.world_upheld.specs.explained.Runs.{runs-are_explained}
 use Rattle.world_upheld.specs.upheld.Begins.{AreRulesInForm, RunBeginsWith}
 use Rattle.world_upheld.specs.upheld.Runs.{held-first}
 use Rattle.world_closing.specs.asked.Runs.{ended-all_over, explained-conclude}
@@ -71,7 +71,7 @@ module _ (g : Given) (w v : World) (A : AreRulesInForm (rules_of g)) (B : RunBeg
     over = (ended-all_over r g.opening w v A B few run ended).over
 
     concluded : Concluded r g.opening (held_at w) h v
-    concluded = explained-conclude r g.opening (held_at w) h (stored_over r run) v A (held-first r g.opening w A B) (runs-have_explanations r g.opening w v A B few run).1 over.done
+    concluded = explained-conclude r g.opening (held_at w) h (stored_over r run) v A (held-first r g.opening w A B) (runs-are_explained r g.opening w v A B few run).1 over.done
 
     end-known : EndIsKnown g w v h
     end-known = record { over = over; concluded = concluded; stands = all-ends-stand g w v h A B first run ended concluded (ends-have_lines g w v A B run over).apart }

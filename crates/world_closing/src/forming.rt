@@ -1,5 +1,5 @@
 // The text of a report determines it, at each moment of any run.
-ghost use Rattle.world_closing.specs.forming.Epochs.{UpheldLinesAreShort};
+ghost use Rattle.world_closing.specs.forming.Epochs.{AllLinesAreShort};
 ghost use Rattle.world_closing.specs.forming.Forming.{AllRunsReportInForm};
 
 /// Says that at each moment of a run of any script in form the text of the report of its lines so far determines that
@@ -12,5 +12,5 @@ ghost use Rattle.world_closing.specs.forming.Forming.{AllRunsReportInForm};
 /// leases cover the epochs of which lines tell.
 pub fn laws_of_texts()
     ensures runs { AllRunsReportInForm }
-    ensures epochs { UpheldLinesAreShort }
+    ensures epochs { AllLinesAreShort }
 {}

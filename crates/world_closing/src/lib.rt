@@ -4,6 +4,7 @@
 pub mod asked;
 pub mod forming;
 pub mod legal;
+pub mod safety;
 pub mod stands;
 
 ghost use Rattle.world_closing.specs.Causes.{LastCausesShow};

@@ -15,4 +15,4 @@ typed-counts l typed = tt
 pub orders-report_in_form : OrdersReportInForm
 orders-report_in_form g w v holds k keyed typed =
     all-runs-report_in_form g w v k.begins.form k.begins.begins k.begins.few holds (events g w v k)
-    (record { script = keyed.script; opening = keyed.opening; byte = keyed.byte; counts = λ l i. typed-counts l (typed l i) })
+    (record { small = record { script = keyed.script; byte = keyed.byte; counts = λ l i. typed-counts l (typed l i) }; opening = keyed.opening })

@@ -5,7 +5,6 @@ use Rattle.std.proofs.lemmas.Option.{slice_get_within}
 use Rattle.base_types.specs.declared.epoch.Epoch.{Epoch}
 use Rattle.base_types.specs.declared.id.AttemptId.{AttemptId}
 use Rattle.base_types.specs.declared.id.ContId.{ContId}
-use Rattle.daos_model.specs.declared.durable.Version.{Version}
 use Rattle.daos_model.specs.Opening.{Opening, top}
 use Rattle.model_laws.specs.Members.{contains-from_has}
 use Rattle.world_base.specs.declared.world.World.{World}
@@ -17,14 +16,14 @@ use Rattle.world_legal.specs.closing.Closing.{report_over}
 use Rattle.world_letters.specs.epochs.Epochs.{IsEpochOf, IsIssued, IsOwn, IsSeen}
 use Rattle.world_making.specs.freezings.Freezings.{IsOfSnap}
 use Rattle.world_plain.specs.ends.Ends.{rules_of}
-use Rattle.world_plain.specs.whole.Begins.{held_at}
 use Rattle.world_upheld.specs.upheld.Begins.{AreRulesInForm, RunBeginsWith}
-use Rattle.world_upheld.specs.upheld.Runs.{runs-are_upheld}
-use Rattle.world_upheld.specs.upheld.Upheld.{Upheld}
+use Rattle.world_upheld.specs.upheld.Runs.{runs-have_grounds}
+use Rattle.world_upheld.specs.upheld.BeginVersions.{begins-well}
+use Rattle.world_upheld.specs.upheld.Upheld.{Grounds}
 use Rattle.run_laws.specs.reports.Legal.{events}
 use Rattle.run_laws.specs.reports.Reports.{AreIssuedSince, OrdersIssueThere}
 
-module _ (r : Rules) (o : Opening) (held : ℕ → List Version) (h : History) (v : World) (A : AreRulesInForm r) (k : Upheld r o held h v) where
+module _ (r : Rules) (o : Opening) (h : History) (v : World) (A : AreRulesInForm r) (k : Grounds r o h v) where
   -- one of the targets issued each epoch of an attempt
   issued-there : (x : AttemptId) (e : Epoch) → IsIssued v x e → e.0 % 256 < r.script.targets
   issued-there x e i =
@@ -37,8 +36,8 @@ module _ (r : Rules) (o : Opening) (held : ℕ → List Version) (h : History) (
   its-there : (x : AttemptId) (e : Epoch) → IsEpochOf r v x e → top o < e.0 → e.0 % 256 < r.script.targets
   its-there x e (IsOwn i) high = issued-there x e i
   its-there x e (IsSeen g) high =
-      let z = sees r o held h v A.some_target k x e g in
-      let s = first r o held h v A.some_target k in
+      let z = sees r o h v A.some_target k x e g in
+      let s = first r o h v A.some_target k in
       by z.cont (k.heard.freezings.origin 0 s.0 z.cont e s.1 (z.frozen 0 s.0 s.1))
     where
       by : (c : ContId) → (e.0 ≤ top o) ⊎ IsOfSnap r v.issued c e → e.0 % 256 < r.script.targets
@@ -48,8 +47,8 @@ module _ (r : Rules) (o : Opening) (held : ℕ → List Version) (h : History) (
 -- One of the targets issued each epoch above the opening's that a line tells of, at each moment; the others are of snapshots that earlier runs made.
 pub runs-issue : (r : Rules) (o : Opening) (w v : World) → AreRulesInForm r → RunBeginsWith r o w → WorldRun r w v → AreIssuedSince (top o) (report_over r v)
 runs-issue r o w v A B run a e i at high =
-    let k = runs-are_upheld r o w v A B run in
-    its-there r o (held_at w) k.0 v A k.1 a.id e (k.1.heard.epochs.shown a e i at) high
+    let k = runs-have_grounds r o w v A (begins-well r o w B) run in
+    its-there r o k.0 v A k.1 a.id e (k.1.heard.epochs.shown a e i at) high
 
 pub orders-issue : OrdersIssueThere
 orders-issue g w v k = runs-issue (rules_of g) g.opening w v k.begins.form k.begins.begins (events g w v k)

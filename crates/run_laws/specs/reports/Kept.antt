@@ -1,4 +1,5 @@
 -- What is left where a run has ended in which targets may stop.
+use Rattle.world_upheld.specs.upheld.BeginVersions.{begins-well}
 use Rattle.std.specs.Prelude.{ℕ, ◌≡◌, ◌<◌, ◌==◌, ◌&&◌, Bool, true, false, not, filter, is_none, List, [], ◌∷◌, Contains, length, slice_get, Option, Some, None, refl}
 use Rattle.std.specs.List.{list_any}
 use Rattle.std.proofs.Common.{inl, inr, sym, ◌∙◌, ap, subst, arith}
@@ -60,7 +61,6 @@ use Rattle.world_plain.specs.ends.Ends.{rules_of}
 use Rattle.world_upheld.specs.reasons.Accounted.{AccountedFor}
 use Rattle.world_upheld.specs.reasons.Runs.{runs-are_accounted}
 use Rattle.world_upheld.specs.upheld.Begins.{AreRulesInForm, RunBeginsWith}
-use Rattle.world_upheld.specs.upheld.Runs.{held-first}
 use Rattle.run_laws.specs.reports.Legal as legal
 use Rattle.run_laws.specs.reports.Middle.{HasMiddle, middle-settled, middle-still, orders-have-middle}
 use Rattle.run_laws.specs.reports.Reports.{GoesInOrder, IsSettledOrLeft, LacksMember, LeavesInTheEnd, OrdersLeaveInTheEnd}
@@ -126,7 +126,7 @@ ends-down x (l ∷ ls) up e = on (λ y still k. ends-down y ls still k) (after x
 abbrev NoneIsUnsettled : World → Type 0
 NoneIsUnsettled v = (t : ℕ) (s : TargetState) → slice_get v.targets t ≡ Some s → s.life ≡ Running → s.memory.leader.decided ≡ []
 
-module _ (r : Rules) (o : Opening) (held : ℕ → List Version) (h : History) (stored : Stored) (v : World) (A : AreRulesInForm r) (k : AccountedFor r o held h stored v) (settled : NoneIsUnsettled v) (over : IsOver r v) (many : length v.targets ≡ r.script.targets) where
+module _ (r : Rules) (o : Opening) (h : History) (stored : Stored) (v : World) (A : AreRulesInForm r) (k : AccountedFor r o h stored v) (settled : NoneIsUnsettled v) (over : IsOver r v) (many : length v.targets ≡ r.script.targets) where
   within : (t : ℕ) (s : TargetState) → slice_get v.targets t ≡ Some s → t < r.script.targets
   within t s here = let low : t < length v.targets = slice_get_within v.targets t s here in omega (arith, low, many)
 
@@ -138,7 +138,7 @@ module _ (r : Rules) (o : Opening) (held : ℕ → List Version) (h : History) (
   none-to_leader l x i to = none-to l (leader_of r x) i (leader-there r x A.some_target) to
 
   said : (l : Letter) → Has l v.messages → IsSaidSo r h v l.from l.to l.message
-  said l i = k.upheld.heard.attempts.on.letters l i
+  said l i = k.grounds.heard.attempts.on.letters l i
 
   -- so no question is on its way
   none-asked : (t : ℕ) (s : TargetState) (x : AttemptId) (ask : Option AttemptId) → slice_get v.targets t ≡ Some s → IsOnQuery v t x ask → ⊥
@@ -154,15 +154,15 @@ module _ (r : Rules) (o : Opening) (held : ℕ → List Version) (h : History) (
   module _ (t : ℕ) (s : TargetState) (here : slice_get v.targets t ≡ Some s) where
     found : (e : Entry) → Has e s.durable.entries → entry_at v t e.attempt ≡ Some e
     unfolding entry_of
-    found e i = ap (λ z. entry_in z e.attempt) here ∙ row-found entry_attempt s.durable.entries e (k.upheld.heard.attempts.on.ordered t s here).entries i
+    found e i = ap (λ z. entry_in z e.attempt) here ∙ row-found entry_attempt s.durable.entries e (k.grounds.heard.attempts.on.ordered t s here).entries i
 
     its : (e : Entry) → Has e s.durable.entries → IsItsEntry r v e.attempt t e
-    its e i = (k.upheld.heard.attempts.on.each e.attempt).entries.one t e (found e i)
+    its e i = (k.grounds.heard.attempts.on.each e.attempt).entries.one t e (found e i)
 
     -- a target that is given up has its line
     gone : s.life ≡ Down → Has (line.Down t) v.lines
     gone down =
-        let u = ends-down lived.Running (lines_at t v.lines) (λ e. let no : ⊥ = cc (e) in no) ((k.upheld.lives.told t s here).stands ∙ ap (λ l. Some (standing_of l)) down) in
+        let u = ends-down lived.Running (lines_at t v.lines) (λ e. let no : ⊥ = cc (e) in no) ((k.grounds.lives.told t s here).stands ∙ ap (λ l. Some (standing_of l)) down) in
         let z = has-from_filter (is_at t) v.lines (line.Down u.0) u.1 in
         subst (λ n. Has (line.Down n) v.lines) (number_same u.0 t z.1) z.0
 
@@ -170,7 +170,7 @@ module _ (r : Rules) (o : Opening) (held : ℕ → List Version) (h : History) (
 
     -- it named no attempt to a member of which it awaits the answer
     none-named : s.memory.leader.named ≡ []
-    none-named = empty-of s.memory.leader.named (λ n i. on n (k.upheld.heard.questions.named t s n here i))
+    none-named = empty-of s.memory.leader.named (λ n i. on n (k.grounds.heard.questions.named t s n here i))
       where
         on : (n : Naming) → IsOnNaming v t n → ⊥
         on n (fact.IsReset f) = none-to f.0 t f.1 (within t s here) f.2.to
@@ -198,7 +198,7 @@ module _ (r : Rules) (o : Opening) (held : ℕ → List Version) (h : History) (
         record { member = z.0; its = inr (subst (λ y. IsOther r y z.0) same z.1); down = z.2 }
 
     led-open : (e : Entry) → entry_at v (leader_of r x) x ≡ Some e → e.committed ≡ false → LacksMember r v x
-    led-open e at open' = elim ((k.upheld.heard.attempts.on.each x).rows.either e running at open') [
+    led-open e at open' = elim ((k.grounds.heard.attempts.on.each x).rows.either e running at open') [
       | inl known ↦ absurd (not-known known)
       | inr row ↦ row-lacks row.0 row.1
     ]
@@ -219,7 +219,7 @@ module _ (r : Rules) (o : Opening) (held : ℕ → List Version) (h : History) (
           ]
 
       by : (b : Bool) → k2.entry.committed ≡ b → IsKnown r h v x
-      by true is = inr (k2.entry.epoch, (k.upheld.heard.attempts.on.each x).entries.committed (leader_of r x) k2.entry k2.found is)
+      by true is = inr (k2.entry.epoch, (k.grounds.heard.attempts.on.each x).entries.committed (leader_of r x) k2.entry k2.found is)
       by false is = inl (open-lacks is)
 
   -- ---- where the run has ended, and it is known of what a member was told isn't decided
@@ -230,7 +230,7 @@ module _ (r : Rules) (o : Opening) (held : ℕ → List Version) (h : History) (
       unknown-down : has_target s.memory.leader.down t ≡ true → ⊥
       unknown-down known =
           let line = k.knows (leader_of r x) t s here known in
-          let down : z.life ≡ Down = told-down v k.upheld.lives t z there line in
+          let down : z.life ≡ Down = told-down v k.grounds.lives t z there line in
           let bad : Running ≡ Down = sym up ∙ down in
           let no : ⊥ = cc in no
 
@@ -245,7 +245,7 @@ module _ (r : Rules) (o : Opening) (held : ℕ → List Version) (h : History) (
           among = found-has (is_entry_of x) s.durable.entries e kept
 
           one : IsItsEntry r v x (leader_of r x) e
-          one = (k.upheld.heard.attempts.on.each x).entries.one (leader_of r x) e at
+          one = (k.grounds.heard.attempts.on.each x).entries.one (leader_of r x) e at
 
           led : is_led (leader_of r x) e ≡ true
           led = ap (λ n. n == leader_of r x) one.leader ∙ (let same : (leader_of r x == leader_of r x) ≡ true = grind (arith, nat_tests) in same)
@@ -271,8 +271,8 @@ module _ (r : Rules) (o : Opening) (held : ℕ → List Version) (h : History) (
 
     not-both : (x : AttemptId) (f : Epoch) → Aborted h x → Decided h x f → ⊥
     not-both x f aborted decided =
-        let none = (k.upheld.heard.attempts.on.each x).entries.aborted aborted in
-        let held2 = ((k.upheld.heard.attempts.on.each x).entries.held_by_leader f decided).found in
+        let none = (k.grounds.heard.attempts.on.each x).entries.aborted aborted in
+        let held2 = ((k.grounds.heard.attempts.on.each x).entries.held_by_leader f decided).found in
         (let no : ⊥ = cc (none, held2) in no)
 
     module _ (t : ℕ) (s : TargetState) (here : slice_get v.targets t ≡ Some s) (runs : s.life ≡ Running) (e : Entry) (i : Has e s.durable.entries) (open' : e.committed ≡ false) where
@@ -322,10 +322,10 @@ module _ (r : Rules) (o : Opening) (held : ℕ → List Version) (h : History) (
               downs n is = k.knows t n s here is
 
               by : (c : QueryState) → row.0.state ≡ c → Left
-              by state.Unanswered is = absurd (none-asked t s row.0.attempt None here ((k.upheld.heard.questions.inquiries.rows t s row.0 here among).unanswered is))
-              by state.Undecided is = told row.0 same (known t s row.0 here among is) ((k.upheld.heard.questions.inquiries.rows t s row.0 here among).undecided is)
+              by state.Unanswered is = absurd (none-asked t s row.0.attempt None here ((k.grounds.heard.questions.inquiries.rows t s row.0 here among).unanswered is))
+              by state.Undecided is = told row.0 same (known t s row.0 here among is) ((k.grounds.heard.questions.inquiries.rows t s row.0 here among).undecided is)
               by state.Down is =
-                  let down = (k.upheld.heard.questions.inquiries.rows t s row.0 here among).down is in
+                  let down = (k.grounds.heard.questions.inquiries.rows t s row.0 here among).down is in
                   record { member = leader_of r e.attempt; its = inl refl; down = downs (leader_of r e.attempt) (ap (λ y. down_in y (leader_of r e.attempt)) (sym here) ∙ ap (λ y. down_in (slice_get v.targets t) (leader_of r y)) (sym same) ∙ down) }
 
         as-other : Left
@@ -352,7 +352,7 @@ module _ (r : Rules) (o : Opening) (held : ℕ → List Version) (h : History) (
     held-by t s e here i committed m member = by member
       where
         f : Entries r h v e.attempt
-        f = (k.upheld.heard.attempts.on.each e.attempt).entries
+        f = (k.grounds.heard.attempts.on.each e.attempt).entries
 
         decided : Decided h e.attempt e.epoch
         decided = f.committed t e (found t s here e (has-from_contains s.durable.entries e i)) committed
@@ -389,14 +389,14 @@ module _ (g : Given) (w v : World) (k : GoesInOrder g w v) where
   mid-over : IsOver r mid.middle
   mid-over = (still-all_over r g.opening w mid.middle form begins k.begins.few mid.run (middle-still r mid.middle there.clients mid.quiet)).over
 
-  so-far : (h : History) × AccountedFor r g.opening (held_at w) h (stored_over r mid.run) mid.middle
-  so-far = runs-are_accounted r g.opening w mid.middle form begins mid.run
+  so-far : (h : History) × AccountedFor r g.opening h (stored_over r mid.run) mid.middle
+  so-far = runs-are_accounted r g.opening w mid.middle form (begins-well r g.opening w begins) mid.run
 
-  settles : Settles r g.opening (held_at w) (stored_over r mid.run) so-far.0 mid.middle
+  settles : Settles r g.opening (stored_over r mid.run) so-far.0 mid.middle
   settles = record {
     accounted = so-far.1;
     done = mid-over.done;
-    fate = held-known r g.opening (held_at w) so-far.0 (stored_over r mid.run) mid.middle form so-far.1 (middle-settled r mid.middle there.clients mid.quiet) mid-over there.targets;
+    fate = held-known r g.opening so-far.0 (stored_over r mid.run) mid.middle form so-far.1 (middle-settled r mid.middle there.clients mid.quiet) mid-over there.targets;
     rows = λ m s q here i undecided. absurd (mid.none.rows m s q here i);
     letters = λ m x f. absurd (mid.none.letters m x f.0 f.1 (IsVerdict f.2.inc _ f.2.says f.2.to));
   }
@@ -413,14 +413,14 @@ module _ (g : Given) (w v : World) (k : GoesInOrder g w v) where
 
   left-so : LeavesInTheEnd r v
   left-so =
-      let z = runs-settle r g.opening (held_at w) (stored_over r mid.run) so-far.0 mid.middle v form (held-first r g.opening w form begins) settles mid.rest in
-      leaves r g.opening (held_at w) z.h z.stored v form z.so.accounted ended.settled end-over many ended z.so.rows
+      let z = runs-settle r g.opening (stored_over r mid.run) so-far.0 mid.middle v form settles mid.rest in
+      leaves r g.opening z.h z.stored v form z.so.accounted ended.settled end-over many ended z.so.rows
 
   -- each target that was given up has its line
   pub downs-have_lines : (t : ℕ) (s : TargetState) → slice_get v.targets t ≡ Some s → s.life ≡ Down → Has (line.Down t) v.lines
   downs-have_lines t s here down =
-      let a = runs-are_accounted r g.opening w v form begins run in
-      gone r g.opening (held_at w) a.0 (stored_over r run) v form a.1 ended.settled end-over many t s here down
+      let a = runs-are_accounted r g.opening w v form (begins-well r g.opening w begins) run in
+      gone r g.opening a.0 (stored_over r run) v form a.1 ended.settled end-over many t s here down
 
 pub orders-leave : OrdersLeaveInTheEnd
 orders-leave g w v k = left-so g w v k

@@ -1,4 +1,6 @@
 -- Where a run in an order begins to settle: nobody has a message to hear or a command to go on with, and idle work has asked nothing yet.
+use Rattle.world_commit.specs.statuses.Events.{told_by}
+use Rattle.world_upheld.specs.upheld.BeginVersions.{begins-well}
 use Rattle.std.specs.Prelude.{ℕ, zero, suc, ◌≡◌, ◌⊎◌, ◌<◌, ◌||◌, ◌&&◌, ◌==◌, Bool, true, false, not, nat_lt, List, [], ◌∷◌, filter, length, slice_get, Some, None, refl}
 use Rattle.std.proofs.Common.{inl, inr, sym, ◌∙◌, ap, subst, arith}
 use Rattle.std.proofs.lemmas.Bool.{cases_eq}
@@ -36,7 +38,6 @@ use Rattle.world_plain.specs.whole.Begins.{held_at}
 use Rattle.world_upheld.specs.reasons.Runs.{runs-are_accounted}
 use Rattle.world_upheld.specs.upheld.Begins.{AreRulesInForm, RunBeginsWith}
 use Rattle.world_upheld.specs.upheld.Events as stands
-use Rattle.world_upheld.specs.upheld.Runs.{held-first}
 use Rattle.run_laws.specs.reports.Inquiries.{AnswersOne, AsksNow, InquiriesCome, InquiryComes, IsAnswered, IsAsked, IsSettling, LetterComes, Stays, WasFlying, inquiries-come, swept-come}
 
 -- ---- idle work has asked nothing
@@ -106,9 +107,9 @@ module _ (r : Rules) (o : Opening) (w : World) (A : AreRulesInForm r) (B : RunBe
 
   event-asks : (u v : World) (e : WorldEvent r u v) → (IsSettling e.happens → ⊥) → AsksNone u → AsksNone v
   event-asks u v e off k =
-      let a = runs-are_accounted r o w u A B k.run in
-      let after = stands.attempts-happened r o (held_at w) a.0 u v A.some_attempt (held-first r o w A B) a.1.upheld e in
-      let happened = come-none (IsSettling e.happens) r u e.u off (inquiries-come r u e.u a.0 _ a.1.upheld.heard.attempts after e.happens) k.none in
+      let a = runs-are_accounted r o w u A (begins-well r o w B) k.run in
+      let after = stands.attempts-happened r o a.0 (stands.later-with a.0 (told_by e.happens)) u v A.some_attempt a.1.grounds e (stands.grows-with a.0 (told_by e.happens)) in
+      let happened = come-none (IsSettling e.happens) r u e.u off (inquiries-come r u e.u a.0 _ a.1.grounds.heard.attempts after e.happens) k.none in
       record { run = Goes u v k.run e; none = subst NoneInquires (sym e.after) (come-none ⊥ r e.u _ (λ no. no) (swept-come r _ e.u after) happened) }
 
   turn-asks : (a : ActorId) (n : ℕ) (u v : World) → TurnOf false r a n u v → AsksNone u → AsksNone v

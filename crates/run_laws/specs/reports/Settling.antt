@@ -13,7 +13,6 @@ use Rattle.base_messages.specs.declared.message.Message.{Message}
 use Rattle.base_messages.specs.declared.message.Message.TheVariants as message
 use Rattle.base_messages.specs.declared.message.Post.{Post}
 use Rattle.model_laws.specs.Members.{Has, has-left}
-use Rattle.daos_model.specs.declared.durable.Version.{Version}
 use Rattle.daos_model.specs.Opening.{Opening}
 use Rattle.dtx_base.specs.declared.member.Inquiry.{Inquiry}
 use Rattle.dtx_base.specs.declared.member.QueryState.TheVariants as state
@@ -57,12 +56,11 @@ use Rattle.world_commit.specs.statuses.Events.{told_by}
 use Rattle.world_commit.specs.statuses.Fates.{told_by_it}
 use Rattle.world_commit.specs.stops.Happenings.{rightly, told_in}
 use Rattle.world_plain.specs.unstopped.Growing.{lines-grow}
-use Rattle.world_plain.specs.whole.Everything.{AreBefore}
-use Rattle.world_upheld.specs.reasons.Accounted.{AccountedFor, IsAccountedForStill}
+use Rattle.world_upheld.specs.reasons.Accounted.{AccountedFor}
 use Rattle.world_upheld.specs.reasons.Events.{all-events-keep_accounts}
 use Rattle.world_upheld.specs.upheld.Begins.{AreRulesInForm}
 use Rattle.world_upheld.specs.upheld.Events as stands
-use Rattle.world_upheld.specs.upheld.Upheld.{Upheld}
+use Rattle.world_upheld.specs.upheld.Upheld.{Grounds}
 use Rattle.run_laws.specs.reports.Inquiries.{AnswersOne, AsksNow, InquiriesCome, InquiryComes, IsAnswered, IsAsked, IsSettling, LetterComes, Stays, WasFlying, inquiries-come, swept-come}
 use Rattle.run_laws.specs.reports.Reports.{LacksMember}
 
@@ -209,8 +207,8 @@ IsKnown r h w x = LacksMember r w x ⊎ ((e : Epoch) × Decided h x e)
 
 -- All that is accounted for; clients are done; and it is known of what a leader keeps an entry of, and so of what a member was told isn't decided, or
 -- is told so by a letter in flight.
-pub record Settles (r : Rules) (o : Opening) (held : ℕ → List Version) (stored : Stored) (h : History) (w : World) : Type 0 where
-  pub accounted : AccountedFor r o held h stored w
+pub record Settles (r : Rules) (o : Opening) (stored : Stored) (h : History) (w : World) : Type 0 where
+  pub accounted : AccountedFor r o h stored w
   pub done : AreDone r w
   pub fate : (x : AttemptId) → IsHeld w (leader_of r x) x → IsKnown r h w x
   pub rows : (m : ℕ) (s : TargetState) (q : Inquiry) → slice_get w.targets m ≡ Some s → Has q s.memory.member.inquiries → q.state ≡ state.Undecided → IsKnown r h w q.attempt
@@ -218,21 +216,21 @@ pub record Settles (r : Rules) (o : Opening) (held : ℕ → List Version) (stor
 
 -- ---- each event keeps it
 
-module _ (r : Rules) (o : Opening) (held : ℕ → List Version) (stored : Stored) (h : History) (w v : World) (A : AreRulesInForm r) (before : AreBefore o held) (k : Settles r o held stored h w) (e : WorldEvent r w v) where
-  abbrev all : Upheld r o held h w
-  all = k.accounted.upheld
-
-  still : IsAccountedForStill r o held h (stored_in r e.happens ++ stored) v
-  still = all-events-keep_accounts r o held h stored w v A before k.accounted e
+module _ (r : Rules) (o : Opening) (stored : Stored) (h : History) (w v : World) (A : AreRulesInForm r) (k : Settles r o stored h w) (e : WorldEvent r w v) where
+  all : Grounds r o h w
+  all = k.accounted.grounds
 
   abbrev later : History
-  later = stands.later r o held h w v A.some_attempt before all e
-
-  attempts-then : Attempts r later e.u
-  attempts-then = stands.attempts-happened r o held h w v A.some_attempt before all e
+  later = stands.later-with h (told_by e.happens)
 
   grows : GrowsBy h (told_by e.happens) later
-  grows = (stands.go r o held h w v A.some_attempt before all e).grows
+  grows = stands.grows-with h (told_by e.happens)
+
+  accounted-then : AccountedFor r o later (stored_in r e.happens ++ stored) v
+  accounted-then = all-events-keep_accounts r o h later stored w v A k.accounted e grows
+
+  attempts-then : Attempts r later e.u
+  attempts-then = stands.attempts-happened r o h later w v A.some_attempt all e grows
 
   none-taken : (x : AttemptId) → IsTaken w e.u x → ⊥
   none-taken x t =
@@ -251,13 +249,13 @@ module _ (r : Rules) (o : Opening) (held : ℕ → List Version) (stored : Store
     makers = makers-write r w all.heard.makings all.makers;
   }
 
-  known-on : (x : AttemptId) → IsKnown r h w x → IsKnown r still.later v x
-  known-on x (inr d) = inr (d.0, still.grew.decided (x, d.0) d.1)
+  known-on : (x : AttemptId) → IsKnown r h w x → IsKnown r later v x
+  known-on x (inr d) = inr (d.0, grows.decided x d.0 d.1)
   known-on x (inl lacks) =
       let more = lines-grow r w v (Goes w v Begins e) in
       inl (record { member = lacks.member; its = lacks.its; down = subst (Has (line.Down lacks.member)) (sym more.1) (has-left w.lines more.0 (line.Down lacks.member) lacks.down) })
 
-  fate-then : (x : AttemptId) → IsHeld v (leader_of r x) x → IsKnown r still.later v x
+  fate-then : (x : AttemptId) → IsHeld v (leader_of r x) x → IsKnown r later v x
   fate-then x h2 = known-on x (k.fate x (held-back r h later w e.u place k.done none-taken e.happens grows x (record { entry = h2.entry; found = ap (λ y. entry_in (slice_get y.targets (leader_of r x)) x) (sym e.after) ∙ h2.found })))
 
   comes : InquiriesCome (IsSettling e.happens) r w e.u
@@ -290,9 +288,9 @@ module _ (r : Rules) (o : Opening) (held : ℕ → List Version) (stored : Store
   swept-comes : InquiriesCome ⊥ r e.u v
   swept-comes = subst (InquiriesCome ⊥ r e.u) (sym e.after) (swept-come r later e.u attempts-then)
 
-  settles-on : Settles r o held (stored_in r e.happens ++ stored) still.later v
+  settles-on : Settles r o (stored_in r e.happens ++ stored) later v
   settles-on = record {
-    accounted = still.accounted;
+    accounted = accounted-then;
     done = λ n z at. clients-done r h later w e.u place k.done none-taken e.happens grows n z (ap (λ y. slice_get y.clients n) (sym e.after) ∙ at);
     fate = fate-then;
     rows = λ m s q here i undecided. known-on q.attempt (row-then m q undecided (swept-comes.rows m s q here i));
@@ -301,13 +299,13 @@ module _ (r : Rules) (o : Opening) (held : ℕ → List Version) (stored : Store
 
 -- ---- so it is at the end
 
-pub record SettlesStill (r : Rules) (o : Opening) (held : ℕ → List Version) (v : World) : Type 0 where
+pub record SettlesStill (r : Rules) (o : Opening) (v : World) : Type 0 where
   pub stored : Stored
   pub h : History
-  pub so : Settles r o held stored h v
+  pub so : Settles r o stored h v
 
-pub runs-settle : (r : Rules) (o : Opening) (held : ℕ → List Version) (stored : Stored) (h : History) (u v : World) → AreRulesInForm r → AreBefore o held → Settles r o held stored h u → WorldRun r u v → SettlesStill r o held v
-runs-settle r o held stored h u v A before k Begins = record { stored = stored; h = h; so = k }
-runs-settle r o held stored h u v A before k (Goes x y run e) =
-    let z = runs-settle r o held stored h u x A before k run in
-    record { stored = stored_in r e.happens ++ z.stored; h = _; so = settles-on r o held z.stored z.h x v A before z.so e }
+pub runs-settle : (r : Rules) (o : Opening) (stored : Stored) (h : History) (u v : World) → AreRulesInForm r → Settles r o stored h u → WorldRun r u v → SettlesStill r o v
+runs-settle r o stored h u v A k Begins = record { stored = stored; h = h; so = k }
+runs-settle r o stored h u v A k (Goes x y run e) =
+    let z = runs-settle r o stored h u x A k run in
+    record { stored = stored_in r e.happens ++ z.stored; h = _; so = settles-on r o z.stored z.h x v A z.so e }

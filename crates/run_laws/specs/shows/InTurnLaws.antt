@@ -1,26 +1,20 @@
 -- What the lines tell of each client's commands begins in turn, whatever turns follow one another.
 use Rattle.target_snaps.specs.Following.{TellsNoAttempt}
-use Rattle.std.specs.Prelude.{ℕ, zero, suc, ◌≡◌, ◌⊎◌, ◌<◌, ◌+◌, ◌++◌, Bool, true, false, List, [], ◌∷◌, drop, filter, length, map, slice_get, slice_set, take, Option, Some, None, Result, Ok, Err, IfOk, refl, if◌then◌else◌}
-use Rattle.std.proofs.Common.{append-nil, inl, inr, sym, ◌∙◌, ap, subst, arith}
+use Rattle.std.specs.Prelude.{ℕ, ◌≡◌, ◌<◌, ◌+◌, ◌++◌, Bool, List, [], ◌∷◌, filter, length, map, slice_get, slice_set, Option, Some, None, Result, Ok, Err, IfOk, refl}
+use Rattle.std.proofs.Common.{append-nil, inl, inr, sym, ◌∙◌, ap, subst}
 use Rattle.std.proofs.lemmas.Bool.{cases_eq}
-use Rattle.std.proofs.lemmas.List.{take-append-drop}
-use Rattle.std.proofs.lemmas.List.Elements.{filter-append}
 use Rattle.base_types.specs.declared.epoch.Epoch.{Epoch}
 use Rattle.base_types.specs.declared.id.AttemptId.{AttemptId}
-use Rattle.base_types.specs.declared.report.Attempt.{Attempt}
 use Rattle.base_types.specs.declared.report.Line.{Line}
 use Rattle.base_types.specs.declared.report.Line.TheVariants as line
-use Rattle.base_types.specs.declared.script.Command.{Command}
-use Rattle.base_types.specs.Scripts.{is_numbered}
 use Rattle.client_core.specs.Clients.{ClientNow}
 use Rattle.daos_model.specs.declared.durable.Durable.{Durable}
-use Rattle.daos_model.specs.Attempts.{is_of_client, is_restart, tried, tries, tries_of}
+use Rattle.daos_model.specs.Attempts.{is_of_client, tried, tries, tries_of}
 use Rattle.daos_model.specs.Laws.{tries-append}
-use Rattle.daos_model.specs.Order.{AreAttempts, AreInTurn, client_commands, commands_or_none as numbered_or_none}
-use Rattle.daos_model.specs.Transactions.{numbered}
+use Rattle.daos_model.specs.Order.{client_commands}
 use Rattle.model_laws.specs.Members.{has-right}
 use Rattle.run_base.specs.Letters.{BetweenNow}
-use Rattle.run_laws.specs.shows.InTurn.{AllBeginInTurn, AreOfNext, BeginsInTurn, HasItsLines, TellInTurn}
+use Rattle.run_laws.specs.shows.InTurn.{AllBeginInTurn, BeginsInTurn, HasItsLines, TellInTurn}
 use Rattle.run_laws.specs.shows.ListLaws.{length-set}
 use Rattle.run_laws.specs.shows.Stages.{StageNow}
 use Rattle.run_laws.specs.shows.Steps.{ClientTurned, ClientWorks, Cut, HeardOne, NotOpened, Opened, OpeningEnds, Reopened, TargetReopened, TargetTurned, TargetWorked, WentOn, Whole, WorkEnds, Worked}
@@ -30,158 +24,27 @@ use Rattle.target_core.specs.Targets.{TargetOf}
 use Rattle.target_parts.specs.declared.stop.TargetStop.{TargetStop}
 use Rattle.target_resync.specs.Openings.{TellsRestart}
 use Rattle.vos_store.specs.Calls.{State}
-use Rattle.world_base.specs.declared.client.ClientPlan.{ClientPlan}
-use Rattle.world_base.specs.declared.client.ClientState.{ClientState}
 use Rattle.world_base.specs.declared.did.Did.{Did}
 use Rattle.world_base.specs.ClientTurns.{HearTurn, NextTurn}
-use Rattle.world_base.specs.Events.{Rules, client_plan, commands_or_none, with_epoch}
+use Rattle.world_base.specs.Events.{Rules, client_plan, with_epoch}
 use Rattle.world_base.specs.Letters.{client}
 use Rattle.world_base.specs.StepLaws.{set-here, set-is, set-there}
 use Rattle.world_base.specs.Stops.{stops_so_far}
 use Rattle.world_letters.specs.clients.MoveLaws.{clients-begin, hear-turn-keeps, next-turn-keeps}
-use Rattle.world_letters.specs.clients.Standing.{AreOfPresent, AreTriedAgain, HasTold, has_number, number_of}
+use Rattle.world_letters.specs.clients.Standing.{HasTold, number_of}
 use Rattle.world_letters.specs.lines.FilledLaws.{AreOf, others-same, own-more, same-append, same-filled, stands-of, tries-filled}
-use Rattle.world_letters.specs.lines.Lines.{AreTheSame, IsTheSame, filled}
+use Rattle.world_letters.specs.lines.Lines.{AreTheSame, filled}
+use Rattle.world_readers.specs.lines.InTurnLaws.{nobody-begins, told-begins}
 
--- ---- attempts that are the same but for epochs
-
-attempts-same : (limit client command n : ℕ) (xs ys : List Attempt) → AreTheSame xs ys → AreAttempts limit client command n xs → AreAttempts limit client command n ys
-attempts-same limit client command n [] [] s k = k
-attempts-same limit client command n [] (y ∷ ys) s k = absurd s
-attempts-same limit client command n (x ∷ xs) [] s k = absurd s
-attempts-same limit client command n (x ∷ []) (y ∷ []) s k = (s.0.id ∙ k.0, subst (λ o. (is_restart o ≡ false) ⊎ (n + 1 ≡ limit)) (sym s.0.outcome) k.1)
-attempts-same limit client command n (x ∷ []) (y ∷ z ∷ ys) s k = absurd s.1
-attempts-same limit client command n (x ∷ u ∷ xs) (y ∷ []) s k = absurd s.1
-attempts-same limit client command n (x ∷ u ∷ xs) (y ∷ z ∷ ys) s k = (s.0.id ∙ k.0, ap is_restart s.0.outcome ∙ k.1, k.2, attempts-same limit client command (n + 1) (u ∷ xs) (z ∷ ys) s.1 k.3)
-
-again-same : (client command n m : ℕ) (xs ys : List Attempt) → AreTheSame xs ys → AreTriedAgain client command n m xs → AreTriedAgain client command n m ys
-again-same client command n m [] [] s k = k
-again-same client command n m [] (y ∷ ys) s k = absurd s
-again-same client command n m (x ∷ xs) [] s k = absurd s
-again-same client command n m (x ∷ xs) (y ∷ ys) s k = (s.0.id ∙ k.0, ap is_restart s.0.outcome ∙ k.1, again-same client command (n + 1) m xs ys s.1 k.2)
-
--- two lists of the same are cut at the same place
-record CutAlike (us vs ys : List Attempt) : Type 0 where
-  pub own : List Attempt
-  pub later : List Attempt
-  pub all : ys ≡ own ++ later
-  pub first : AreTheSame us own
-  pub rest : AreTheSame vs later
-
-cut-alike : (us vs ys : List Attempt) → AreTheSame (us ++ vs) ys → CutAlike us vs ys
-cut-alike [] vs ys s = record { own = []; later = ys; all = refl; first = tt; rest = s }
-cut-alike (u ∷ us) vs [] s = absurd s
-cut-alike (u ∷ us) vs (y ∷ ys) s =
-    let k = cut-alike us vs ys s.1 in
-    record { own = y ∷ k.own; later = k.later; all = ap (λ z. y ∷ z) k.all; first = (s.0, k.first); rest = k.rest }
-
-none-same : (ys : List Attempt) → AreTheSame [] ys → ys ≡ []
-none-same [] s = refl
-none-same (y ∷ ys) s = absurd s
-
-many-same : (xs ys : List Attempt) → AreTheSame xs ys → length xs ≡ length ys
-many-same [] [] s = refl
-many-same [] (y ∷ ys) s = absurd s
-many-same (x ∷ xs) [] s = absurd s
-many-same (x ∷ xs) (y ∷ ys) s = ap suc (many-same xs ys s.1)
-
-in-turn-same : (limit client n : ℕ) (cs : List Command) (xs ys : List Attempt) → AreTheSame xs ys → AreInTurn limit client n cs xs → AreInTurn limit client n cs ys
-in-turn-same limit client n [] xs ys s k = none-same ys (subst (λ z. AreTheSame z ys) k s)
-in-turn-same limit client n (c ∷ cs) xs ys s k =
-    let cut = cut-alike k.0 k.1 ys (subst (λ z. AreTheSame z ys) k.2 s) in
-    (cut.own, cut.later, cut.all, attempts-same limit client n 0 k.0 cut.own cut.first k.3, in-turn-same limit client (n + 1) cs k.1 cut.later cut.rest k.4)
-
-next-same : (limit client n : ℕ) (cs : List Command) (xs ys : List Attempt) → AreTheSame xs ys → AreOfNext limit client n cs xs → AreOfNext limit client n cs ys
-next-same limit client n [] xs ys s k = none-same ys (subst (λ z. AreTheSame z ys) k s)
-next-same limit client n (c ∷ cs) xs ys s k =
-    let many = many-same xs ys s in
-    (subst (λ m. AreTriedAgain client n 0 m ys) many (again-same client n 0 (length xs) xs ys s k.0), subst (λ m. m < limit) many k.1)
-
-begins-same : (limit client : ℕ) (cs : List Command) (xs ys : List Attempt) → AreTheSame xs ys → BeginsInTurn limit client cs xs → BeginsInTurn limit client cs ys
-begins-same limit client cs xs ys s k =
-    let cut = cut-alike k.over k.again ys (subst (λ z. AreTheSame z ys) k.attempts_are s) in
-    record {
-      first = k.first;
-      left = k.left;
-      commands_are = k.commands_are;
-      over = cut.own;
-      again = cut.later;
-      attempts_are = cut.all;
-      in_turn = in-turn-same limit client 0 k.first k.over cut.own cut.first k.in_turn;
-      next = next-same limit client (length k.first) k.left k.again cut.later cut.rest k.next;
-    }
-
--- ---- what a client has told begins in turn
-
-tried-many : (client command n m : ℕ) (xs : List Attempt) → AreTriedAgain client command n m xs → n + length xs ≡ m
-tried-many client command n m [] k = omega (arith, k)
-tried-many client command n m (x ∷ xs) k = let more : n + 1 + length xs ≡ m = tried-many client command (n + 1) m xs k.2 in omega (arith, more)
-
-none-of-next : (limit client n : ℕ) (cs : List Command) (xs : List Attempt) → 0 < limit → xs ≡ [] → AreOfNext limit client n cs xs
-none-of-next limit client n [] xs some none = none
-none-of-next limit client n (c ∷ cs) xs some none = subst (λ z. AreTriedAgain client n 0 (length z) z × (length z < limit)) (sym none) (refl, some)
-
-some-of-next : (limit client n m : ℕ) (cs : List Command) (xs : List Attempt) → (cs ≡ [] → ⊥) → AreTriedAgain client n 0 m xs → m < limit → AreOfNext limit client n cs xs
-some-of-next limit client n m [] xs some k low = absurd (some refl)
-some-of-next limit client n m (c ∷ cs) xs some k low =
-    let many : m ≡ length xs = let all : 0 + length xs ≡ m = tried-many client n 0 m xs k in omega (arith, all) in
-    (subst (λ z. AreTriedAgain client n 0 z xs) many k, subst (λ z. z < limit) many low)
-
--- a command with a number is among those that are left where it is the next
-one-left : (cs : List Command) (n : ℕ) → has_number (slice_get cs n) ≡ true → numbered (drop n cs) ≡ [] → ⊥
-one-left [] n h none = let no : ⊥ = cc in no
-one-left (c ∷ cs) zero h none = by (is_numbered c) h none
-  where
-    by : (b : Bool) → b ≡ true → (if b then c ∷ filter is_numbered cs else filter is_numbered cs) ≡ [] → ⊥
-    by true e none = let no : ⊥ = cc in no
-    by false e none = let no : ⊥ = cc in no
-one-left (c ∷ cs) (suc n) h none = one-left cs n h none
-
-begins : (p : ClientPlan) (c : ClientState) (xs : List Attempt) → 0 < p.attempts → HasTold p c xs → BeginsInTurn p.attempts p.number (numbered p.commands) xs
-begins p c xs some k = record {
-  first = numbered (take c.place p.commands);
-  left = numbered (drop c.place p.commands);
-  commands_are = ap numbered (sym (take-append-drop c.place p.commands)) ∙ filter-append is_numbered (take c.place p.commands) (drop c.place p.commands);
-  over = k.over;
-  again = k.begun;
-  attempts_are = k.all;
-  in_turn = k.in_turn;
-  next = subst (λ n. AreOfNext p.attempts p.number n (numbered (drop c.place p.commands)) k.begun) k.numbers (next (number_of c.present) k.at_present);
-}
-  where
-    next : (o : Option ℕ) → AreOfPresent p c.place c.command k.begun o → AreOfNext p.attempts p.number c.command (numbered (drop c.place p.commands)) k.begun
-    next None none = none-of-next p.attempts p.number c.command (numbered (drop c.place p.commands)) k.begun some none
-    next (Some m) h = some-of-next p.attempts p.number c.command m (numbered (drop c.place p.commands)) k.begun (one-left p.commands c.place h.2) h.0 h.1
-
-same-commands : (o : Option (List Command)) → numbered (commands_or_none o) ≡ numbered_or_none o
-same-commands None = refl
-same-commands (Some list) = refl
-
-get-none : {A B : Type 0} (xs : List A) (ys : List B) → length xs ≡ length ys → (n : ℕ) → slice_get xs n ≡ None → slice_get ys n ≡ None
-get-none xs [] same n none = refl
-get-none [] (y ∷ ys) same n none = let no : ⊥ = cc in absurd no
-get-none (x ∷ xs) (y ∷ ys) same zero none = let no : ⊥ = cc in absurd no
-get-none (x ∷ xs) (y ∷ ys) same (suc n) none = get-none xs ys (omega (arith, same)) n none
+-- ---- what clients have told begins in turn
 
 -- the attempts of every client begin those of its commands in turn
 pub all-begin : {S C : Type 0} (r : Rules) (a : StageNow S C) → TellInTurn r a → AllBeginInTurn r.attempts r.script a.between.lines
 all-begin r a k n = by (slice_get a.clients n) refl
   where
     by : (o : Option ClientNow) → slice_get a.clients n ≡ o → BeginsInTurn r.attempts n (client_commands r.script n) (tries_of n a.between.lines)
-    by None e = record {
-      first = [];
-      left = [];
-      commands_are = ap numbered_or_none (get-none a.clients r.script.clients k.many n e);
-      over = [];
-      again = [];
-      attempts_are = k.nobody n e;
-      in_turn = refl;
-      next = refl;
-    }
-    by (Some c) e =
-        let t = k.told n c e in
-        subst (λ cs. BeginsInTurn r.attempts n cs (tries_of n a.between.lines)) (same-commands (slice_get r.script.clients n))
-        (begins-same r.attempts n (numbered (client_plan r n).commands) t.attempts (tries_of n a.between.lines) t.same (begins (client_plan r n) c.state t.attempts k.some_attempt t.told))
+    by None e = nobody-begins r.attempts n (client_commands r.script n) (tries_of n a.between.lines) k.some_attempt (k.nobody n e)
+    by (Some c) e = told-begins r n c.state a.between.lines k.some_attempt (k.told n c e)
 
 -- ---- before any turn
 

@@ -34,7 +34,8 @@ use Rattle.world_base.specs.StepLaws.{set-there}
 use Rattle.world_base.specs.Stops.{Draws, Fails, IsBelowNumbers, IsFreeRestart, Opens, WorldEvent, WorldRun, after_opening, is_restart_of, opened_at, restart_line, swept}
 use Rattle.run_base.specs.Sweeps.{is_left_by, is_lost_by, lives_of, sweeping-is_done, sweeps-are_of_lives}
 use Rattle.world_base.specs.Stops.{Begins, Goes, reset_letter}
-use Rattle.world_upheld.specs.upheld.Runs.{runs-are_upheld}
+use Rattle.world_upheld.specs.upheld.Runs.{runs-have_grounds}
+use Rattle.world_upheld.specs.upheld.BeginVersions.{begins-well}
 
 -- ---- worlds that were reached
 
@@ -194,7 +195,7 @@ module _ {S C : Type 0} (durable : S → Option Durable) (state : S → State) (
     drawn = record w { numbers = record w.numbers { restarts = w.numbers.restarts + 1 } }
 
     below : All (IsBelowNumbers w.numbers) w.lines
-    below = (runs-are_upheld r reached.opening reached.first w reached.begins.form reached.begins.begins reached.run).1.lives.drawn
+    below = (runs-have_grounds r reached.opening reached.first w reached.begins.form (begins-well r reached.opening reached.first reached.begins.begins) reached.run).1.lives.drawn
 
     rises : (ls : List Line) → All (IsBelowNumbers w.numbers) ls → All (IsBelowNumbers drawn.numbers) ls
     rises [] all = All-nil (IsBelowNumbers drawn.numbers)

@@ -1,4 +1,5 @@
 -- What goes to a target that runs it can hear.
+use Rattle.world_upheld.specs.upheld.BeginVersions.{begins-well}
 use Rattle.std.specs.Prelude.{ℕ, ◌≡◌, ◌∷◌, All, true, false, List, Option, Some, None, refl}
 use Rattle.std.proofs.Common.{inl, inr, sym, ◌∙◌, ap, subst}
 use Rattle.base_messages.specs.declared.message.Message.{Message}
@@ -94,7 +95,7 @@ module _ {S C : Type 0} (durable : S → Option Durable) (state : S → State) (
         let y = g.reached found (found-some durable state may findable a (λ z. tell z.store)) in
         let s = target-there durable state g.rules found a y.now t x Running y.shows place in
         let among = subst (λ ls. Has l ls) y.shows.messages picked-among in
-        let heard = runs-can_hear_all g.rules g.opening g.first y.now l t s.s g.begins.form g.begins.begins y.run (contains-from_has y.now.messages l among) picked.to_it s.here s.is.lives in
+        let heard = runs-can_hear_all g.rules g.opening g.first y.now l t s.s g.begins.form (begins-well g.rules g.opening g.first g.begins.begins) y.run (contains-from_has y.now.messages l among) picked.to_it s.here s.is.lives in
         let same : s.s.durable ≡ d = let e : Some s.s.durable ≡ Some d = sym s.is.so.told ∙ told in cc in
         subst (λ p. target_core.CanHear p l.message d) (sym s.is.made) (can-hear g.rules t d l (subst (λ e. CanHearLetter g.rules t e l) same heard))
 

@@ -1,4 +1,5 @@
 -- What a turn of any actor leads to, and that a target can have its turn.
+use Rattle.world_upheld.specs.upheld.BeginVersions.{begins-well}
 use Rattle.std.specs.Prelude.{ℕ, ◌≡◌, ◌<◌, ◌+◌, ◌^◌, Bool, IfOk, slice_get, Option, Some, is_some, Err}
 use Rattle.std.proofs.Common.{sym, ◌∙◌, ap, subst, arith}
 use Rattle.daos_model.specs.declared.durable.Durable.{Durable}
@@ -90,7 +91,7 @@ module _ {S C : Type 0} (durable : S → Option Durable) (state : S → State) (
         let y = g.reached found (found-with durable state may findable a (λ z. all z.store) t x e at m) in
         let s = target-there durable state g.rules found a y.now t x Stopped y.shows (record { there = at; stands = stopped }) in
         let same : s.s.durable ≡ e = s.is.so.keeps ∙ chosen t e (some-found durable state may findable a (λ z. all z.store)) in
-        record { versions = subst (λ k. IsCovered k) same (all-runs-are_covered g.rules g.opening g.first y.now g.begins.form g.begins.begins y.run t s.s s.here).versions; leased = omega arith }
+        record { versions = subst (λ k. IsCovered k) same (all-runs-are_covered g.rules g.opening g.first y.now g.begins.form (begins-well g.rules g.opening g.first g.begins.begins) y.run t s.s s.here).versions; leased = omega arith }
 
     -- it can: it hears what it is to hear, and what may be found of it where it is stopped is counted and covered
     pub can-turn : (number : ℕ) → CanTurn durable state may a t number x

@@ -17,7 +17,7 @@ use Rattle.world_legal.specs.reasons.Accounted.{stored_over}
 use Rattle.world_letters.specs.lines.LastLines.{AreDone}
 use Rattle.world_plain.specs.whole.Begins.{held_at}
 use Rattle.world_plain.specs.whole.Everything.{AreBefore}
-use Rattle.world_upheld.specs.explained.Explanations.{Explanations, HoldNoMoreSnapshots}
+use Rattle.world_upheld.specs.explained.Explanations.{Explained, HoldNoMoreSnapshots}
 use Rattle.world_upheld.specs.upheld.Begins.{AreRulesInForm, RunBeginsWith}
 use Rattle.world_closing.specs.asked.Collections.{CollectionsAreAsked}
 use Rattle.world_closing.specs.asked.Over.{IsAllOver}
@@ -55,16 +55,16 @@ AllEndedRunsAreOver = (r : Rules) (o : Opening) (w v : World) → AreRulesInForm
 -- what is explained goes on, at any moment, in a history in which just the resolved attempts are decided
 abbrev pub ExplainedResolve : Type 0
 ExplainedResolve =
-    (r : Rules) (o : Opening) (held : ℕ → List Version) (h : History) (stored : Stored) (v : World) → AreRulesInForm r → AreBefore o held → Explanations r o held h stored v → Resolves r o held h v
+    (r : Rules) (o : Opening) (held : ℕ → List Version) (h : History) (stored : Stored) (v : World) → AreRulesInForm r → AreBefore o held → Explained r o held h stored v → Resolves r o held h v
 
 -- and where all clients are done it is known what became of attempts
 abbrev pub ExplainedConclude : Type 0
 ExplainedConclude =
-    (r : Rules) (o : Opening) (held : ℕ → List Version) (h : History) (stored : Stored) (v : World) → AreRulesInForm r → AreBefore o held → Explanations r o held h stored v → AreDone r v
+    (r : Rules) (o : Opening) (held : ℕ → List Version) (h : History) (stored : Stored) (v : World) → AreRulesInForm r → AreBefore o held → Explained r o held h stored v → AreDone r v
     → Concluded r o held h v
 
 -- so it is where a run has ended, of the history that is explained
 abbrev pub AllEndedRunsConclude : Type 0
 AllEndedRunsConclude =
     (r : Rules) (o : Opening) (w v : World) → AreRulesInForm r → RunBeginsWith r o w → HoldNoMoreSnapshots o w → (run : WorldRun r w v) → HasEnded r v
-    → (h : History) × Explanations r o (held_at w) h (stored_over r run) v × Concluded r o (held_at w) h v
+    → (h : History) × Explained r o (held_at w) h (stored_over r run) v × Concluded r o (held_at w) h v

@@ -73,14 +73,14 @@ KnownConclude = (r : Rules) (o : Opening) (held : ℕ → List Version) (h : His
 
 pub upheld-known : UpheldAreKnown
 upheld-known r o held h v A before k = record {
-  given = all-heard_right r o held h v before k.heard;
-  entries = record { targets = k.heard.many; some = A.some_target; few = A.few_targets; entries = λ x. (k.heard.attempts.on.each x).entries };
-  attempts = k.heard.attempts;
-  epochs = k.heard.epochs;
-  versions = k.versions;
-  reads = k.reads;
-  writes = k.writes;
-  outcomes = k.outcomes;
+  given = all-heard_right r o held h v before k.grounds.heard;
+  entries = record { targets = k.grounds.heard.many; some = A.some_target; few = A.few_targets; entries = λ x. (k.grounds.heard.attempts.on.each x).entries };
+  attempts = k.grounds.heard.attempts;
+  epochs = k.grounds.heard.epochs;
+  versions = k.contents.versions;
+  reads = k.contents.reads;
+  writes = k.grounds.writes;
+  outcomes = k.grounds.outcomes;
 }
 
 -- ---- the entries of all targets

@@ -1,14 +1,13 @@
 -- From its beginning to where it has ended: who is waited for is asked, a run is over, and what became of attempts is known.
-use Rattle.std.specs.Prelude.{ℕ, ◌≡◌, ◌≤◌, List, length, slice_get, Option, Some, None, refl}
+use Rattle.std.specs.Prelude.{◌≡◌, ◌≤◌, length, slice_get, Option, Some, None, refl}
 use Rattle.std.proofs.Common.{sym, ◌∙◌, ap, subst}
-use Rattle.daos_model.specs.declared.durable.Version.{Version}
 use Rattle.daos_model.specs.FormLaws.{length-map}
 use Rattle.daos_model.specs.Opening.{Opening}
 use Rattle.dtx_base.specs.Leading.{undecided_attempt}
 use Rattle.dtx_base.specs.Rows.{row_of}
 use Rattle.model_laws.specs.Members.{Has}
 use Rattle.world_commit.specs.attempts.Attempts.{inc_at, leader_of, row_in}
-use Rattle.world_commit.specs.attempts.History.{History}
+use Rattle.world_commit.specs.attempts.History.{GrowsBy, History}
 use Rattle.world_base.specs.declared.target.TargetState.{TargetState}
 use Rattle.world_base.specs.declared.world.World.{World}
 use Rattle.world_base.specs.Ended.{HasEnded}
@@ -26,9 +25,11 @@ use Rattle.world_legal.specs.closing.Waited.{WaitersAreAsked}
 use Rattle.world_legal.specs.reasons.Accounted.{stored_over}
 use Rattle.world_legal.specs.reasons.Knowing.{DownsAreKnown}
 use Rattle.world_plain.specs.whole.Begins.{held_at}
-use Rattle.world_plain.specs.whole.Everything.{AreBefore}
-use Rattle.world_upheld.specs.explained.Explanations.{Explanations, HoldNoMoreSnapshots}
-use Rattle.world_upheld.specs.explained.Runs.{runs-have_explanations}
+use Rattle.world_upheld.specs.explained.Explanations.{HoldNoMoreSnapshots, upheld_of}
+use Rattle.world_upheld.specs.explained.Runs.{runs-are_explained}
+use Rattle.world_upheld.specs.reasons.Runs.{runs-are_accounted}
+use Rattle.world_upheld.specs.upheld.BeginVersions.{begins-well}
+use Rattle.world_commit.specs.statuses.Events.{told_by}
 use Rattle.world_upheld.specs.reasons.Accounted.{AccountedFor}
 use Rattle.world_upheld.specs.reasons.Events.{accounted-then}
 use Rattle.world_upheld.specs.upheld.Begins.{AreRulesInForm, RunBeginsWith, client_begins}
@@ -72,24 +73,25 @@ record AreAllAsked (r : Rules) (w : World) : Type 0 where
   waiters : WaitersAreAsked r w
   collections : CollectionsAreAsked r w
 
-module _ (r : Rules) (o : Opening) (held : ℕ → List Version) (h : History) (stored : Stored) (w v : World) (A : AreRulesInForm r) (before : AreBefore o held) (gone : NoneGoesToGivenUp w) (k : AccountedFor r o held h stored w) (asked : AreAllAsked r w) (e : WorldEvent r w v) where
-  asking : AreAsking r h (stands.later r o held h w v A.some_attempt before k.upheld e) w e.u
+module _ (r : Rules) (o : Opening) (h later : History) (stored : Stored) (w v : World) (A : AreRulesInForm r) (gone : NoneGoesToGivenUp w) (k : AccountedFor r o h stored w) (asked : AreAllAsked r w) (e : WorldEvent r w v)
+    (grows : GrowsBy h (told_by e.happens) later) where
+  asking : AreAsking r h later w e.u
   asking =
-      let s = k.upheld in
-      let then' = accounted-then r o held h stored w v A before k e in
-      let right = stands.right r o held h w v A.some_attempt before s e in
+      let s = k.grounds in
+      let then' = accounted-then r o h later stored w v A k e grows in
+      let right = stands.right r o h later w v A.some_attempt s e grows in
       record {
         some = A.some_target;
         targets = s.heard.many;
         targets_then = ap (λ x. length x.targets) (sym e.after) ∙ (event-many r w v e ∙ s.heard.many);
         attempts = s.heard.attempts;
-        attempts_then = stands.attempts-happened r o held h w v A.some_attempt before s e;
+        attempts_then = stands.attempts-happened r o h later w v A.some_attempt s e grows;
         right = right;
         senders = s.senders;
         commits = commits-find r h w s.heard.attempts right;
         gone = gone;
         lives = s.lives;
-        lives_then = unswept e.u (subst Lives e.after then'.upheld.lives);
+        lives_then = unswept e.u (subst Lives e.after then'.grounds.lives);
         downs = k.knows;
         downs_then = subst DownsAreKnown e.after then'.knows;
         asked = asked.waiters;
@@ -97,15 +99,15 @@ module _ (r : Rules) (o : Opening) (held : ℕ → List Version) (h : History) (
 
   asked-on : AreAllAsked r v
   asked-on = record {
-    waiters = all-events-ask r h (stands.later r o held h w v A.some_attempt before k.upheld e) w v e asking;
-    collections = all-events-ask_others r h (stands.later r o held h w v A.some_attempt before k.upheld e) w v k.upheld.heard.attempts e asking.attempts_then asked.collections;
+    waiters = all-events-ask r h later w v e asking;
+    collections = all-events-ask_others r h later w v k.grounds.heard.attempts e asking.attempts_then asked.collections;
   }
 
 runs-ask : (r : Rules) (o : Opening) (w v : World) → AreRulesInForm r → RunBeginsWith r o w → HoldNoMoreSnapshots o w → WorldRun r w v → AreAllAsked r v
 runs-ask r o w v A B few Begins = record { waiters = none-waited r o w B; collections = nothing-collected r w (λ t s here. (B.starts t s here).collecting) }
 runs-ask r o w v A B few (Goes u x run e) =
-    let k = runs-have_explanations r o w u A B few run in
-    asked-on r o (held_at w) k.0 (stored_over r run) u v A (held-first r o w A B) (runs-send_none r o w u B run) k.1.reasons.accounted (runs-ask r o w u A B few run) e
+    let k = runs-are_accounted r o w u A (begins-well r o w B) run in
+    asked-on r o k.0 (stands.later-with k.0 (told_by e.happens)) (stored_over r run) u v A (runs-send_none r o w u B run) k.1 (runs-ask r o w u A B few run) e (stands.grows-with k.0 (told_by e.happens))
 
 pub runs-ask_for_waiters : AllRunsAskForWaiters
 runs-ask_for_waiters r o w v A B few run = (runs-ask r o w v A B few run).waiters
@@ -118,21 +120,21 @@ runs-ask_for_collections r o w v A B few run = (runs-ask r o w v A B few run).co
 pub still-all_over : AllStillRunsAreOver
 still-all_over r o w v A B few run still = is-all_over r k.0 v under_way still
   where
-    k : (h : History) × Explanations r o (held_at w) h (stored_over r run) v
-    k = runs-have_explanations r o w v A B few run
+    k : (h : History) × AccountedFor r o h (stored_over r run) v
+    k = runs-are_accounted r o w v A (begins-well r o w B) run
 
     under_way : IsUnderWay r k.0 v
     under_way =
-        let s = k.1.reasons.accounted in
+        let s = k.1 in
         let asked = runs-ask r o w v A B few run in
         record {
           some = A.some_target;
           all = runs-have_all r o w v B run;
-          attempts = s.upheld.heard.attempts;
-          questions = s.upheld.heard.questions;
-          talk = s.upheld.heard.talk;
-          rows = s.upheld.rows;
-          lines = s.upheld.lines;
+          attempts = s.grounds.heard.attempts;
+          questions = s.grounds.heard.questions;
+          talk = s.grounds.heard.talk;
+          rows = s.grounds.rows;
+          lines = s.grounds.lines;
           knows = s.knows;
           gone = runs-send_none r o w v B run;
           asked = asked.waiters;
@@ -149,12 +151,12 @@ ended-all_over r o w v A B few run ended = still-all_over r o w v A B few run (s
 -- ---- what became of attempts
 
 pub explained-resolve : ExplainedResolve
-explained-resolve r o held h stored v A before k = known-resolve r o held h v (upheld-known r o held h v A before k.reasons.accounted.upheld)
+explained-resolve r o held h stored v A before k = known-resolve r o held h v (upheld-known r o held h v A before (upheld_of k))
 
 pub explained-conclude : ExplainedConclude
-explained-conclude r o held h stored v A before k done = known-conclude r o held h v (upheld-known r o held h v A before k.reasons.accounted.upheld) done
+explained-conclude r o held h stored v A before k done = known-conclude r o held h v (upheld-known r o held h v A before (upheld_of k)) done
 
 pub ended-conclude : AllEndedRunsConclude
 ended-conclude r o w v A B few run ended =
-    let k = runs-have_explanations r o w v A B few run in
+    let k = runs-are_explained r o w v A B few run in
     (k.0, k.1, explained-conclude r o (held_at w) k.0 (stored_over r run) v A (held-first r o w A B) k.1 (ended-all_over r o w v A B few run ended).over.done)

@@ -28,12 +28,16 @@ HasSmallCounts (line.Restart number target incarnation floor) = (number < 2 ^ 32
 HasSmallCounts (line.Aggregate number target cont upto) = number < 2 ^ 32
 HasSmallCounts l = Unit {0}
 
--- what is asked of a run besides: names and keys are keys, a command has at most 256 attempts, and numbers of lines are small
-pub record IsKeyedRun (g : Given) (v : World) : Type 0 where
+-- what is asked of a run besides: names and keys of the script are keys, a command has at most 256 attempts, and numbers of lines are small
+pub record IsSmallRun (g : Given) (v : World) : Type 0 where
   pub script : ScriptHasKeys g.script
-  pub opening : StandHasKeys g.opening.stand
   pub byte : g.job.attempts ≤ 256
   pub counts : (l : Line) → Has l v.lines → HasSmallCounts l
+
+-- and keys of the cells that the opening stands for are keys
+pub record IsKeyedRun (g : Given) (v : World) : Type 0 where
+  pub small : IsSmallRun g v
+  pub opening : StandHasKeys g.opening.stand
 
 -- At each moment of a run of a script in form the text of the report of its lines so far determines that report: targets may stop, open again and
 -- be given up, snapshots be made and read, and containers aggregated.

@@ -52,7 +52,7 @@ minor-keys : (n : ℕ) (a : Act) → HasKeys (act_path a) → All WriteHasKeys (
 minor-keys n (Fetch r) k = All-nil WriteHasKeys
 minor-keys n (Change w) k = All-cons WriteHasKeys w [] k (All-nil WriteHasKeys)
 
-minors-keys : (n : ℕ) (ops : List Op) → All OpHasKeys ops → All WriteHasKeys (map write_of (minor_writes n ops))
+pub minors-keys : (n : ℕ) (ops : List Op) → All OpHasKeys ops → All WriteHasKeys (map write_of (minor_writes n ops))
 unfolding minor_writes
 minors-keys n [] k = All-nil WriteHasKeys
 minors-keys n (op ∷ ops) k =

@@ -26,7 +26,6 @@ use Rattle.world_contents.specs.gots.Gots.{IsLineServed}
 use Rattle.world_contents.specs.gots.ToldLaws.{lines-right}
 use Rattle.world_contents.specs.reads.Transactions.{transactions}
 use Rattle.world_legal.specs.closing.Closing.{report_over}
-use Rattle.world_legal.specs.forming.Epochs.{issued-short}
 use Rattle.world_legal.specs.forming.Ids.{issued-id, told-id}
 use Rattle.world_legal.specs.forming.Outcomes.{AreShort}
 use Rattle.world_legal.specs.reasons.Accounted.{stored_over}
@@ -41,13 +40,15 @@ use Rattle.world_plain.specs.whole.Begins.{held_at}
 use Rattle.world_plain.specs.whole.ScriptForm.{ops-few}
 use Rattle.world_upheld.specs.causing.Dates.{issued-own}
 use Rattle.world_upheld.specs.causing.OverDates.{CausesOverDates, later-reads_issued}
-use Rattle.world_upheld.specs.explained.Explanations.{Explanations}
-use Rattle.world_upheld.specs.explained.Runs.{runs-have_explanations}
+use Rattle.world_upheld.specs.explained.Explanations.{Explained, Explanations}
+use Rattle.world_upheld.specs.explained.Runs.{runs-are_explained}
+use Rattle.world_upheld.specs.hearing.Leases.{AllKeepCovered, all-runs-are_covered}
+use Rattle.world_upheld.specs.upheld.BeginVersions.{begins-well}
 use Rattle.world_upheld.specs.upheld.Begins.{AreRulesInForm}
-use Rattle.world_upheld.specs.upheld.Upheld.{Upheld}
-use Rattle.world_closing.specs.forming.Epochs.{HasShortEpochs, upheld-lines-are-short}
+use Rattle.world_upheld.specs.upheld.Upheld.{Grounds}
+use Rattle.world_closing.specs.forming.Epochs.{HasShortEpochs, all-lines-are-short, issued-short}
 use Rattle.world_closing.specs.forming.Fit.{AreLinesFit, its-line}
-use Rattle.world_closing.specs.forming.Forming.{AllRunsReportInForm, IsKeyedRun}
+use Rattle.world_closing.specs.forming.Forming.{AllRunsReportInForm, IsKeyedRun, IsSmallRun}
 use Rattle.world_closing.specs.forming.Keys.{decided-keys, read-keys}
 use Rattle.world_closing.specs.forming.Making.{aggregate-form, freeze-form, snapshot-form}
 use Rattle.world_closing.specs.forming.Outcomes.{stands-form}
@@ -55,18 +56,22 @@ use Rattle.world_closing.specs.legal.Reads.{seen-dkeys}
 use Rattle.world_closing.specs.stands.Stands.{HoldsOpenings}
 use Rattle.world_closing.specs.Whole.{opens-with_dkeys}
 
-module _ (g : Given) (held : ℕ → List Version) (stored : Stored) (h : History) (w v : World) (A : AreRulesInForm (rules_of g)) (holds : HoldsOpenings g.opening w) (k : Explanations (rules_of g) g.opening held h stored v) (keyed : IsKeyedRun g v) where
+-- what lines tell that attempts were answered is such as a text determines
+abbrev pub AnswersHaveForm : World → Type 0
+AnswersHaveForm v = (a : Attempt) → Has a (tries v.lines) → All IsGot a.gots × All IsCond a.conds
+
+module _ (g : Given) (stored : Stored) (h : History) (v : World) (A : AreRulesInForm (rules_of g)) (k : Explanations (rules_of g) g.opening h stored v) (covered : AllKeepCovered v) (keyed : IsSmallRun g v) (told : AnswersHaveForm v) where
   abbrev r : Rules
   r = rules_of g
 
-  u : Upheld r g.opening held h v
-  u = k.reasons.accounted.upheld
+  u : Grounds r g.opening h v
+  u = k.reasons.accounted.grounds
 
   few : g.script.targets < 2 ^ 8
   few = let low : g.script.targets ≤ 64 = A.few_targets in omega (arith, low)
 
   epochs-short : (l : Line) → Has l v.lines → HasShortEpochs l
-  epochs-short l i = upheld-lines-are-short r g.opening held h v A.some_target u l i
+  epochs-short l i = all-lines-are-short r g.opening h stored v A.some_target k.reasons.accounted covered l i
 
   -- ---- lines that tell of targets
 
@@ -113,14 +118,8 @@ module _ (g : Given) (held : ℕ → List Version) (stored : Stored) (h : Histor
   short : AreShort v.issued
   short = record {
     id = issued-id r A.form A.some_attempt keyed.byte v u.lines (top g.opening) u.heard.epochs;
-    epoch = issued-short r g.opening held h v u.heard.epochs u.versions;
+    epoch = issued-short r g.opening h stored v A.some_target k.reasons.accounted covered;
   }
-
-  told : (a : Attempt) → Has a (tries v.lines) → All IsGot a.gots × All IsCond a.conds
-  told a i =
-      told-form g.script.objs (attempt_ops g.script a.id) (map_read g.script g.opening.stand (taken_in (transactions g.script h)) a a.epoch) a (ops-few g.script.targets g.script a.id A.form) (ops-form g.script.targets g.script a.id A.form)
-      (λ m is. read-keys g.script g.opening.stand (taken_in (transactions g.script h)) a a.epoch m keyed.opening (λ e. as_of-keys g.opening.stand (taken_in (transactions g.script h)) e keyed.opening.now (decided-keys g.script h.decided keyed.script)) is)
-      (lines-right r g.opening h g.script.targets a A.form u.reads.answers (seen-dkeys r g.opening h A.form (opens-with_dkeys g.opening w holds)) (has-all (IsLineServed r h) (tries v.lines) a u.heard.gots.lines i))
 
   -- it ended as it was answered
   ended : (a : Attempt) → Has a (tries v.lines) → EndsAsAnswered (client_plan r a.id.client) a
@@ -163,10 +162,20 @@ module _ (g : Given) (held : ℕ → List Version) (stored : Stored) (h : Histor
   line-form (line.Aggregate n t cont upto) i = other-form (line.Aggregate n t cont upto) i refl
   line-form (line.Down t) i = other-form (line.Down t) i refl
 
-  report-form : IsReportOf g.script (report_over r v)
+  pub report-form : IsReportOf g.script (report_over r v)
   report-form = record { targets = few; lines = all-from_has (IsLineOf g.script) v.lines line-form; down = sym (down-is v.lines) }
+
+-- ---- where targets stand for the opening
+
+told-right : (g : Given) (held : ℕ → List Version) (stored : Stored) (h : History) (w v : World) → AreRulesInForm (rules_of g) → HoldsOpenings g.opening w → Explained (rules_of g) g.opening held h stored v → IsKeyedRun g v
+    → AnswersHaveForm v
+told-right g held stored h w v A holds k keyed a i =
+    told-form g.script.objs (attempt_ops g.script a.id) (map_read g.script g.opening.stand (taken_in (transactions g.script h)) a a.epoch) a (ops-few g.script.targets g.script a.id A.form) (ops-form g.script.targets g.script a.id A.form)
+    (λ m is. read-keys g.script g.opening.stand (taken_in (transactions g.script h)) a a.epoch m keyed.opening (λ e. as_of-keys g.opening.stand (taken_in (transactions g.script h)) e keyed.opening.now (decided-keys g.script h.decided keyed.small.script)) is)
+    (lines-right (rules_of g) g.opening h g.script.targets a A.form k.contents.reads.answers (seen-dkeys (rules_of g) g.opening h A.form (opens-with_dkeys g.opening w holds)) (has-all (IsLineServed (rules_of g) h) (tries v.lines) a k.contents.gots.lines i))
 
 pub all-runs-report_in_form : AllRunsReportInForm
 all-runs-report_in_form g w v A B some holds run keyed =
-    let k = runs-have_explanations (rules_of g) g.opening w v A B some run in
-    report-form g (held_at w) (stored_over (rules_of g) run) k.0 w v A holds k.1 keyed
+    let k = runs-are_explained (rules_of g) g.opening w v A B some run in
+    report-form g (stored_over (rules_of g) run) k.0 v A k.1.explanations (all-runs-are_covered (rules_of g) g.opening w v A (begins-well (rules_of g) g.opening w B) run) keyed.small
+    (told-right g (held_at w) (stored_over (rules_of g) run) k.0 w v A holds k.1 keyed)

@@ -22,9 +22,10 @@ use Rattle.world_plain.specs.ends.Ends.{durables_of, rules_of}
 use Rattle.world_plain.specs.ends.LinesApart.{lines-apart}
 use Rattle.world_plain.specs.whole.Begins.{held_at}
 use Rattle.world_upheld.specs.explained.Explanations.{HoldNoMoreSnapshots}
-use Rattle.world_upheld.specs.explained.Runs.{runs-have_explanations}
+use Rattle.world_upheld.specs.explained.Runs.{runs-are_explained}
 use Rattle.world_upheld.specs.upheld.Begins.{AreRulesInForm, RunBeginsWith}
-use Rattle.world_upheld.specs.upheld.Runs.{runs-are_upheld}
+use Rattle.world_upheld.specs.upheld.Runs.{runs-have_grounds}
+use Rattle.world_upheld.specs.upheld.BeginVersions.{begins-well}
 use Rattle.world_closing.specs.legal.Following.{HoldsKept}
 use Rattle.world_closing.specs.legal.Headline.{reports-are_legal}
 use Rattle.world_closing.specs.legal.Moments.{runs-issue_once, runs-name}
@@ -37,7 +38,7 @@ abbrev pub AllEndsAreInTurn : Type 0
 AllEndsAreInTurn = (g : Given) (w v : World) → AreRulesInForm (rules_of g) → RunBeginsWith (rules_of g) g.opening w → WorldRun (rules_of g) w v → IsOver (rules_of g) v → AllInTurn g.job.attempts g.script v.lines
 
 pub ends-in_turn : AllEndsAreInTurn
-ends-in_turn g w v A B run over = lines-in-turn (rules_of g) v (runs-are_upheld (rules_of g) g.opening w v A B run).1.lines over.done over.clients
+ends-in_turn g w v A B run over = lines-in-turn (rules_of g) v (runs-have_grounds (rules_of g) g.opening w v A (begins-well (rules_of g) g.opening w B) run).1.lines over.done over.clients
 
 -- and of each attempt there is one line
 abbrev pub AllEndsHaveLines : Type 0
@@ -46,7 +47,7 @@ AllEndsHaveLines = (g : Given) (w v : World) → AreRulesInForm (rules_of g) →
 pub ends-have_lines : AllEndsHaveLines
 ends-have_lines g w v A B run over = record {
   reads = snapshots-read (rules_of g) g.script.targets A.form;
-  distinct = (runs-are_upheld (rules_of g) g.opening w v A B run).1.heard.epochs.distinct.distinct;
+  distinct = (runs-have_grounds (rules_of g) g.opening w v A (begins-well (rules_of g) g.opening w B) run).1.heard.epochs.distinct.distinct;
   apart = lines-apart g.job.attempts g.script v.lines (ends-in_turn g w v A B run over);
 }
 
@@ -69,7 +70,7 @@ pub record BeginsWhole (g : Given) (w : World) : Type 0 where
 
 -- what was decided, aborted and served at the end of a run
 abbrev pub history_of : (g : Given) (w v : World) → BeginsWhole g w → WorldRun (rules_of g) w v → History
-history_of g w v b run = (runs-have_explanations (rules_of g) g.opening w v b.form b.begins b.few run).0
+history_of g w v b run = (runs-are_explained (rules_of g) g.opening w v b.form b.begins b.few run).0
 
 -- Where stops and given up targets were caused from outside, and the numbers of restarts and aggregations are counted by the lines if turns are
 -- taken in a stated order, the report of the lines is legal in each part; and the targets stand for what it tells.
@@ -81,7 +82,7 @@ KnownEndsAreLegal =
 pub known-ends_legal : KnownEndsAreLegal
 known-ends_legal g outside w v b run k caused counted = record {
   told = reports-are_legal g outside (held_at w) (history_of g w v b run) (stored_over r run) v b.form b.dkeys (record {
-    explained = (runs-have_explanations r g.opening w v b.form b.begins b.few run).1;
+    explained = (runs-are_explained r g.opening w v b.form b.begins b.few run).1;
     names = runs-name r g.opening w v b.form b.begins b.held run;
     once = runs-issue_once r g.opening w v b.form b.begins run;
     targets = (runs-as_many r w v run).targets ∙ b.begins.targets;

@@ -26,7 +26,7 @@ use Rattle.world_plain.specs.ends.Ends.{durables_of, rules_of}
 use Rattle.world_plain.specs.ends.LinesApart.{lines-apart}
 use Rattle.world_upheld.specs.causing.Dates.{with_dates}
 use Rattle.world_upheld.specs.causing.OverDates.{CausesOverDates, later-reads_issued}
-use Rattle.world_upheld.specs.explained.Explanations.{Explanations}
+use Rattle.world_upheld.specs.explained.Explanations.{Explained, upheld_of}
 use Rattle.world_upheld.specs.upheld.Begins.{AreRulesInForm}
 use Rattle.world_closing.specs.Causes.{last-causes_show}
 use Rattle.world_closing.specs.legal.Naming.{ReadsNameSnapshots}
@@ -40,7 +40,7 @@ use Rattle.world_closing.specs.legal.Told.{EndsTold, ends-are_told}
 -- was issued one epoch once; there is a target for each number, and a client for each list; all clients are done, and no target is stopped; and
 -- what became of attempts is known.
 pub record IsOverSo (g : Given) (held : ℕ → List Version) (h : History) (stored : Stored) (v : World) : Type 0 where
-  pub explained : Explanations (rules_of g) g.opening held h stored v
+  pub explained : Explained (rules_of g) g.opening held h stored v
   pub names : ReadsNameSnapshots (rules_of g) g.opening v
   pub once : IssuedOnce v
   pub targets : length v.targets ≡ g.script.targets
@@ -54,7 +54,7 @@ module _ (g : Given) (outside : Outside) (held : ℕ → List Version) (h : Hist
   r = rules_of g
 
   over-dates : CausesOverDates r g.opening 0 stored v
-  over-dates = k.explained.causes 0 (omega arith)
+  over-dates = k.explained.explanations.causes 0 (omega arith)
 
   causes : Causes r g.opening stored (with_dates over-dates.dated v)
   causes = over-dates.causes
@@ -64,24 +64,24 @@ module _ (g : Given) (outside : Outside) (held : ℕ → List Version) (h : Hist
   wants a i how = let z = line-of v.lines a i in subst (OutcomeStands r g.opening stored over-dates.dated z.before a.id) how (causes.lines z.before a z.after z.among)
 
   outcomes : OutcomesHold g held h v
-  outcomes = record { upheld = k.explained.reasons.accounted.upheld; names = k.names; wants = wants; targets = k.targets; clients = k.clients; done = k.done; none_stopped = k.none_stopped }
+  outcomes = record { upheld = upheld_of k.explained; names = k.names; wants = wants; targets = k.targets; clients = k.clients; done = k.done; none_stopped = k.none_stopped }
 
   -- of each attempt there is one line
   pub are-lines : AreLines g.script v
   are-lines = record {
     reads = snapshots-read r g.script.targets A.form;
-    distinct = k.explained.reasons.accounted.upheld.heard.epochs.distinct.distinct;
+    distinct = k.explained.explanations.reasons.accounted.grounds.heard.epochs.distinct.distinct;
     apart = lines-apart g.job.attempts g.script v.lines (in-turn g outside held h v outcomes);
   }
 
   told : EndsTold g stored over-dates.dated v
   told = record {
     form = A.form;
-    epochs = k.explained.reasons.accounted.upheld.heard.epochs;
+    epochs = k.explained.explanations.reasons.accounted.grounds.heard.epochs;
     dates = over-dates.dates;
     once = k.once;
-    stored_once = k.explained.reasons.accounted.once.so;
-    later = later-reads_issued r g.opening stored v k.explained.reasons.accounted.upheld.heard.epochs (k.explained.causes 0 (omega arith)) (k.explained.causes 1 (omega arith));
+    stored_once = k.explained.explanations.reasons.accounted.once.so;
+    later = later-reads_issued r g.opening stored v k.explained.explanations.reasons.accounted.grounds.heard.epochs (k.explained.explanations.causes 0 (omega arith)) (k.explained.explanations.causes 1 (omega arith));
     done = k.done;
     in_turn = in-turn g outside held h v outcomes;
     names = k.names;
@@ -90,7 +90,7 @@ module _ (g : Given) (outside : Outside) (held : ℕ → List Version) (h : Hist
   module _ (caused : AreCaused g.script outside v) (counted : g.job.threads ≡ false → AreCountedSo v) where
     pub report-legal : Headline g outside (resolved (durables_of v)) (report_over r v)
     report-legal = record {
-      reads = reads-are_legal r g.opening held h v A.form opens k.explained.reasons.accounted.upheld.heard.gots k.concluded are-lines;
+      reads = reads-are_legal r g.opening held h v A.form opens k.explained.contents.gots k.concluded are-lines;
       outcomes = outcomes-are_legal g outside held h v outcomes caused counted;
       causes = last-causes_show g stored over-dates.dated v (ends-are_told g stored over-dates.dated v told) causes;
     }

@@ -7,12 +7,12 @@ use Rattle.world_base.specs.Events.{Rules}
 use Rattle.world_base.specs.Stops.{Begins, Goes, WorldRun}
 use Rattle.world_causes.specs.causes.IssuedOnce.{IssuedOnce}
 use Rattle.world_causes.specs.causes.Storing.{AreApart, dated_ids}
-use Rattle.world_plain.specs.whole.Begins.{held_at}
 use Rattle.world_standing.specs.standing.Clients.{ClientsSpeak}
 use Rattle.world_standing.specs.standing.Events.{decided-issued}
 use Rattle.world_upheld.specs.upheld.Begins.{AreRulesInForm, RunBeginsWith}
-use Rattle.world_upheld.specs.upheld.Runs.{runs-are_upheld, upheld-begins}
-use Rattle.world_upheld.specs.upheld.Upheld.{Upheld}
+use Rattle.world_upheld.specs.upheld.Runs.{grounds-begin, runs-have_grounds}
+use Rattle.world_upheld.specs.upheld.BeginVersions.{begins-well}
+use Rattle.world_upheld.specs.upheld.Upheld.{Grounds}
 use Rattle.world_closing.specs.Issued.{all-events-issue_once}
 use Rattle.world_closing.specs.legal.Following.{HoldsKept, all-events-name, runs-begin_named}
 use Rattle.world_closing.specs.legal.Naming.{ReadsNameSnapshots}
@@ -25,17 +25,17 @@ abbrev pub RunsIssueOnce : Type 0
 RunsIssueOnce = (r : Rules) (o : Opening) (w v : World) → AreRulesInForm r → RunBeginsWith r o w → WorldRun r w v → IssuedOnce v
 
 -- what clients say, at each moment
-speak : (r : Rules) (o : Opening) (held : _) (h : History) (w : World) → Upheld r o held h w → ClientsSpeak r (top o) h w
-speak r o held h w k = record { talk = k.heard.talk; endings = k.endings; lines = k.lines; epochs = k.heard.epochs; issued = decided-issued r h w k.heard.attempts; outcomes = k.outcomes }
+speak : (r : Rules) (o : Opening) (h : History) (w : World) → Grounds r o h w → ClientsSpeak r (top o) h w
+speak r o h w k = record { talk = k.heard.talk; endings = k.endings; lines = k.lines; epochs = k.heard.epochs; issued = decided-issued r h w k.heard.attempts; outcomes = k.outcomes }
 
 pub runs-name : RunsNameSnapshots
-runs-name r o w v A B held Begins = runs-begin_named r o w A B held (upheld-begins r o w A B).heard.freezings
+runs-name r o w v A B held Begins = runs-begin_named r o w A B held (grounds-begin r o w A (begins-well r o w B)).heard.freezings
 runs-name r o w v A B held (Goes u x run e) =
-    let k = runs-are_upheld r o w u A B run in
-    all-events-name r o k.0 u v A k.1.heard.attempts (speak r o (held_at w) k.0 u k.1) e (runs-name r o w u A B held run)
+    let k = runs-have_grounds r o w u A (begins-well r o w B) run in
+    all-events-name r o k.0 u v A k.1.heard.attempts (speak r o k.0 u k.1) e (runs-name r o w u A B held run)
 
 pub runs-issue_once : RunsIssueOnce
 runs-issue_once r o w v A B Begins = subst (λ is. AreApart (dated_ids is)) (sym B.issued) tt
 runs-issue_once r o w v A B (Goes u x run e) =
-    let k = runs-are_upheld r o w u A B run in
+    let k = runs-have_grounds r o w u A (begins-well r o w B) run in
     all-events-issue_once r (top o) k.0 u v k.1.heard.epochs k.1.heard.attempts e (runs-issue_once r o w u A B run)

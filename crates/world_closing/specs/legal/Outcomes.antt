@@ -59,32 +59,32 @@ module _ (g : Given) (outside : Outside) (held : ℕ → List Version) (h : Hist
   r = rules_of g
 
   pub in-turn : AllInTurn g.job.attempts g.script v.lines
-  in-turn = lines-in-turn r v k.upheld.lines k.done k.clients
+  in-turn = lines-in-turn r v k.upheld.grounds.lines k.done k.clients
 
   one : (a : Attempt) → Has a (tries v.lines) → ConditionsLegal g.script a
-  one a i = ends-right (attempt_ops g.script a.id) a a.outcome issued (ended-well r v a k.upheld.lines i)
+  one a i = ends-right (attempt_ops g.script a.id) a a.outcome issued (ended-well r v a k.upheld.grounds.lines i)
     where
       issued : a.outcome ≡ outcome.Committed → IsAnsweredWhole (attempt_ops g.script a.id) a → is_some a.epoch ≡ true
       issued committed whole = elim (k.names.dated a i committed) [
         | inl has ↦ has
         | inr runs ↦
-            whole-issued r h a (has-all (IsLineServed r h) (tries v.lines) a k.upheld.heard.gots.lines i)
-            (λ writes. let e = (k.upheld.outcomes.lines a (contains-from_has (tries v.lines) a i) writes).committed committed in (e.0, e.1))
-            (ops-some g.script a.id runs.0 runs.1 runs.2 k.upheld.heard.form runs.3) whole
+            whole-issued r h a (has-all (IsLineServed r h) (tries v.lines) a k.upheld.contents.gots.lines i)
+            (λ writes. let e = (k.upheld.grounds.outcomes.lines a (contains-from_has (tries v.lines) a i) writes).committed committed in (e.0, e.1))
+            (ops-some g.script a.id runs.0 runs.1 runs.2 k.upheld.grounds.heard.form runs.3) whole
       ]
 
   module _ (caused : AreCaused g.script outside v) (counted : g.job.threads ≡ false → AreCountedSo v) where
     stops : StopsLegal g.script g.job.threads outside (report_over r v)
-    stops = stops-legal g.script g.job.threads outside v k.upheld.lives k.none_stopped caused (report_over r v) refl k.targets counted refl
+    stops = stops-legal g.script g.job.threads outside v k.upheld.grounds.lives k.none_stopped caused (report_over r v) refl k.targets counted refl
 
     pub outcomes-legal : OutcomesLegal g outside (report_over r v)
     outcomes-legal = record {
       targets = refl;
       in_turn = in-turn;
-      issued = k.upheld.heard.epochs.distinct;
-      rising = k.upheld.heard.epochs.risen;
+      issued = k.upheld.grounds.heard.epochs.distinct;
+      rising = k.upheld.grounds.heard.epochs.risen;
       conditions = all-from_has (ConditionsLegal g.script) (tries v.lines) one;
-      snapshots = snapshots-are_legal r g.opening v k.upheld.heard.form k.upheld.heard.epochs k.done in-turn k.upheld.heard.makings k.upheld.heard.freezings k.names k.wants;
+      snapshots = snapshots-are_legal r g.opening v k.upheld.grounds.heard.form k.upheld.grounds.heard.epochs k.done in-turn k.upheld.grounds.heard.makings k.upheld.grounds.heard.freezings k.names k.wants;
       stops = stops;
     }
 

@@ -28,8 +28,8 @@ use Rattle.world_making.specs.freezings.Snapping.{created-frozen}
 use Rattle.world_making.specs.making.Snapshots.{holds_created}
 use Rattle.world_plain.specs.whole.Begins.{OpensWith}
 use Rattle.world_upheld.specs.upheld.Begins.{AreRulesInForm, RunBeginsWith}
-use Rattle.world_upheld.specs.upheld.BeginVersions.{frozen-before, same-row, snap-before}
-use Rattle.world_upheld.specs.upheld.Runs.{runs-are_upheld}
+use Rattle.world_upheld.specs.upheld.BeginVersions.{begins-well, frozen-before, same-row, snap-before}
+use Rattle.world_upheld.specs.upheld.Runs.{runs-have_grounds}
 use Rattle.world_standing.specs.standing.Covering.{AreAll}
 use Rattle.world_closing.specs.stands.Covered.{IsRowWithin, IsWithin, edge_over}
 use Rattle.world_closing.specs.stands.Created.{AreKeptBy}
@@ -64,7 +64,7 @@ module _ (r : Rules) (o : Opening) (w : World) (A : AreRulesInForm r) (B : RunBe
   -- which target one was before an event
   was : (u v : World) → WorldRun r w u → WorldEvent r u v → (t : ℕ) (z : TargetState) → slice_get v.targets t ≡ Some z → WasSnapped r u v t z
   was u v run e t z here =
-      let f = (runs-are_upheld r o w u A B run).1.heard in
+      let f = (runs-have_grounds r o w u A (begins-well r o w B) run).1.heard in
       all-events-snap_so r o f.few u v f.many (λ x a b i j. f.epochs.one x a b (contains-from_has u.issued (x, a) i) (contains-from_has u.issued (x, b) j)) f.makings f.freezings e t z here
 
   were-created : (v : World) → WorldRun r w v → WereCreated o w v
@@ -78,7 +78,7 @@ module _ (r : Rules) (o : Opening) (w : World) (A : AreRulesInForm r) (B : RunBe
           → (y : TargetState) × (slice_get w.targets 0 ≡ Some y) × (holds_created y.durable c s ≡ true)
       by (inl old) rest = rest old
       by (inr of) rest =
-          let high : top o < s.0 = (runs-are_upheld r o w v A B (Goes u x run e)).1.heard.epochs.above of.0 s (contains-from_has v.issued (of.0, s) of.1) in
+          let high : top o < s.0 = (runs-have_grounds r o w v A (begins-well r o w B) (Goes u x run e)).1.heard.epochs.above of.0 s (contains-from_has v.issued (of.0, s) of.1) in
           absurd (omega (arith, low, high))
 
   -- so the opening keeps its map
@@ -104,7 +104,7 @@ module _ (r : Rules) (o : Opening) (w : World) (A : AreRulesInForm r) (B : RunBe
       let enough : 0 < r.script.targets = A.some_target in
       let targets : length w.targets ≡ r.script.targets = B.targets in
       let z = at-within w.targets 0 (omega (arith, enough, targets)) in
-      frozen-before r o 0 z.0.durable (B.starts 0 z.0 z.1).opens (B.snapshots 0 z.0 z.1) s.cont s.epoch (created-frozen z.0.durable s.cont s.epoch ((k.snaps s i).created z.0 z.1))
+      frozen-before o z.0.durable ((begins-well r o w B).starts 0 z.0 z.1).keeps s.cont s.epoch (created-frozen z.0.durable s.cont s.epoch ((k.snaps s i).created z.0 z.1))
 
   -- ---- no epoch is above the opening when a run begins
 

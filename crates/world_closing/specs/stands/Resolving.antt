@@ -57,13 +57,13 @@ resolved_entries v = filter (is_resolved_in v) (entries_in v.targets)
 
 module _ (r : Rules) (o : Opening) (held : ℕ → List Version) (h : History) (v : World) (some : 0 < r.script.targets) (before : AreBefore o held) (k : Upheld r o held h v) where
   pub has-entries : HasEntries r h v
-  has-entries = record { targets = k.heard.many; some = some; few = k.heard.few; entries = λ x. (k.heard.attempts.on.each x).entries }
+  has-entries = record { targets = k.grounds.heard.many; some = some; few = k.grounds.heard.few; entries = λ x. (k.grounds.heard.attempts.on.each x).entries }
 
   pub given : Given r o held v
-  given = all-heard_right r o held h v before k.heard
+  given = all-heard_right r o held h v before k.grounds.heard
 
   pub one-epoch : (x : AttemptId) (e f : Epoch) → Has (x, e) v.issued → Has (x, f) v.issued → e ≡ f
-  one-epoch x e f i j = k.heard.epochs.one x e f (contains-from_has v.issued (x, e) i) (contains-from_has v.issued (x, f) j)
+  one-epoch x e f i j = k.grounds.heard.epochs.one x e f (contains-from_has v.issued (x, e) i) (contains-from_has v.issued (x, f) j)
 
   -- an entry that a target keeps is of its attempt
   pub its : (t : ℕ) (s : TargetState) (e : Entry) → slice_get v.targets t ≡ Some s → Has e s.durable.entries → IsItsEntry r v e.attempt t e
@@ -71,7 +71,7 @@ module _ (r : Rules) (o : Opening) (held : ℕ → List Version) (h : History) (
   its t s e here i = (has-entries.entries e.attempt).one t e found
     where
       found : entry_at v t e.attempt ≡ Some e
-      found = ap (λ y. entry_in y e.attempt) here ∙ row-found entry_attempt s.durable.entries e (k.heard.attempts.on.ordered t s here).entries i
+      found = ap (λ y. entry_in y e.attempt) here ∙ row-found entry_attempt s.durable.entries e (k.grounds.heard.attempts.on.ordered t s here).entries i
 
   may-end : (e : Entry) → Has e (resolved_entries v) → MayEnd r v e
   may-end e i = record {
@@ -82,7 +82,7 @@ module _ (r : Rules) (o : Opening) (held : ℕ → List Version) (h : History) (
       place = λ u q at. ((has-entries.entries e.attempt).one u q at).place;
     };
     issued = contains-from_has v.issued (e.attempt, e.epoch) own.issued;
-    some = k.writes t.0 z.0 e t.1 z.2;
+    some = k.grounds.writes t.0 z.0 e t.1 z.2;
   }
     where
       f : Has e (entries_in v.targets) × IsResolved v e.attempt
@@ -101,7 +101,7 @@ module _ (r : Rules) (o : Opening) (held : ℕ → List Version) (h : History) (
       held-all = resolved-held r h v has-entries e.attempt f.1
 
   pub ended : AreEnded r o held h v (resolved_entries v)
-  ended = end-all r o held h v given one-epoch k.versions k.reads (resolved_entries v) may-end
+  ended = end-all r o held h v given one-epoch k.contents.versions k.contents.reads (resolved_entries v) may-end
 
   pub only-resolved : (x : AttemptId) (e : Epoch) → Decided ended.later x e → IsResolved v x
   only-resolved x e d = elim (ended.only x e d) [

@@ -47,10 +47,10 @@ module _ (r : Rules) (o : Opening) (w v : World) (A : AreRulesInForm r) (B : Run
   stores : AreStores r o v
   stores = record {
     form = A.form;
-    targets = upheld.1.heard.many;
+    targets = upheld.1.grounds.heard.many;
     some = A.some_target;
     within = all-runs-stay_within (top o) r w v (first-within r o w A B) run;
-    freezings = upheld.1.heard.freezings;
+    freezings = upheld.1.grounds.heard.freezings;
     old = kept-then r o w A B v run;
   }
 
@@ -82,14 +82,14 @@ pub all-runs-keep_sound : AllRunsKeepSound
 all-runs-keep_sound r o w v A B sound run = stays-sound r o w v A B run sound
 
 pub all-runs-keep_floors : AllRunsKeepFloors
-all-runs-keep_floors r o w v A B run t s here x i = ((upheld r o w v A B run).1.versions.stand t s here).snapshots.floored x i
+all-runs-keep_floors r o w v A B run t s here x i = ((upheld r o w v A B run).1.contents.versions.stand t s here).snapshots.floored x i
 
 -- ---- in the end
 
 pub all-ends-stand : AllEndsStand
 all-ends-stand g w v h A B first run ended c apart =
-    stands-last g (held_at w) h v (given-now r o w v A B run) c (stores r o w v A B run) (holds-still r o w A B v run first) (opening-low r o w A B first) (upheld r o w v A B run).1.heard.talk
-    (upheld r o w v A B run).1.heard.requests (all-told r o w v A B run ended) apart
+    stands-last g (held_at w) h v (given-now r o w v A B run) c (stores r o w v A B run) (holds-still r o w A B v run first) (opening-low r o w A B first) (upheld r o w v A B run).1.grounds.heard.talk
+    (upheld r o w v A B run).1.grounds.heard.requests (all-told r o w v A B run ended) apart
   where
     r : Rules
     r = rules_of g

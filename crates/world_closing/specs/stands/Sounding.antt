@@ -93,11 +93,11 @@ module _ (r : Rules) (o : Opening) (held : ℕ → List Version) (h : History) (
       by (inl leads) =
           subst (λ m. has_target m t ≡ true) (sym y.members)
           (subst (λ n. has_target (members_of r e.attempt) n ≡ true) (sym leads)
-          (leader-among (writes_of r e.attempt) r (λ m j. (given r o held h v some before k).fits e.attempt m (contains-from_has (writes_of r e.attempt) m j)) (k.writes t s e here i)))
+          (leader-among (writes_of r e.attempt) r (λ m j. (given r o held h v some before k).fits e.attempt m (contains-from_has (writes_of r e.attempt) m j)) (k.grounds.writes t s e here i)))
       by (inr other) = and_left (has_target e.members t) (not (t == e.leader)) (is-other_same r e.attempt e t y.leader y.members other)
 
   stand : (t : ℕ) (s : TargetState) → slice_get v.targets t ≡ Some s → VersionsStand r o (held t) h t s.durable
-  stand t s here = k.versions.stand t s here
+  stand t s here = k.contents.versions.stand t s here
 
   sound-at : (t : ℕ) (s : TargetState) → slice_get v.targets t ≡ Some s → IsSoundAt (durables_of v) t s.durable
   sound-at t s here = record {

@@ -1,0 +1,109 @@
+-- What holds between any two events of any run, whatever its targets' versions stood for when it began: by this what targets are asked can be
+-- heard, leases cover what they keep, the report is in form and tells of commands in turn, and answers are of their reads' kinds. The statements.
+use Rattle.std.specs.Prelude.{ℕ, ◌≡◌, ◌++◌, [], slice_get, Contains, Some}
+use Rattle.daos_model.specs.declared.durable.Durable.{Durable}
+use Rattle.daos_model.specs.Opening.{Given, Opening}
+use Rattle.report_writer.specs.Forms.{IsReportOf}
+use Rattle.script_traits.specs.Keyed.{ScriptHasKeys}
+use Rattle.world_answers.specs.Forms.{AnswersInForm, AsksAreInForm, TargetsHaveKeys}
+use Rattle.world_base.specs.declared.letter.Letter.{Letter}
+use Rattle.world_base.specs.declared.target.Life.TheVariants.{Running}
+use Rattle.world_base.specs.declared.target.TargetState.{TargetState}
+use Rattle.world_base.specs.declared.world.World.{World}
+use Rattle.world_base.specs.Events.{Rules, target_plan}
+use Rattle.world_base.specs.Letters.{target}
+use Rattle.world_base.specs.Stops.{WorldEvent, WorldRun}
+use Rattle.world_causes.specs.causes.Causes.{Stored}
+use Rattle.world_causes.specs.showing.Happening.{stored_in}
+use Rattle.world_commit.specs.attempts.History.{GrowsBy, History}
+use Rattle.world_commit.specs.statuses.Events.{told_by}
+use Rattle.world_contents.specs.posts.Forms.{IsInForm}
+use Rattle.world_ended.specs.Clients.{AllEndWell}
+use Rattle.world_legal.specs.closing.Closing.{report_over}
+use Rattle.world_legal.specs.reasons.Accounted.{stored_over}
+use Rattle.world_letters.specs.kinds.Fitting.{AllAnswersFit}
+use Rattle.world_plain.specs.ends.Ends.{rules_of}
+use Rattle.world_plain.specs.whole.Begins.{AreEnlisted, no_history}
+use Rattle.world_readers.specs.forms.Forms.{AllKeepInForm}
+use Rattle.world_readers.specs.kinds.Kinds.{AnswersFitInWorld}
+use Rattle.world_readers.specs.lines.InTurn.{AllBeginInTurn}
+use Rattle.world_standing.specs.hearable.Sent.{AreSentSo}
+use Rattle.world_upheld.specs.explained.Explanations.{Explanations, HoldNoMoreSnapshots}
+use Rattle.world_upheld.specs.hearing.Across.{GoAcross}
+use Rattle.world_upheld.specs.hearing.Hearable.{CanHearLetter}
+use Rattle.world_upheld.specs.hearing.Leases.{AllKeepCovered}
+use Rattle.world_upheld.specs.upheld.Begins.{AreRulesInForm, RunBeginsWell}
+use Rattle.world_closing.specs.forming.Forming.{IsSmallRun}
+
+-- ---- the facts
+
+-- Each outcome shows its cause, by all that is accounted for; letters go between whom such go; leases cover what targets keep, which know the
+-- script's containers, and whose versions are in form; and what goes about of reads and what lines tell of answers fits the script.
+pub record IsSafe (r : Rules) (o : Opening) (h : History) (stored : Stored) (w : World) : Type 0 where
+  pub explanations : Explanations r o h stored w
+  pub sent : AreSentSo r.script.targets w
+  pub across : GoAcross r.script.targets w
+  pub covered : AllKeepCovered w
+  pub enlisted : (t : ℕ) (s : TargetState) → slice_get w.targets t ≡ Some s → AreEnlisted r.script s.durable
+  pub forms : AllKeepInForm w
+  pub fitting : AnswersFitInWorld r w
+
+-- Where names and keys are keys: those of versions that targets keep, and of answers that go about and that lines tell; and reads are in form.
+pub record IsKeyed (w : World) : Type 0 where
+  pub targets : TargetsHaveKeys w
+  pub answers : AnswersInForm w
+  pub asks : AsksAreInForm w
+
+-- ---- each event keeps them
+
+-- a run of a script in form begins so, whatever its targets' versions stand for, of nothing decided, aborted or stored
+abbrev pub SafetyBegins : Type 0
+SafetyBegins = (r : Rules) (o : Opening) (w : World) → AreRulesInForm r → RunBeginsWell r o w → HoldNoMoreSnapshots o w → IsSafe r o no_history [] w
+
+-- each event keeps it, with what is stored in it, of what is decided and aborted by then
+abbrev pub AllEventsKeepSafety : Type 0
+AllEventsKeepSafety =
+    (r : Rules) (o : Opening) (h later : History) (stored : Stored) (w v : World) → AreRulesInForm r → IsSafe r o h stored w → (e : WorldEvent r w v) → GrowsBy h (told_by e.happens) later
+    → IsSafe r o later (stored_in r e.happens ++ stored) v
+
+-- so it is at each moment of a run
+abbrev pub AllRunsAreSafe : Type 0
+AllRunsAreSafe =
+    (r : Rules) (o : Opening) (w v : World) → AreRulesInForm r → RunBeginsWell r o w → HoldNoMoreSnapshots o w → (run : WorldRun r w v) → (h : History) × IsSafe r o h (stored_over r run) v
+
+-- keys are keys where they are those of the script and of what targets kept at the beginning
+abbrev pub KeysBegin : Type 0
+KeysBegin = (r : Rules) (o : Opening) (w : World) → AreRulesInForm r → RunBeginsWell r o w → TargetsHaveKeys w → IsKeyed w
+
+-- and each event keeps it
+abbrev pub AllEventsKeepKeys : Type 0
+AllEventsKeepKeys =
+    (r : Rules) (o : Opening) (h : History) (stored : Stored) (w v : World) → AreRulesInForm r → ScriptHasKeys r.script → IsSafe r o h stored w → WorldEvent r w v → IsKeyed w → IsKeyed v
+
+-- ---- what they give
+
+-- each letter in flight to a running target has the form that the target asks for, and can be heard there, by a store that tells what it keeps
+pub record IsHeardSafely (r : Rules) (t : ℕ) (d : Durable) (l : Letter) : Type 0 where
+  pub form : IsInForm (target_plan r t) l.message
+  pub can : CanHearLetter r t d l
+
+abbrev pub SafeLettersCanBeHeard : Type 0
+SafeLettersCanBeHeard =
+    (r : Rules) (o : Opening) (h : History) (stored : Stored) (w : World) → AreRulesInForm r → IsSafe r o h stored w → (l : Letter) (t : ℕ) (s : TargetState) → Contains w.messages l → l.to ≡ target t
+    → slice_get w.targets t ≡ Some s → s.life ≡ Running → IsHeardSafely r t s.durable l
+
+-- lines tell of the commands of each client in turn; each attempt told of ended as its answers and conditions say; and each answer is of the kind
+-- of its read
+pub record TellsSafely (r : Rules) (w : World) : Type 0 where
+  pub in_turn : AllBeginInTurn r.attempts r.script w.lines
+  pub ends : AllEndWell r.script w.lines
+  pub kinds : AllAnswersFit r.script w.lines
+
+abbrev pub SafeLinesAreInOrder : Type 0
+SafeLinesAreInOrder = (r : Rules) (o : Opening) (h : History) (stored : Stored) (w : World) → AreRulesInForm r → IsSafe r o h stored w → TellsSafely r w
+
+-- the report of the lines so far is in the form in which its text determines it
+abbrev pub SafeReportsHaveForm : Type 0
+SafeReportsHaveForm =
+    (g : Given) (h : History) (stored : Stored) (v : World) → AreRulesInForm (rules_of g) → IsSafe (rules_of g) g.opening h stored v → IsKeyed v → IsSmallRun g v
+    → IsReportOf g.script (report_over (rules_of g) v)

@@ -1,0 +1,19 @@
+-- What a safe run gives: letters can be heard, lines are in order, and the report is in form.
+use Rattle.world_readers.specs.lines.Endings.{lines-end_well}
+use Rattle.world_readers.specs.lines.InTurnLaws.{lines-begin_in_turn}
+use Rattle.world_upheld.specs.hearing.Hearable.{all-heard_in_form, all-letters_can_be_heard}
+use Rattle.world_closing.specs.forming.Runs.{report-form}
+use Rattle.world_closing.specs.safety.Safe.{SafeLettersCanBeHeard, SafeLinesAreInOrder, SafeReportsHaveForm}
+
+pub safe-letters_can_be_heard : SafeLettersCanBeHeard
+safe-letters_can_be_heard r o h stored w A k l t s among to here runs =
+    let can = all-letters_can_be_heard r o h stored w l t s A.some_target k.explanations.reasons.accounted k.sent k.across (k.enlisted t s here) among to here runs in
+    record { form = all-heard_in_form r t s.durable l A.few_targets can; can = can }
+
+pub safe-lines_are_in_order : SafeLinesAreInOrder
+safe-lines_are_in_order r o h stored w A k =
+    let lines = k.explanations.reasons.accounted.grounds.lines in
+    record { in_turn = lines-begin_in_turn r w A.some_attempt lines; ends = lines-end_well r w lines; kinds = k.fitting.lines }
+
+pub safe-reports_have_form : SafeReportsHaveForm
+safe-reports_have_form g h stored v A k keyed small = report-form g stored h v A k.explanations k.covered small (λ a i. keyed.answers.lines a i)
