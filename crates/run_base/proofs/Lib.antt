@@ -1,4 +1,3 @@
 pub mod Answered
 pub mod Lost
 pub mod Places
-pub mod Sent

@@ -1,10 +1,11 @@
 -- Letters to an actor, in the order in which they were sent, and what lies between actors.
-use Rattle.std.specs.Prelude.{ℕ, ◌≡◌, ◌==◌, Bool, true, false, ◌&&◌, List, ◌∷◌, ◌++◌, filter, length, take, slice_get, Some, not}
+use Rattle.std.specs.Prelude.{ℕ, ◌≡◌, ◌==◌, Bool, true, false, ◌&&◌, List, ◌∷◌, ◌++◌, filter, length, take, slice_get, Option, None, Some, not, if◌then◌else◌}
 use Rattle.base_types.specs.declared.epoch.Epoch.{Epoch}
 use Rattle.base_types.specs.declared.id.AttemptId.{AttemptId}
 use Rattle.base_types.specs.declared.report.Line.{Line}
 use Rattle.base_messages.specs.declared.actor.ActorId.{ActorId}
 use Rattle.world_base.specs.declared.letter.Letter.{Letter}
+use Rattle.world_base.specs.Letters.{is_answerable}
 
 -- what lies between the actors: letters in flight, those without an answer, epochs issued, and the lines so far
 pub record BetweenNow : Type 0 where
@@ -42,3 +43,7 @@ pub record IsPlaceOf (letters : List Letter) (to : ActorId) (number place : ℕ)
   pub here : slice_get letters place ≡ Some letter
   pub to_it : letter.to ≡ to
   pub first : length (letters_to to (take place letters)) ≡ number
+
+-- the copy of a letter that is kept while it is without an answer, if it is one that is answered
+abbrev pub kept_copy : Letter → Option Letter
+kept_copy l = if is_answerable l.message then Some l else None

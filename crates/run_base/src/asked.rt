@@ -1,6 +1,7 @@
 // Which messages are without an answer.
-ghost use Rattle.std.specs.Prelude.{◌≡◌, ◌<◌, length, position, IfSome, OnOk, IfOk};
+ghost use Rattle.std.specs.Prelude.{◌≡◌, ◌≤◌, ◌<◌, ◌+◌, length, position, vec_capacity, vec_len, IfSome, OnOk, IfOk};
 ghost use Rattle.dtx_base.specs.Leading.{attempts_of};
+ghost use Rattle.run_base.specs.Letters.{kept_copy};
 ghost use Rattle.world_base.specs.Letters.{asked_after, asked_with, is_answer_to, is_answerable, is_reply, same_actor, same_ask, same_ids, without_first};
 
 use base_messages::actor::ActorId;
@@ -140,23 +141,53 @@ fn first_answered(letter: &Letter, asked: &[Letter]) -> Option<usize>
 
 // Takes out the first letter that this one answers, if there is one.
 fn answer(asked: &mut Vec<Letter>, letter: &Letter)
-    ensures { asked.new.items ≡ without_first (is_answer_to letter.now) asked.old.items }
+    ensures left { asked.new.items ≡ without_first (is_answer_to letter.now) asked.old.items }
+    ensures fewer { vec_len asked.new ≤ vec_len asked.old }
+    ensures capacity { vec_capacity asked.new ≡ vec_capacity asked.old }
 {
     if let Some(place) = first_answered(letter, asked) {
         asked.remove(place);
     }
 }
 
-// What is without an answer once a letter more was sent: it is one, or the first that it answers isn't any more.
-#[tactic(auto, unfolding(world_base::specs::Letters::asked_with))]
-pub(crate) fn ask(asked: &mut Vec<Letter>, letter: &Letter) -> Result<(), Memory>
-    ensures { OnOk result (asked.new.items ≡ asked_with asked.old.items letter.now) }
+/// The copy of a letter that is kept while it is without an answer, if it is one that is answered.
+///
+/// # Errors
+///
+/// For want of memory.
+pub(crate) fn kept_copy(letter: &Letter) -> Result<Option<Letter>, Memory>
+    ensures { IfOk result (λ copy. copy ≡ kept_copy letter.now) }
 {
     if is_answerable(&letter.message) {
-        asked.push(letter.copy()?)?;
+        Ok(Some(letter.copy()?))
     } else {
-        answer(asked, letter);
+        Ok(None)
     }
+}
+
+// What is without an answer once a letter more was sent, of which this copy is kept: it is one, or the first
+// that it answers isn't any more. There is room for one.
+#[tactic(auto, unfolding(world_base::specs::Letters::asked_with))]
+pub(crate) fn note(asked: &mut Vec<Letter>, letter: &Letter, copy: Option<Letter>)
+    requires copy { copy ≡ kept_copy letter.now }
+    requires room { vec_len asked.old < vec_capacity asked.old }
+    ensures noted { asked.new.items ≡ asked_with asked.old.items letter.now }
+    ensures one_more { vec_len asked.new ≤ vec_len asked.old + 1 }
+    ensures capacity { vec_capacity asked.old ≤ vec_capacity asked.new }
+{
+    match copy {
+        Some(copy) => asked.push(copy).unwrap(),
+        None => answer(asked, letter),
+    }
+}
+
+// The same, where a copy and room are still to be had.
+fn ask(asked: &mut Vec<Letter>, letter: &Letter) -> Result<(), Memory>
+    ensures { OnOk result (asked.new.items ≡ asked_with asked.old.items letter.now) }
+{
+    let copy = kept_copy(letter)?;
+    asked.reserve(1)?;
+    note(asked, letter, copy);
     Ok(())
 }
 

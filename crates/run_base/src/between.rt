@@ -1,13 +1,12 @@
 // What lies between the actors of a run.
-ghost use Rattle.std.specs.Prelude.{◌≡◌, ◌<◌, ◌++◌, [], length, map, OnOk};
+ghost use Rattle.std.specs.Prelude.{◌≡◌, ◌<◌, ◌++◌, [], length, map, IfErr, OnOk};
 ghost use Rattle.run_base.specs.Letters.{IsPicked, IsPlaceOf, letters_to};
 ghost use Rattle.world_base.specs.Events.{listed, with_epoch};
 ghost use Rattle.world_base.specs.Letters.{asked_after, letters_of};
 
-use crate::asked::ask;
-use crate::lines::with_epoch;
+use crate::lines::with_epochs;
+use crate::sending::{all_ready, send};
 use base_messages::actor::ActorId;
-use base_messages::message::Posts;
 use base_types::epoch::Epoch;
 use base_types::id::AttemptId;
 use base_types::items::{Items, Memory};
@@ -100,55 +99,33 @@ impl Between {
         self.messages.remove(place)
     }
 
-    // Sends messages, each of which is without an answer, or answers one that was.
-    fn send(&mut self, from: ActorId, posts: Posts) -> Result<(), Memory>
-        ensures messages { OnOk result (self.new.messages ≡ self.old.messages ++ letters_of from posts) }
-        ensures asked { OnOk result (self.new.asked ≡ asked_after self.old.asked (letters_of from posts)) }
-        ensures issued { self.new.issued ≡ self.old.issued }
-        ensures lines { self.new.lines ≡ self.old.lines }
-    {
-        for post in posts.into_vec() {
-            let letter = Letter {
-                from,
-                to: post.to,
-                message: post.message,
-            };
-            ask(&mut self.asked, &letter)?;
-            self.messages.push(letter)?;
-        }
-        Ok(())
-    }
-
-    // Adds lines to the report.
-    fn tell(&mut self, lines: Lines) -> Result<(), Memory>
-        ensures lines { OnOk result (self.new.lines ≡ self.old.lines ++ map (with_epoch self.old.issued) lines) }
-        ensures messages { self.new.messages ≡ self.old.messages }
-        ensures asked { self.new.asked ≡ self.old.asked }
-        ensures issued { self.new.issued ≡ self.old.issued }
-    {
-        for line in lines.into_vec() {
-            self.lines.push(with_epoch(&self.issued, line))?;
-        }
-        Ok(())
-    }
-
     /// What follows from an actor's turn comes about: its messages are sent, its lines are added,
     /// each with the epoch issued where its client knows none, and the epoch that it issued is noted.
+    ///
+    /// # Errors
+    ///
+    /// For want of memory; nothing is changed then.
     pub fn follow(&mut self, from: ActorId, did: Did) -> Result<(), Memory>
         ensures messages { OnOk result (self.new.messages ≡ self.old.messages ++ letters_of from did.posts) }
         ensures asked { OnOk result (self.new.asked ≡ asked_after self.old.asked (letters_of from did.posts)) }
         ensures lines { OnOk result (self.new.lines ≡ self.old.lines ++ map (with_epoch self.old.issued) did.lines) }
         ensures issued { OnOk result (self.new.issued ≡ self.old.issued ++ listed did.issued) }
+        ensures kept { IfErr result (λ no. self.new ≡ self.old) }
     {
         let Did {
             posts,
             lines,
             issued,
         } = did;
-        self.send(from, posts)?;
-        self.tell(lines)?;
+        let alloc = *self.messages.allocator();
+        let letters = all_ready(alloc, from, posts)?;
+        let mut told = with_epochs(alloc, &self.issued, lines)?;
+        self.issued.reserve(1)?;
+        self.lines.reserve(told.len())?;
+        send(&mut self.messages, &mut self.asked, letters)?;
+        self.lines.append(&mut told).unwrap();
         if let Some(issue) = issued {
-            self.issued.push(issue)?;
+            self.issued.push(issue).unwrap();
         }
         Ok(())
     }

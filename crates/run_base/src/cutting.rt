@@ -1,10 +1,11 @@
 // What follows where a target stops, or is given up. A run in which targets stop calls it.
-ghost use Rattle.std.specs.Prelude.{◌≡◌, ◌++◌, ◌∷◌, [], IfOk, OnOk, filter, false, true};
+ghost use Rattle.std.specs.Prelude.{◌≡◌, ◌++◌, ◌∷◌, [], IfErr, IfOk, OnOk, filter, false, true};
 ghost use Rattle.base_types.specs.declared.report.Line.TheVariants as line;
 ghost use Rattle.world_base.specs.CutTurns.{listed_issue};
 ghost use Rattle.world_base.specs.Stops.{is_not_to, is_stop, resets, stops_so_far};
 
 use crate::between::Between;
+use crate::losing::lose;
 use base_types::epoch::{Epoch, TargetId};
 use base_types::id::AttemptId;
 use base_types::items::Memory;
@@ -42,29 +43,6 @@ fn next_stop(lines: &[Line]) -> Result<u32, Memory>
     }
 }
 
-// These lines are added as they are.
-fn add_lines(lines: &mut Vec<Line>, more: Lines) -> Result<(), Memory>
-    ensures { OnOk result (lines.new.items ≡ lines.old.items ++ more) }
-{
-    for line in more.into_vec() {
-        lines.push(line)?;
-    }
-    Ok(())
-}
-
-// The epoch that a turn issued is noted, if it issued one.
-fn add_issue(
-    issued: &mut Vec<(AttemptId, Epoch)>,
-    issue: Option<(AttemptId, Epoch)>,
-) -> Result<(), Memory>
-    ensures { OnOk result (issued.new.items ≡ issued.old.items ++ listed_issue issue) }
-{
-    if let Some(issue) = issue {
-        issued.push(issue)?;
-    }
-    Ok(())
-}
-
 impl Between {
     /// A target's turn was cut: the epoch that it issued is noted; the lines of the turn are added as they
     /// are, and behind them that the target stopped, by the next number of a stop; and what is in flight
@@ -72,7 +50,7 @@ impl Between {
     ///
     /// # Errors
     ///
-    /// For want of memory.
+    /// For want of memory; nothing is changed then.
     pub fn cut(
         &mut self,
         alloc: Global,
@@ -84,26 +62,36 @@ impl Between {
         ensures asked { OnOk result (self.new.asked ≡ filter (is_not_to target) self.old.asked) }
         ensures issued { OnOk result (self.new.issued ≡ self.old.issued ++ listed_issue issued) }
         ensures lines { OnOk result (self.new.lines ≡ self.old.lines ++ lines ++ line.Stop (stops_so_far self.old.lines) target ∷ []) }
+        ensures kept { IfErr result (λ no. self.new ≡ self.old) }
     {
         let number = next_stop(&self.lines)?;
-        add_issue(&mut self.issued, issued)?;
-        add_lines(&mut self.lines, lines)?;
-        self.lines.push(Line::Stop { number, target })?;
-        self.lose(alloc, target, false)
+        let mut told = lines.into_vec();
+        told.push(Line::Stop { number, target })?;
+        self.lines.reserve(told.len())?;
+        self.issued.reserve(1)?;
+        lose(alloc, &mut self.messages, &mut self.asked, target, false)?;
+        self.lines.append(&mut told).unwrap();
+        if let Some(issue) = issued {
+            self.issued.push(issue).unwrap();
+        }
+        Ok(())
     }
 
     /// A target is given up, and a line tells so: what is in flight to it is lost for good.
     ///
     /// # Errors
     ///
-    /// For want of memory.
+    /// For want of memory; nothing is changed then.
     pub fn give_up(&mut self, alloc: Global, target: TargetId) -> Result<(), Memory>
         ensures messages { OnOk result (self.new.messages ≡ filter (is_not_to target) self.old.messages ++ resets target true self.old.asked) }
         ensures asked { OnOk result (self.new.asked ≡ filter (is_not_to target) self.old.asked) }
         ensures issued { self.new.issued ≡ self.old.issued }
         ensures lines { OnOk result (self.new.lines ≡ self.old.lines ++ line.Down target ∷ []) }
+        ensures kept { IfErr result (λ no. self.new ≡ self.old) }
     {
-        self.lines.push(Line::Down { target })?;
-        self.lose(alloc, target, true)
+        self.lines.reserve(1)?;
+        lose(alloc, &mut self.messages, &mut self.asked, target, true)?;
+        self.lines.push(Line::Down { target }).unwrap();
+        Ok(())
     }
 }

@@ -8,4 +8,5 @@ pub mod lines;
 mod losing;
 mod numbers;
 pub mod schedule;
+mod sending;
 pub mod sweeping;

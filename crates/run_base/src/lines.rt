@@ -1,11 +1,13 @@
 // A line as it is added to the report.
-ghost use Rattle.std.specs.Prelude.{◌≡◌};
+ghost use Rattle.std.specs.Prelude.{◌≡◌, IfOk, map};
 ghost use Rattle.world_base.specs.Events.{epoch_issued, with_epoch};
 
 use base_types::epoch::Epoch;
 use base_types::id::AttemptId;
-use base_types::report::{Attempt, Line};
+use base_types::items::Memory;
+use base_types::report::{Attempt, Line, Lines};
 use daos_model::durable::is_same_attempt;
+use std::alloc::Global;
 
 // The epoch that was issued to an attempt, if one was.
 fn epoch_issued(issued: &[(AttemptId, Epoch)], attempt: AttemptId) -> Option<Epoch>
@@ -35,4 +37,23 @@ pub fn with_epoch(issued: &[(AttemptId, Epoch)], line: Line) -> Line
         }
         other => other,
     }
+}
+
+/// The same, for these lines.
+///
+/// # Errors
+///
+/// For want of memory.
+pub(crate) fn with_epochs(
+    alloc: Global,
+    issued: &[(AttemptId, Epoch)],
+    lines: Lines,
+) -> Result<Vec<Line>, Memory>
+    ensures { IfOk result (λ told. told.items ≡ map (with_epoch issued.now) lines) }
+{
+    let mut told = Vec::with_capacity(alloc, lines.len())?;
+    for line in lines.into_vec() {
+        told.push(with_epoch(issued, line))?;
+    }
+    Ok(told)
 }

@@ -1,5 +1,5 @@
 // What goes to targets that are given up. A run in which targets stop calls it.
-ghost use Rattle.std.specs.Prelude.{◌≡◌, ◌≤◌, ◌++◌, IfOk, OnOk, filter, length, map, true};
+ghost use Rattle.std.specs.Prelude.{◌≡◌, ◌≤◌, ◌++◌, IfErr, IfOk, OnOk, filter, length, map, true};
 ghost use Rattle.run_base.specs.Sweeps.{LivesTellDowns, NoneIsSwept, SweepingIsDone, SweepsAreOfLives, is_down_in, is_left_by, is_lost_by};
 ghost use Rattle.world_base.specs.Stops.{reset_letter};
 
@@ -7,7 +7,6 @@ use crate::between::Between;
 use crate::losing::reset_of;
 use base_types::items::Memory;
 use std::alloc::Global;
-use std::mem::replace;
 use world_base::letter::Letter;
 use world_base::target::Life;
 
@@ -36,35 +35,27 @@ fn take_out(letters: &mut Vec<Letter>, lives: &[Life])
 }
 
 // Who sent a letter to such a target is told that it got no answer.
-fn reset_by(alloc: Global, letter: Letter, lives: &[Life]) -> Result<Letter, Memory>
+fn reset_by(alloc: Global, letter: &Letter, lives: &[Life]) -> Result<Letter, Memory>
     requires few { length lives.now ≤ 256 }
-    requires lost { is_lost_by lives.now letter ≡ true }
-    ensures { IfOk result (λ reset. reset ≡ reset_letter true letter) }
+    requires lost { is_lost_by lives.now letter.now ≡ true }
+    ensures { IfOk result (λ reset. reset ≡ reset_letter true letter.now) }
 {
     let target = letter.to.number as u8;
     reset_of(alloc, letter, target, true)
 }
 
-// Who sent one of these to such a target is told so, in their order, behind what is in flight; the others are left.
-fn reset_lost(
-    alloc: Global,
-    messages: &mut Vec<Letter>,
-    asked: Vec<Letter>,
-    lives: &[Life],
-) -> Result<Vec<Letter>, Memory>
+// Who sent one of these to such a target is told so, in their order.
+fn resets_by(alloc: Global, asked: &[Letter], lives: &[Life]) -> Result<Vec<Letter>, Memory>
     requires few { length lives.now ≤ 256 }
-    ensures told { OnOk result (messages.new.items ≡ messages.old.items ++ map (reset_letter true) (filter (is_lost_by lives.now) asked.items)) }
-    ensures left { IfOk result (λ left. left.items ≡ filter (is_left_by lives.now) asked.items) }
+    ensures { IfOk result (λ told. told.items ≡ map (reset_letter true) (filter (is_lost_by lives.now) asked.now)) }
 {
-    let mut left = Vec::new(alloc);
+    let mut told = Vec::new(alloc);
     for letter in asked {
-        if is_lost_by(lives, &letter) {
-            messages.push(reset_by(alloc, letter, lives)?)?;
-        } else {
-            left.push(letter)?;
+        if is_lost_by(lives, letter) {
+            told.push(reset_by(alloc, letter, lives)?)?;
         }
     }
-    Ok(left)
+    Ok(told)
 }
 
 impl Between {
@@ -73,19 +64,19 @@ impl Between {
     ///
     /// # Errors
     ///
-    /// For want of memory.
+    /// For want of memory; nothing is changed then.
     pub fn sweep(&mut self, alloc: Global, lives: &[Life]) -> Result<(), Memory>
         requires few { length lives.now ≤ 256 }
         ensures messages { OnOk result (self.new.messages ≡ filter (is_left_by lives.now) (self.old.messages ++ map (reset_letter true) (filter (is_lost_by lives.now) self.old.asked))) }
         ensures asked { OnOk result (self.new.asked ≡ filter (is_left_by lives.now) self.old.asked) }
         ensures issued { self.new.issued ≡ self.old.issued }
         ensures lines { self.new.lines ≡ self.old.lines }
+        ensures kept { IfErr result (λ no. self.new ≡ self.old) }
     {
-        let mut messages = replace(&mut self.messages, Vec::new(alloc));
-        let asked = replace(&mut self.asked, Vec::new(alloc));
-        self.asked = reset_lost(alloc, &mut messages, asked, lives)?;
-        take_out(&mut messages, lives);
-        self.messages = messages;
+        let mut told = resets_by(alloc, &self.asked, lives)?;
+        self.messages.append(&mut told)?;
+        take_out(&mut self.messages, lives);
+        take_out(&mut self.asked, lives);
         Ok(())
     }
 }
