@@ -62,7 +62,7 @@ use Rattle.run_laws.specs.ends.Arming.{AreArmed, AreUnfused}
 use Rattle.run_laws.specs.ends.Begun.{told-is}
 use Rattle.run_laws.specs.ends.Caused.{end-caused, stops-caused}
 use Rattle.run_laws.specs.ends.Comes.{AreIssuedThere, AreKept, ComesTo, EndsUnstopped, IsAsStored, IsCommittedIn, IsOrdered, IsOutside, IsSoundAgain, LacksMember, LeavesReopenable, MayBeFound, RunsPlainly, StandPlainly, report_with}
-use Rattle.run_laws.specs.ends.Keeping.{all-tell, begins-plainly, first-keeps, none-created, sound-again}
+use Rattle.run_laws.specs.ends.Keeping.{all-tell, begins-plainly, first-keeps, none-created, sound-again, stands-so}
 use Rattle.run_laws.specs.ends.Lasts.{are-found, found_at, its-target, keeps-lasts, some-may_be, some_lasts}
 use Rattle.run_laws.specs.ends.Places.{IsMapped, from-map}
 use Rattle.run_laws.specs.ends.Starts.{AllTell, BeginsSo, HaveStarted, first_world, state_now, stores_of}
@@ -374,7 +374,7 @@ module _ {S C : Type 0} (durable : S → Option Durable) (state : S → State) (
       unstopped = ends-unstopped some so;
       alone = of-alone some so;
       sound = λ F f sound lasts m. leaves-sound lasts m F f sound;
-      unsnapped = λ plain lasts m. none-created r g.opening first (last lasts m) lasts plain.simple (begun plain) (orders-are-runs r g.job.order first (last lasts m) (run lasts m).run) (keeps lasts m);
+      unsnapped = λ plain lasts m. none-created r g.opening lasts plain.simple plain.opening.no_snaps (stands-so r g.opening first (last lasts m) lasts begins.begins begins.holds (orders-are-runs r g.job.order first (last lasts m) (run lasts m).run) (keeps lasts m));
       reopens = reopenable;
       ordered = is-ordered some so;
     }

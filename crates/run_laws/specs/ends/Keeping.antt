@@ -1,9 +1,14 @@
 -- What the first world of a run keeps, and what is found where it broke off.
-use Rattle.std.specs.Prelude.{ℕ, ◌≡◌, ◌<◌, true, List, [], length, slice_get, Option, Some, is_some}
-use Rattle.std.proofs.Common.{sym, ◌∙◌, ap, subst, arith}
+use Rattle.std.specs.Prelude.{ℕ, ◌≡◌, ◌⊎◌, ◌<◌, true, All, List, [], ◌∷◌, length, map, slice_get, Option, Some, is_some, refl}
+use Rattle.std.proofs.lemmas.List.Elements.{All-head}
+use Rattle.std.proofs.Common.{sym, ◌∙◌, ap, subst, inl, inr, arith}
 use Rattle.client_core.specs.Clients.{ClientNow}
 use Rattle.daos_model.specs.declared.durable.Durable.{Durable}
-use Rattle.daos_model.specs.Family.{created_snaps}
+use Rattle.base_types.specs.declared.script.Command.TheVariants.{Snap as Make}
+use Rattle.base_types.specs.declared.snapshot.Snap.{Snap}
+use Rattle.daos_model.specs.declared.stand.SnapMap.{SnapMap}
+use Rattle.daos_model.specs.Family.{created_snaps, snap_map, stand}
+use Rattle.daos_model.specs.Finals.{IsKeptIn}
 use Rattle.daos_model.specs.FormLaws.{length-map}
 use Rattle.daos_model.specs.Opening.{Given, Opening}
 use Rattle.daos_model.specs.Sound.{Sound}
@@ -21,11 +26,13 @@ use Rattle.world_base.specs.declared.world.World.{World}
 use Rattle.world_base.specs.Events.{Rules}
 use Rattle.world_base.specs.Stops.{Begins, WorldRun}
 use Rattle.world_plain.specs.ends.Ends.{durable_of, durables_of, rules_of}
-use Rattle.run_laws.specs.reports.Closings.{runs-stand_for_resolved}
-use Rattle.run_laws.specs.ends.Standing.{StandsForAttempts, stands-for_attempts}
+use Rattle.run_laws.specs.ends.Standing.{IsMadeIn, StandsForAttempts, stands-for_attempts}
 use Rattle.run_laws.specs.shows.Beginning.{RunBegins, plain-begun}
 use Rattle.run_opening.specs.Opened.{IsFloored}
 use Rattle.world_closing.specs.stands.Runs.{all-runs-keep_floors, all-runs-keep_sound, all-runs-stand}
+use Rattle.world_closing.specs.stands.Stands.{HoldsOpenings}
+use Rattle.world_contents.specs.reads.Transactions.{decided_of}
+use Rattle.world_plain.specs.ends.FormLaws.{no-snaps}
 use Rattle.world_plain.specs.whole.Begins.{IsBegun, IsSimple}
 use Rattle.run_laws.specs.ends.Arming.{HaveFuses}
 use Rattle.run_laws.specs.ends.Begun.{IsFirstWatch, first-drawn, first_stage, shows-first, told-is, told-there}
@@ -45,9 +52,24 @@ sound-again r o first last F lasts b run kept keeps sound = record {
       subst IsFloored (sym s.is) (all-runs-keep_floors r o first last b.form b.begins run t s.of_it s.at);
 }
 
--- where no snapshot is there and none is made, target 0 holds none
-pub none-created : (r : Rules) (o : Opening) (first last : World) (lasts : List Durable) → IsSimple r → IsBegun r o first → WorldRun r first last → durables_of last ≡ lasts → created_snaps lasts ≡ []
-none-created r o first last lasts simple begun run keeps = subst (λ ds. created_snaps ds ≡ []) keeps (runs-stand_for_resolved r o first last simple begun run).snaps
+-- what a run has come to stands for the opening and for just the attempts that are resolved there
+pub stands-so : (r : Rules) (o : Opening) (first last : World) (lasts : List Durable) → RunBegins r o first → HoldsOpenings o first → WorldRun r first last → durables_of last ≡ lasts → StandsForAttempts r o lasts
+stands-so r o first last lasts b holds run keeps = subst (StandsForAttempts r o) keeps (stands-for_attempts r o last (all-runs-stand r o first last b.form b.begins holds run))
+
+-- where the opening has no snapshot and none is made, target 0 holds none
+pub none-created : (r : Rules) (o : Opening) (lasts : List Durable) → IsSimple r → o.stand.snaps ≡ [] → StandsForAttempts r o lasts → created_snaps lasts ≡ []
+unfolding stand
+none-created r o lasts simple none k = by (created_snaps lasts) refl
+  where
+    Its : SnapMap → Type 0
+    Its z = IsKeptIn o.stand.snaps z ⊎ IsMadeIn r o (map (decided_of r.script) k.attempts) z
+
+    by : (ss : List Snap) → created_snaps lasts ≡ ss → created_snaps lasts ≡ []
+    by [] is = is
+    by (s ∷ ss) is = elim (All-head Its (snap_map lasts s) (map (snap_map lasts) ss) (subst (λ q. All Its (map (snap_map lasts) q)) is k.snaps)) [
+      | inl old ↦ absurd (subst (λ q. IsKeptIn q (snap_map lasts s)) none old)
+      | inr made ↦ absurd (no-snaps r made.made.0 (Make made.made.1.0 s.cont) simple.unsnapped made.made.1.1 refl)
+    ]
 
 module _ {S C : Type 0} (durable : S → Option Durable) (state : S → State) (may : S → Durable → Type 0) where
   -- each of these targets keeps what that one kept
@@ -118,11 +140,11 @@ module _ {S C : Type 0} (durable : S → Option Durable) (state : S → State) (
           many-last = length-map durable_of came.last.targets ∙ came.many ∙ sym unfused.many ∙ sym (length-map (λ z. z.store) ys) ∙ sym m.many
 
       stands : StandsForAttempts r g.opening lasts
-      stands = subst (StandsForAttempts r g.opening) keeps (stands-for_attempts r g.opening came.last (all-runs-stand r g.opening first_one came.last b.form b.begins (begins.so told).holds run))
+      stands = stands-so r g.opening first_one came.last lasts b (begins.so told).holds run keeps
 
     pub breaks-off : BreaksOffSo durable may g (stores_of xs) (stores_of ys)
     breaks-off = record {
       stand = stands;
       sound = λ F f sound lasts m. sound-again r g.opening first_one (came lasts m).last F lasts b (run lasts m) (first-keeps cs xs armed many alike all F f) (keeps lasts m) sound;
-      unsnapped = λ plain lasts m. none-created r g.opening first_one (came lasts m).last lasts plain.simple (begins-plainly cs xs armed many alike all g b plain) (run lasts m) (keeps lasts m);
+      unsnapped = λ plain lasts m. none-created r g.opening lasts plain.simple plain.opening.no_snaps (stands lasts m);
     }
