@@ -1,4 +1,4 @@
--- That outcomes show their causes at each moment of a run in which targets may stop, and that its report is legal where it has ended.
+-- What tells that targets are down, what leaders no longer know after a stop, and what is over where a run has ended.
 pub mod reasons
 pub mod doubts
 pub mod shown

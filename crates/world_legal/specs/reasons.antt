@@ -1,10 +1,7 @@
--- What all that holds between any two events tells of stops and of what was stored, and why outcomes are as they are.
+-- Who is told that a target is down, and what is found of what a target hears.
 pub mod Downs
 pub mod Knowing
 pub mod Accounted
-pub mod Events
-pub mod Runs
-pub mod Hearing
 pub mod Waiting
 pub mod Leaders
 pub mod Requests

@@ -1,6 +1,3 @@
--- That outcomes show their causes at each moment of a run in which targets may stop.
-pub mod Explained
+-- What waits at a target and what a leader keeps open, as causes ask.
 pub mod Parked
 pub mod Open
-pub mod Known
-pub mod Events

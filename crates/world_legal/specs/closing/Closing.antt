@@ -1,5 +1,5 @@
 -- Where a run in which targets may stop has ended, and what its report and its stores are to be.
-use Rattle.std.specs.Prelude.{ℕ, ◌≡◌, ◌⊎◌, ◌<◌, ◌^◌, true, false, List, [], Contains, length, map, slice_get, Some, None}
+use Rattle.std.specs.Prelude.{ℕ, ◌≡◌, ◌⊎◌, ◌<◌, true, false, List, [], Contains, length, slice_get, Some, None}
 use Rattle.base_types.specs.declared.epoch.Epoch.{Epoch}
 use Rattle.base_types.specs.declared.id.AttemptId.{AttemptId}
 use Rattle.base_types.specs.declared.outcome.Outcome.TheVariants.{Committed}
@@ -7,18 +7,12 @@ use Rattle.base_types.specs.declared.report.Attempt.{Attempt}
 use Rattle.base_types.specs.declared.report.Line.TheVariants as line
 use Rattle.base_types.specs.declared.report.Report.{Report}
 use Rattle.base_messages.specs.declared.actor.ActorId.{ActorId}
-use Rattle.base_types.specs.declared.script.Script.{Script}
-use Rattle.model_laws.specs.Decided.{AreDecided, taken_in}
 use Rattle.model_laws.specs.Members.{Has}
-use Rattle.daos_model.specs.declared.durable.Durable.{Durable}
 use Rattle.daos_model.specs.declared.durable.Version.{Version}
 use Rattle.daos_model.specs.Attempts.{is_unknown, tries}
-use Rattle.daos_model.specs.AsOf.{as_of}
-use Rattle.daos_model.specs.Family.{Agree, created_snaps, resolved, stand}
-use Rattle.daos_model.specs.Finals.{HeadlineOver, SameMap}
-use Rattle.daos_model.specs.Opening.{Given, Opening, Outside, top}
-use Rattle.daos_model.specs.Sound.{Sound}
-use Rattle.daos_model.specs.Stops.{AreCounted, down_targets, least, restart_numbers}
+use Rattle.daos_model.specs.Family.{resolved}
+use Rattle.daos_model.specs.Opening.{Opening}
+use Rattle.daos_model.specs.Stops.{down_targets, least}
 use Rattle.dtx_base.specs.declared.leading.Undecided.{Undecided}
 use Rattle.world_commit.specs.attempts.Attempts.{IsOther}
 use Rattle.world_commit.specs.attempts.History.{Decided, History}
@@ -28,21 +22,15 @@ use Rattle.world_base.specs.declared.target.Life.TheVariants.{Running, Stopped}
 use Rattle.world_base.specs.declared.target.TargetState.{TargetState}
 use Rattle.world_base.specs.declared.world.World.{World}
 use Rattle.world_base.specs.ClientTurns.{is_done, waits}
-use Rattle.world_base.specs.Ended.{HasEnded}
 use Rattle.world_base.specs.Events.{Rules, client_plan}
 use Rattle.world_base.specs.Letters as letter
-use Rattle.world_base.specs.Stops.{WorldRun}
-use Rattle.world_causes.specs.causes.Shown.{Causes}
-use Rattle.world_plain.specs.ends.Ends.{durables_of, rules_of}
+use Rattle.world_plain.specs.ends.Ends.{durables_of}
 use Rattle.world_letters.specs.lines.LastLines.{AreDone, HasClients}
-use Rattle.world_letters.specs.lives.Legal.{AreCaused, NoneIsStopped}
+use Rattle.world_letters.specs.lives.Legal.{NoneIsStopped}
 use Rattle.world_causes.specs.outcomes.Outcomes.{is_failed}
 use Rattle.world_contents.specs.reads.Reads.{Reads}
-use Rattle.world_contents.specs.reads.Transactions.{decided_of}
 use Rattle.world_contents.specs.reads.Versions.{Versions}
-use Rattle.world_legal.specs.reasons.Accounted.{stored_over}
 use Rattle.world_contents.specs.verdicts.Verdicts.{HasWrites}
-use Rattle.world_plain.specs.whole.Begins.{IsBegun, IsSimple, held_at}
 
 -- ---- a run is over
 
@@ -107,55 +95,8 @@ pub record Concluded (r : Rules) (o : Opening) (held : ℕ → List Version) (h 
   pub committed : (a : Attempt) → Contains (tries v.lines) a → a.outcome ≡ Committed → HasWrites r a.id → (e : Epoch) × (a.epoch ≡ Some e) × Decided h a.id e
   pub failed : (a : Attempt) → Contains (tries v.lines) a → HasWrites r a.id → is_failed a.outcome ≡ true → resolved (durables_of v) a.id ≡ false
 
--- ---- at any moment
-
--- What targets keep stands for the opening and, one by one in the order of their epochs, for just these attempts, which are those that are resolved
--- there: no two of them have one epoch, and each one's lies above the opening. Target 0 holds no
--- snapshot as created, and replicas agree.
-pub record StandsForResolved (s : Script) (o : Opening) (F : List Durable) : Type 0 where
-  pub attempts : List (AttemptId × Epoch)
-  pub only : (x : AttemptId) (e : Epoch) → Contains attempts (x, e) → (resolved F x ≡ true) × (top o < e.0)
-  pub all : (x : AttemptId) → resolved F x ≡ true → (e : Epoch) × Contains attempts (x, e)
-  pub apart : AreDecided (map (decided_of s) attempts)
-  pub now : SameMap (stand F).now (as_of o.stand (taken_in (map (decided_of s) attempts)) (2 ^ 64))
-  pub snaps : created_snaps F ≡ []
-  pub agree : Agree F
-
 -- ---- the report
 
 -- the report of the lines, where the least of the targets that were given up is named
 abbrev pub report_over : Rules → World → Report
 report_over r v = record { targets = r.script.targets; lines = v.lines; down = least (down_targets v.lines) }
-
--- ---- the statements
-
--- where nobody has a message to hear or a command to go on with, a run is over
-abbrev pub StillRunsAreOver : Type 0
-StillRunsAreOver = (r : Rules) (o : Opening) (w v : World) → IsSimple r → IsBegun r o w → WorldRun r w v → IsStill r v → IsOver r v
-
--- so it is where it has ended
-abbrev pub EndedRunsAreOver : Type 0
-EndedRunsAreOver = (r : Rules) (o : Opening) (w v : World) → IsSimple r → IsBegun r o w → WorldRun r w v → HasEnded r v → IsOver r v
-
--- and so it is known what became of attempts
-abbrev pub EndedRunsConclude : Type 0
-EndedRunsConclude = (r : Rules) (o : Opening) (w v : World) → IsSimple r → IsBegun r o w → WorldRun r w v → HasEnded r v → (h : History) × Concluded r o (held_at w) h v
-
--- At each moment of a run what the targets keep, those that are stopped or were given up among them, stands for the opening and the attempts that
--- are resolved there.
-abbrev pub RunsStandForResolved : Type 0
-RunsStandForResolved = (r : Rules) (o : Opening) (w v : World) → IsSimple r → IsBegun r o w → WorldRun r w v → StandsForResolved r.script o (durables_of v)
-
--- And it is sound where it was sound when the run began.
-abbrev pub RunsKeepSound : Type 0
-RunsKeepSound = (r : Rules) (o : Opening) (w v : World) → IsSimple r → IsBegun r o w → Sound (durables_of w) → WorldRun r w v → Sound (durables_of v)
-
--- Of a run of a script in form, without snapshots and aggregation, in which targets may stop, from its beginning to where it has ended: where
--- each outcome shows its cause at each moment, where stops and given up targets were caused from outside, and where the numbers of restarts are
--- counted by the lines if turns are taken in a stated order, the report of its lines is legal in each part; and the targets, those that were
--- given up too, stand for what it tells, and replicas agree.
-abbrev pub EndedRunsAreLegal : Type 0
-EndedRunsAreLegal =
-    (g : Given) (outside : Outside) (w v : World) → IsSimple (rules_of g) → IsBegun (rules_of g) g.opening w → (run : WorldRun (rules_of g) w v) → HasEnded (rules_of g) v
-    → Causes (rules_of g) g.opening (stored_over (rules_of g) run) v → AreCaused g.script outside v → (g.job.threads ≡ false → AreCounted 0 (restart_numbers v.lines))
-    → HeadlineOver g outside (durables_of v) (report_over (rules_of g) v)

@@ -3,15 +3,13 @@ use Rattle.std.specs.Prelude.{ℕ, zero, suc, ◌≡◌, ◌&&◌, ◌++◌, tru
 use Rattle.std.proofs.Common.{sym, ◌∙◌, ap, subst}
 use Rattle.model_laws.specs.Members.{Has, has-from_filter}
 use Rattle.daos_model.specs.BoolLaws.{clash}
-use Rattle.daos_model.specs.Opening.{Opening}
 use Rattle.world_base.specs.declared.letter.Letter.{Letter}
 use Rattle.world_base.specs.declared.target.Life.TheVariants.{Down}
 use Rattle.world_base.specs.declared.target.TargetState.{TargetState}
 use Rattle.world_base.specs.declared.world.World.{World}
 use Rattle.world_base.specs.Events.{Rules}
 use Rattle.world_base.specs.Letters.{target}
-use Rattle.world_base.specs.Stops.{Begins, Goes, WorldEvent, WorldRun, is_down_at, is_given_up, is_not_to_down, is_to_down, reset_letter, swept}
-use Rattle.world_plain.specs.whole.Begins.{IsBegun}
+use Rattle.world_base.specs.Stops.{WorldEvent, is_down_at, is_given_up, is_not_to_down, is_to_down, reset_letter, swept}
 
 -- no letter in flight goes to a target that was given up
 abbrev pub NoneGoesToGivenUp : World → Type 0
@@ -31,8 +29,3 @@ swept-none w l t s i to here down =
 
 pub events-go_on : (r : Rules) (w v : World) → WorldEvent r w v → NoneGoesToGivenUp v
 events-go_on r w v e = subst NoneGoesToGivenUp (sym e.after) (swept-none e.u)
-
--- so it is at each moment of a run from its beginning
-pub none-goes : (r : Rules) (o : Opening) (w v : World) → IsBegun r o w → WorldRun r w v → NoneGoesToGivenUp v
-none-goes r o w v b Begins = λ l t s i to here down. subst (Has l) b.messages i
-none-goes r o w v b (Goes u x run e) = events-go_on r u v e

@@ -18,7 +18,7 @@ use Rattle.daos_model.specs.EntryLaws.{same_attempt-itself}
 use Rattle.dtx_base.specs.declared.leading.Undecided.{Undecided}
 use Rattle.dtx_base.specs.Asking.{ask_heard, asked_of, asked_open, tells_end, waits_at}
 use Rattle.dtx_base.specs.LeaderLaws.{same-is}
-use Rattle.dtx_base.specs.Leading.{LeaderOf, ack_heard, answer_heard, answer_if_awaited, counted_at, decided, down_told, ended, entry_led, first_down, is_down_among, knowing, mark_reset, ok_heard, prepare_reset, quietly, reset_heard, status_asked, to_target, undecided_attempt, undecided_of, unwaited_at, with_undecided}
+use Rattle.dtx_base.specs.Leading.{LeaderOf, ack_heard, answer_heard, answer_if_awaited, counted_at, decided, down_told, ended, entry_led, first_down, is_down_among, mark_reset, ok_heard, prepare_reset, quietly, reset_heard, status_asked, to_target, undecided_attempt, undecided_of, unwaited_at, with_undecided}
 use Rattle.dtx_base.specs.Members.{all_targets, are_all_counted, has_target, is_other_member, with_target}
 use Rattle.dtx_base.specs.RowLaws.{row-is, row-map, row-without}
 use Rattle.dtx_base.specs.Rows.{is_among, row_of, without_row}
@@ -213,10 +213,6 @@ abbrev pub IsAskedFor : Message → AttemptId → Type 0
 IsAskedFor (message.Prepare e first ws inc) x = x ≡ e.attempt
 IsAskedFor (message.Status a inc) x = x ≡ a
 IsAskedFor m x = ⊥
-
-known-rows : (by : ℕ) (down : Bool) (l : LeaderOf) → (knowing by down l).memory.undecided ≡ l.memory.undecided
-known-rows by true l = refl
-known-rows by false l = refl
 
 status-rows : (by : ℕ) (a : AttemptId) (inc : ℕ) (l : LeaderOf) → (status_asked by a inc l).leader.memory.undecided ≡ l.memory.undecided
 status-rows by a inc l = cases (inc == l.incarnation)

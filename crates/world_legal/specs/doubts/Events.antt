@@ -14,7 +14,7 @@ use Rattle.world_commit.specs.attempts.History.{GrowsBy, History}
 use Rattle.world_base.specs.declared.target.TargetState.{TargetState}
 use Rattle.world_base.specs.declared.world.World.{World}
 use Rattle.world_base.specs.Events.{ByClient, ByTarget, Rules, ToClient, ToTarget}
-use Rattle.world_base.specs.Stops.{Draws, Fails, Further, GivenUp, Happening, IsCut, Opens, Plainly, swept}
+use Rattle.world_base.specs.Stops.{Draws, Fails, Further, GivenUp, Happening, IsCut, Opens, Plainly}
 use Rattle.world_causes.specs.causes.Lasting.{since-more}
 use Rattle.world_letters.specs.epochs.Epochs.{IsPresent}
 use Rattle.world_commit.specs.fates.Facts.{Attempts}
@@ -25,13 +25,12 @@ use Rattle.world_causes.specs.losses.Clients.{of-others, present-not-over}
 use Rattle.world_causes.specs.outcomes.Outcomes.{Outcomes}
 use Rattle.world_commit.specs.statuses.Events.{HappensWithoutSnapshots, told_by}
 use Rattle.world_commit.specs.stops.Happenings.{rightly}
-use Rattle.world_commit.specs.stops.Stops.{sweeping-keeps}
 use Rattle.world_contents.specs.verdicts.Verdicts.{HasWrites}
 use Rattle.world_legal.specs.doubts.Clients.{Goes, IsBegun, going-goes, hearing-goes}
 use Rattle.world_legal.specs.doubts.Doubts.{Doubts, InFlight, InLines, IsInDoubt, IsToldCommitted, ItsLeaderStopped}
-use Rattle.world_legal.specs.doubts.Laws.{DoubtsBegin, EventsKeepDoubts, IsBeside}
+use Rattle.world_legal.specs.doubts.Laws.{DoubtsBegin, IsBeside}
 use Rattle.world_legal.specs.doubts.Recounting.{Recounts, asked-of, entry-writes, loss-back, recounting-keeps, tells_back}
-use Rattle.world_legal.specs.doubts.Stopping.{cut-recounts, drawing-recounts, failing-recounts, giving-up-recounts, opening-recounts, sweeping-recounts}
+use Rattle.world_legal.specs.doubts.Stopping.{cut-recounts, drawing-recounts, failing-recounts, giving-up-recounts, opening-recounts}
 use Rattle.world_legal.specs.doubts.Targets.{further-recounts, heard-lossless, hearing-recounts, idling-recounts}
 
 -- ---- a client's turn
@@ -94,12 +93,6 @@ module _ (r : Rules) (h later : History) (w u : World) (b : IsBeside r h later w
   happening-keeps (Fails g) ours grows = by-target (failing-recounts r h later w u g grows)
   happening-keeps (GivenUp g) ours grows = by-target (giving-up-recounts r h later w u g grows)
   happening-keeps (Draws g) ours grows = by-target (drawing-recounts r h later w u g grows)
-
-pub events-keep-doubts : EventsKeepDoubts
-events-keep-doubts r h later w v e b ours grows k =
-    subst (Doubts r later) (sym e.after)
-    (recounting-keeps r later later e.u (swept e.u) b.attempts_then (sweeping-keeps e.u r later b.attempts_then) b.outcomes_then b.writes_then (sweeping-recounts r later e.u)
-    (happening-keeps r h later w e.u b k e.happens ours grows))
 
 -- ---- the beginning
 

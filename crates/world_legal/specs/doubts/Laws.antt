@@ -1,9 +1,8 @@
 -- The laws of doubts, as statements.
 use Rattle.std.specs.Prelude.{◌≡◌, ◌<◌, []}
-use Rattle.world_commit.specs.attempts.History.{GrowsBy, History}
+use Rattle.world_commit.specs.attempts.History.{History}
 use Rattle.world_base.specs.declared.world.World.{World}
 use Rattle.world_base.specs.Events.{Rules}
-use Rattle.world_base.specs.Stops.{WorldEvent}
 use Rattle.world_commit.specs.fates.Asked.{AskedRight}
 use Rattle.world_commit.specs.fates.Facts.{Attempts}
 use Rattle.world_commit.specs.fates.Keeping.{HasNoneYet}
@@ -13,7 +12,6 @@ use Rattle.world_causes.specs.losses.ClientHears.{LossesAreAsked}
 use Rattle.world_causes.specs.losses.Losses.{Losses}
 use Rattle.world_causes.specs.outcomes.Outcomes.{Outcomes}
 use Rattle.world_causes.specs.outcomes.Premises.{AsksGoRight}
-use Rattle.world_commit.specs.statuses.Events.{HappensWithoutSnapshots, told_by}
 use Rattle.world_letters.specs.waits.Premises.{RequestsAreOfClients}
 use Rattle.world_letters.specs.waits.Waits.{Conversation}
 use Rattle.world_legal.specs.doubts.Doubts.{Doubts}
@@ -38,7 +36,3 @@ pub record IsBeside (r : Rules) (h later : History) (w u : World) : Type 0 where
   pub outcomes_then : Outcomes r later u
   pub requests_then : RequestsAreOfClients u
   pub writes_then : EntriesWrite r u
-
--- each event keeps them in which nothing is heard of snapshots and aggregation, of what is told in it, or would be told if clients waited
-abbrev pub EventsKeepDoubts : Type 0
-EventsKeepDoubts = (r : Rules) (h later : History) (w v : World) → (e : WorldEvent r w v) → IsBeside r h later w e.u → HappensWithoutSnapshots e.happens → GrowsBy h (told_by e.happens) later → Doubts r h w → Doubts r later v

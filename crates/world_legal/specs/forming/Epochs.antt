@@ -1,24 +1,21 @@
 -- Leases cover epochs and floors, so these are as short as their types hold.
 use Rattle.world_base.specs.declared.target.TargetState.{TargetState}
-use Rattle.std.specs.Prelude.{ℕ, ◌≡◌, ◌≤◌, ◌<◌, ◌/◌, ◌%◌, ◌^◌, length, slice_get, Option, Some, None, refl}
-use Rattle.std.proofs.Common.{inl, sym, ◌∙◌, arith}
+use Rattle.std.specs.Prelude.{ℕ, ◌≡◌, ◌≤◌, ◌<◌, ◌/◌, ◌%◌, ◌^◌, length, slice_get, Some, refl}
+use Rattle.std.proofs.Common.{inl, arith}
 use Rattle.base_types.specs.declared.epoch.Epoch.{Epoch}
 use Rattle.base_types.specs.declared.id.AttemptId.{AttemptId}
-use Rattle.base_types.specs.declared.report.Attempt.{Attempt}
 use Rattle.base_types.specs.declared.report.Line.TheVariants as line
 use Rattle.base_types.specs.Epochs.{restart_floor}
 use Rattle.model_laws.specs.DecidedLaws.{has-all}
 use Rattle.model_laws.specs.Lists.{at-within}
-use Rattle.model_laws.specs.Members.{Has, contains-from_has, has-filter}
+use Rattle.model_laws.specs.Members.{Has, has-filter}
 use Rattle.model_laws.specs.TargetLaws.{same_number}
-use Rattle.daos_model.specs.Attempts.{tries}
 use Rattle.daos_model.specs.Opening.{Opening, top}
 use Rattle.daos_model.specs.Stops.{HasTarget, floors, is_at, lines_at, opened_floor}
-use Rattle.report_writer.specs.Forms.{IsEpoch, IsEpochOrNone}
+use Rattle.report_writer.specs.Forms.{IsEpoch}
 use Rattle.world_base.specs.declared.world.World.{World}
 use Rattle.world_base.specs.Events.{Rules}
-use Rattle.world_letters.specs.epochs.Epochs.{Epochs, IsEpochOf, IsIssued, IsOwn, IsSeen, Unsnapped}
-use Rattle.world_letters.specs.epochs.PlainScripts.{no-snapshots}
+use Rattle.world_letters.specs.epochs.Epochs.{Epochs, IsIssued}
 use Rattle.world_letters.specs.lives.Lives.{Lives}
 use Rattle.world_letters.specs.lives.Numbers.{gather-has}
 
@@ -36,18 +33,6 @@ module _ (r : Rules) (o : Opening) (w : World) (epochs : Epochs r (top o) w) (le
   -- an epoch that was issued
   pub issued-short : (x : AttemptId) (e : Epoch) → IsIssued w x e → IsEpoch e
   issued-short x e i = let t = epochs.issuer x e i in issued-low e.0 t.0.durable.lease (epochs.leased x e t.0 i t.1) (leases (e.0 % 256) t.0 t.1)
-
-  -- and one that a line shows of an attempt
-  pub shown-short : Unsnapped r → (a : Attempt) → Has a (tries w.lines) → IsEpochOrNone a.epoch
-  shown-short plain a i = by a.epoch refl
-    where
-      own : (e : Epoch) → IsEpochOf r w a.id e → IsEpoch e
-      own e (IsOwn issued) = issued-short a.id e issued
-      own e (IsSeen k) = let bad : None ≡ Some k.name = sym (no-snapshots r plain a.id) ∙ k.reads in let no : ⊥ = cc in absurd no
-
-      by : (z : Option Epoch) → a.epoch ≡ z → IsEpochOrNone z
-      by None at = tt
-      by (Some e) at = own e (epochs.shown a e (contains-from_has (tries w.lines) a i) at)
 
   -- and a floor with which a target opened again
   pub floor-short : Lives w → (n t incarnation : ℕ) (floor : Epoch) → Has (line.Restart n t incarnation floor) w.lines → IsEpoch floor

@@ -1,8 +1,7 @@
 -- An attempt that its leader keeps open, and doesn't know as decided, is open to any other; and so is one whose leader stopped since it began.
-use Rattle.std.specs.Prelude.{ℕ, ◌≡◌, ◌<◌, ◌⊎◌, ◌||◌, ◌==◌, ◌++◌, Bool, true, false, List, [], ◌∷◌, slice_get, Option, Some, None, refl, if◌then◌else◌}
+use Rattle.std.specs.Prelude.{ℕ, ◌≡◌, ◌⊎◌, ◌||◌, ◌++◌, Bool, true, false, List, [], ◌∷◌, slice_get, Option, Some, None, refl, if◌then◌else◌}
 use Rattle.std.specs.List.{list_any}
 use Rattle.std.proofs.Common.{inl, inr, sym, ◌∙◌, ap, subst}
-use Rattle.std.proofs.lemmas.Bool.{eqb-true}
 use Rattle.base_types.specs.declared.entry.Entry.{Entry}
 use Rattle.base_types.specs.declared.entry.Verdict.TheVariants as verdicts
 use Rattle.base_types.specs.declared.id.AttemptId.{AttemptId}
@@ -19,31 +18,21 @@ use Rattle.dtx_base.specs.Leading.{entry_led, query_answer, verdict_on}
 use Rattle.dtx_base.specs.Rows.{is_among}
 use Rattle.model_laws.specs.Lists.{any-of}
 use Rattle.model_laws.specs.Members.{Has, any-has, contains-from_has, has-any}
-use Rattle.world_commit.specs.attempts.Attempts.{IsItsEntry, IsOther, entry_at, entry_in, is_known_at, is_known_in, leader_of}
+use Rattle.world_commit.specs.attempts.Attempts.{entry_at, entry_in, is_known_at, is_known_in, leader_of}
 use Rattle.world_commit.specs.attempts.History.{History}
 use Rattle.world_commit.specs.attempts.MarkTurns.{led-found}
-use Rattle.world_commit.specs.attempts.MemberBits.{other-no_leader}
-use Rattle.world_commit.specs.attempts.Stored.{among-is}
 use Rattle.world_base.specs.declared.target.TargetState.{TargetState}
-use Rattle.world_base.specs.declared.target.TargetPlan.{TargetPlan}
 use Rattle.world_base.specs.declared.world.World.{World}
 use Rattle.world_base.specs.Events.{Rules, target_plan}
-use Rattle.world_base.specs.Roles.{leader_at, other_leader, other_leader_of}
-use Rattle.daos_model.specs.declared.durable.Durable.{Durable}
-use Rattle.daos_model.specs.declared.durable.Version.{Version}
-use Rattle.daos_model.specs.Opening.{Opening, top}
-use Rattle.world_causes.specs.causes.Paths.{AreOpen, IsKnown, IsMet, IsOpenStill, IsOthers}
+use Rattle.world_base.specs.Roles.{leader_at}
 use Rattle.world_causes.specs.causes.ReadTurns.{unended-open}
 use Rattle.world_causes.specs.causes.Shown.{IsOpenToAll, IsUnknown, LeaderStopped}
 use Rattle.world_causes.specs.causes.Turns.{HasNoLine}
-use Rattle.world_causes.specs.causes.Unsettled.{versions-prepared}
 use Rattle.world_legal.specs.doubts.Doubts.{Doubts, InLines, IsInDoubt, ItsLeaderStopped}
 use Rattle.world_legal.specs.doubts.Recounting.{entry-writes}
-use Rattle.world_letters.specs.epochs.Epochs.{PlainEpochs}
 use Rattle.world_commit.specs.fates.Facts.{Attempts}
 use Rattle.world_causes.specs.hearing.Going.{EntriesWrite}
 use Rattle.world_causes.specs.outcomes.Outcomes.{Outcomes, is_failed}
-use Rattle.world_contents.specs.reads.Versions.{IsPreparedAt, Versions}
 use Rattle.world_contents.specs.verdicts.Verdicts.{HasWrites}
 
 -- ---- lines
@@ -135,32 +124,3 @@ module _ (r : Rules) (h : History) (w : World) (attempts : Attempts r h w) (outc
           open' true is c dec g = let no : ⊥ = cc in absurd no
           open' false is true dec g = let no : ⊥ = cc in absurd no
           open' false is false dec g = led-open a k leads found.0 is dec
-
-  leader-found : (p : TargetPlan) (d : Durable) (x : AttemptId) (e : Entry) → entry_of d x ≡ Some e → other_leader p x d ≡ other_leader_of p.me (Some e)
-  unfolding other_leader
-  leader-found p d x e found = ap (other_leader_of p.me) found
-
-  -- what isn't settled there a read may meet
-  pub opens-here : (o : Opening) (held : ℕ → List Version) → PlainEpochs r (top o) w → Versions r o held h w → AreOpen r.script (target_plan r t) w.lines (top o) s.durable s.memory.leader.decided
-  opens-here o held epochs versions v i unsettled = record { met = by its.place; above = subst (λ e. top o < e.0) p.epoch (epochs.above v.by p.entry.epoch (contains-from_has w.issued (v.by, p.entry.epoch) its.issued)) }
-    where
-      p : IsPreparedAt s.durable v.by v.epoch
-      p = versions-prepared r o held h w versions t s v here (contains-from_has s.durable.versions v i) unsettled
-
-      its : IsItsEntry r w v.by t p.entry
-      its = (attempts.on.each v.by).entries.one t p.entry (ap (λ z. entry_in z v.by) here ∙ p.found)
-
-      led-by : (n : ℕ) → p.entry.leader ≡ n → (n ≡ t → ⊥) → other_leader_of t (Some p.entry) ≡ Some p.entry.leader
-      led-by n is off = ap (λ b. if b then None else Some p.entry.leader) (not-led (p.entry.leader == t) refl)
-        where
-          not-led : (b : Bool) → (p.entry.leader == t) ≡ b → (p.entry.leader == t) ≡ false
-          not-led true same = absurd (off (sym is ∙ eqb-true p.entry.leader t same))
-          not-led false same = same
-
-      leading : t ≡ leader_of r v.by → (b : Bool) → is_among v.by s.memory.leader.decided ≡ b → IsMet r.script (target_plan r t) w.lines s.durable s.memory.leader.decided v.by
-      leading leads true known = IsKnown (among-is v.by s.memory.leader.decided known)
-      leading leads false unknown = IsOpenStill (led-open v.by p.entry leads p.found p.open' unknown)
-
-      by : (t ≡ leader_of r v.by) ⊎ IsOther r v.by t → IsMet r.script (target_plan r t) w.lines s.durable s.memory.leader.decided v.by
-      by (inl leads) = leading leads (is_among v.by s.memory.leader.decided) refl
-      by (inr other) = IsOthers p.entry.leader (leader-found (target_plan r t) s.durable v.by p.entry p.found ∙ led-by (leader_of r v.by) its.leader (λ same. other-no_leader r v.by t other (sym same)))

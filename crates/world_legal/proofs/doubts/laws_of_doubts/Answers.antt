@@ -1,5 +1,5 @@
 use Rattle.world_legal.proofs.doubts.laws_of_doubts.Goals as goal
-use Rattle.world_legal.specs.doubts.Events.{doubts-begin, events-keep-doubts}
+use Rattle.world_legal.specs.doubts.Events.{doubts-begin}
 
 pub returns : goal.returns
-returns c = record { begin = doubts-begin; events = events-keep-doubts }
+returns c = record { begin = doubts-begin }
