@@ -1,4 +1,4 @@
--- All facts together where targets may stop, kept by every event, and what follows for messages and openings; and when epochs are in the order of real time.
+-- What waits at targets, what goes to them, and what leases cover, where targets may stop; and when epochs are in the order of real time.
 pub mod standing
 pub mod hearable
 pub mod external

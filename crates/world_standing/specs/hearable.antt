@@ -1,5 +1,4 @@
--- What targets can hear at each moment of a run in which targets may stop, and what they can open again with.
+-- What targets can hear, and what they can open again with, where targets may stop.
 pub mod Sent
 pub mod Covered
 pub mod Hearable
-pub mod Runs

@@ -1,10 +1,7 @@
--- All that holds between any two events of a run in which targets may stop.
+-- What facts of a run give, and what they go on with, where targets may stop.
 pub mod Requests
 pub mod Clients
 pub mod Telling
 pub mod Unsnapped
-pub mod Standing
 pub mod Events
-pub mod Runs
-pub mod Containers
 pub mod Covering

@@ -9,7 +9,7 @@ use Rattle.daos_model.specs.Changes.{leased, prepared, reopened, settled}
 use Rattle.daos_model.specs.declared.durable.Durable.{Durable}
 use Rattle.world_base.specs.declared.world.World.{World}
 use Rattle.world_base.specs.ChangeLaws.{lease-settled}
-use Rattle.world_standing.specs.standing.Covering.{AreAll, CutsLeave, EventsKeep, StaysCovered, cuts-leave, epochs-puts, epochs-settled, events-keep}
+use Rattle.world_standing.specs.standing.Covering.{AreAll, StaysCovered, epochs-puts, epochs-settled}
 
 -- ---- the statements
 
@@ -21,17 +21,9 @@ IsCovered d = All (λ v. v.epoch.0 / 256 ≤ d.lease) d.versions
 abbrev pub AreCovered : World → Type 0
 AreCovered w = AreAll IsCovered w
 
--- where a turn of a target is cut, what it leaves is covered
-abbrev pub CutsLeaveCovered : Type 0
-CutsLeaveCovered = CutsLeave IsCovered
-
 -- and so it is where its incarnation is raised, by an opening or by one that fails
 abbrev pub RaisedIsCovered : Type 0
 RaisedIsCovered = (d : Durable) → IsCovered d → IsCovered (reopened d)
-
--- each event keeps it
-abbrev pub EventsKeepCovered : Type 0
-EventsKeepCovered = EventsKeep IsCovered
 
 -- ---- changes
 
@@ -55,11 +47,3 @@ covered-reopened d all = all
 
 pub stays-covered : StaysCovered IsCovered
 stays-covered = record { extends = covered-leased; stores = covered-prepared; settles = covered-settled; opens = covered-reopened }
-
--- ---- turns and events
-
-pub cuts-leave-covered : CutsLeaveCovered
-cuts-leave-covered = cuts-leave IsCovered stays-covered
-
-pub events-keep-covered : EventsKeepCovered
-events-keep-covered = events-keep IsCovered stays-covered

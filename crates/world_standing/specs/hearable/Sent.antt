@@ -1,10 +1,7 @@
 -- A Reset tells of one of the targets, and a tracker is told to a client.
-use Rattle.std.specs.Prelude.{ℕ, ◌≡◌, ◌<◌, ◌++◌, ◌==◌, Bool, true, false, not, List, [], ◌∷◌, filter, length, map, slice_get, Option, Some, None, refl}
+use Rattle.std.specs.Prelude.{ℕ, ◌≡◌, ◌<◌, ◌++◌, ◌==◌, Bool, true, false, not, List, [], ◌∷◌, filter, length, map, Option, Some, None, refl}
 use Rattle.std.proofs.Common.{inl, inr, zero, suc, sym, ◌∙◌, ap, subst, arith}
-use Rattle.std.proofs.Math.ListN.{set}
 use Rattle.std.proofs.lemmas.Bool.Decides.{nat_tests}
-use Rattle.std.proofs.lemmas.List.{length-set}
-use Rattle.std.proofs.lemmas.Option.{slice_get_within}
 use Rattle.base_types.specs.declared.entry.Entry.{Entry}
 use Rattle.base_types.specs.declared.epoch.Epoch.{Epoch}
 use Rattle.base_types.specs.declared.entry.EntryState.{EntryState}
@@ -15,13 +12,11 @@ use Rattle.base_messages.specs.declared.message.Message.{Message, more_of-Messag
 use Rattle.base_messages.specs.declared.message.Message.TheVariants as message
 use Rattle.base_messages.specs.declared.message.Post.{Post}
 use Rattle.daos_model.specs.BoolLaws.{and_right}
-use Rattle.daos_model.specs.Changes.{reopened}
 use Rattle.daos_model.specs.declared.durable.Durable.{Durable}
 use Rattle.dtx_base.specs.declared.member.Parked.{Parked}
 use Rattle.dtx_base.specs.Leading.{is_led, is_open}
 use Rattle.dtx_base.specs.Members.{other_members}
-use Rattle.model_laws.specs.Members.{Has, contains-from_has, has-cases, has-from_filter, has-from_map}
-use Rattle.world_commit.specs.attempts.Counting.{has-left_over, has-taken}
+use Rattle.model_laws.specs.Members.{Has, has-cases, has-from_filter, has-from_map}
 use Rattle.world_base.specs.declared.client.ClientPlan.{ClientPlan}
 use Rattle.world_base.specs.declared.client.ClientState.{ClientState}
 use Rattle.world_base.specs.declared.client.Present.{Present}
@@ -35,19 +30,18 @@ use Rattle.world_base.specs.declared.world.World.{World}
 use Rattle.world_base.specs.Changes.{Kept}
 use Rattle.world_base.specs.ClientTurns.{Move, heard, listed, moved, waits}
 use Rattle.world_base.specs.Commits as commit
-use Rattle.world_base.specs.Events.{ByClient, ByTarget, Event, Rules, TargetHearsBy, ToClient, ToTarget, client_plan, kept, target_plan}
+use Rattle.world_base.specs.Events.{Rules, TargetHearsBy, kept, target_plan}
 use Rattle.world_base.specs.Further.{CommitDown, HearsFurther, IsSpent, IsUnknown}
-use Rattle.world_base.specs.Letters.{client, letter_of, letters_of, target}
-use Rattle.world_base.specs.StepLaws.{by-hearing, by-next}
+use Rattle.world_base.specs.Letters.{client, letter_of, letters_of}
 use Rattle.world_base.specs.Statuses.{opening_posts, status_refusal, status_to, statuses_for, statuses_of}
-use Rattle.world_base.specs.Stops.{Draws, Fails, Further, GivenUp, Happening, HearsMore, IsCut, Opens, Plainly, WorldEvent, is_down_at, is_not_to, is_not_to_down, is_to, is_to_down, reset_letter, resets, swept}
+use Rattle.world_base.specs.Stops.{HearsMore, is_down_at, is_not_to, is_not_to_down, is_to, is_to_down, reset_letter, resets, swept}
 use Rattle.world_base.specs.TargetTurns.{commit_request}
 use Rattle.world_letters.specs.endings.Clients.{IsQuestion, heard-asks}
 use Rattle.world_causes.specs.hearing.Listening.{is_listened, listens}
 use Rattle.world_causes.specs.hearing.Saying.{AsksState, EndsHeld, EndsLost, MarksAgain, MetUnresolved, SaysFurther, TellsState}
-use Rattle.world_letters.specs.lines.EndingLaws.{all-hear-tell, idle-tells}
-use Rattle.world_letters.specs.lines.Lines.{Endings, MayEnd, TellsPlainly}
-use Rattle.world_standing.specs.standing.Unsnapped.{NothingOfSnapshots, is_of_snapshots, tells_of_snapshots}
+use Rattle.world_letters.specs.lines.EndingLaws.{all-hear-tell}
+use Rattle.world_letters.specs.lines.Lines.{MayEnd, TellsPlainly}
+use Rattle.world_standing.specs.standing.Unsnapped.{is_of_snapshots, tells_of_snapshots}
 use Rattle.world_letters.specs.talks.AskLaws.{move-is, waiting-rests}
 use Rattle.world_letters.specs.talks.Asked.{ARead, ASnapshot, AnAggregation, Asked, Asking, IsMove, ItsWrites, Silent, Telling}
 
@@ -63,10 +57,6 @@ IsSentSo n to m = Unit {0}
 pub record AreSentSo (n : ℕ) (w : World) : Type 0 where
   pub targets : length w.targets ≡ n
   pub letters : (l : Letter) → Has l w.messages → IsSentSo n l.to l.message
-
--- and each event keeps it so, where nothing goes about of snapshots
-abbrev pub EventsKeepSent : Type 0
-EventsKeepSent = (r : Rules) (n : ℕ) (w v : World) → Endings w → NothingOfSnapshots w → WorldEvent r w v → AreSentSo n w → AreSentSo n v
 
 -- ---- messages
 
@@ -209,68 +199,8 @@ module _ (r : Rules) (n : ℕ) (w v : World) (f : HearsMore r w v) where
 
 -- ---- events
 
-module _ (r : Rules) (n : ℕ) (w v : World) (ends : Endings w) (nothing : NothingOfSnapshots w) (many : length w.targets ≡ n) (k : AreSo n w.messages) where
-  plainly : Event r w v → AreSo n v.messages
-  plainly (ByClient g) =
-      by-next r (λ u. AreSo n u.messages) (λ u m c here p. both-so n u.messages (letters_of (client m) (listed (moved (client_plan r m) c).post)) p (client-so n m (moved (client_plan r m) c).post (move-so n (client_plan r m) c)))
-      (λ u m i c here p. p) w v k g
-  plainly (ToClient g) =
-      by-hearing r (λ u. AreSo n u.messages) (λ u m c here p. both-so n u.messages (letters_of (client m) (listed (moved (client_plan r m) c).post)) p (client-so n m (moved (client_plan r m) c).post (move-so n (client_plan r m) c)))
-      (λ u m c l rest here awake takes to p.
-      both-so n rest (letters_of (client m) (listed (heard (client_plan r m) c l.message).post)) (λ q i. p q (has-left_over u.messages l rest q takes i))
-      (client-so n m (heard (client_plan r m) c l.message).post (heard-so n (client_plan r m) c l.message))) w v k g
-  plainly (ToTarget g) =
-      subst (AreSo n) (sym (ap (λ u. u.messages) g.after))
-      (both-so n g.rest (letters_of (target g.t) g.did.posts) (λ q i. k q (has-left_over w.messages g.l g.rest q g.takes i))
-      (posts-so n (target g.t) g.did.posts
-      (λ q i. plainly-so n q.to q.message ((all-hear-tell (target_plan r g.t) g.s.opening g.s.memory g.reading g.l.from g.l.message (kept g.s) g.new (g.memory, g.did) (ends g.l (contains-from_has w.messages g.l (has-taken w.messages g.l g.rest g.takes))) g.turn).0 q i))))
-  plainly (ByTarget g) =
-      subst (AreSo n) (sym (ap (λ u. u.messages) g.after))
-      (both-so n w.messages (letters_of (target g.t) g.did.posts) k
-      (posts-so n (target g.t) g.did.posts (λ q i. plainly-so n q.to q.message ((idle-tells g.settling (target_plan r g.t) g.s.memory g.turn.last g.new (g.memory, g.did) g.turn.ends).0 q i))))
-
-  within : (t : ℕ) (s : TargetState) → slice_get w.targets t ≡ Some s → t < n
-  within t s here = subst (λ m. t < m) many (slice_get_within w.targets t s here)
-
-  letters-then : Happening r w v → AreSo n v.messages
-  letters-then (Plainly e up) = plainly e
-  letters-then (Further f) =
-      let g = f.hears in
-      subst (AreSo n) (sym (ap (λ u. u.messages) g.after))
-      (both-so n g.rest (letters_of (target g.t) g.did.posts) (λ q i. k q (has-left_over w.messages g.l g.rest q g.takes i))
-      (posts-so n (target g.t) g.did.posts (more-so r n w v f g.l.message refl (nothing.letters g.l (has-taken w.messages g.l g.rest g.takes)) g.turn)))
-  letters-then (IsCut g) = subst (AreSo n) (sym (ap (λ u. u.messages) g.after)) (lost-so n g.t false w (within g.t g.s g.here) k)
-  letters-then (Opens g) =
-      subst (AreSo n) (sym (ap (λ u. u.messages) g.after))
-      (both-so n w.messages (letters_of (target g.t) (opening_posts (target_plan r g.t) (reopened g.s.durable))) k
-      (posts-so n (target g.t) (opening_posts (target_plan r g.t) (reopened g.s.durable)) (opening-so n (target_plan r g.t) (reopened g.s.durable))))
-  letters-then (Fails g) = subst (AreSo n) (sym (ap (λ u. u.messages) g.after)) k
-  letters-then (GivenUp g) = subst (AreSo n) (sym (ap (λ u. u.messages) g.after)) (lost-so n g.t true w (within g.t g.s g.here) k)
-  letters-then (Draws g) = subst (AreSo n) (sym (ap (λ u. u.messages) g.after)) k
-
-  as-many : (t : ℕ) (z : TargetState) → v.targets ≡ set w.targets t z → length v.targets ≡ n
-  as-many t z same = ap length same ∙ length-set w.targets t z ∙ many
-
-  targets-then : Happening r w v → length v.targets ≡ n
-  targets-then (Plainly (ByClient g) up) = ap (λ u. length u.targets) g.after ∙ many
-  targets-then (Plainly (ToClient g) up) = ap (λ u. length u.targets) g.after ∙ many
-  targets-then (Plainly (ToTarget g) up) = as-many g.t _ (ap (λ u. u.targets) g.after)
-  targets-then (Plainly (ByTarget g) up) = as-many g.t _ (ap (λ u. u.targets) g.after)
-  targets-then (Further f) = as-many f.hears.t _ (ap (λ u. u.targets) f.hears.after)
-  targets-then (IsCut g) = as-many g.t _ (ap (λ u. u.targets) g.after)
-  targets-then (Opens g) = as-many g.t _ (ap (λ u. u.targets) g.after)
-  targets-then (Fails g) = as-many g.t _ (ap (λ u. u.targets) g.after)
-  targets-then (GivenUp g) = as-many g.t _ (ap (λ u. u.targets) g.after)
-  targets-then (Draws g) = ap (λ u. length u.targets) g.after ∙ many
-
 pub swept-so : (n : ℕ) (w : World) → length w.targets ≡ n → AreSo n w.messages → AreSo n (swept w).messages
 swept-so n w many k =
     filter-so n (is_not_to_down w.targets) (w.messages ++ map (reset_letter true) (filter (is_to_down w.targets) w.asked))
     (both-so n w.messages (map (reset_letter true) (filter (is_to_down w.targets) w.asked)) k
     (resets-so n true (is_to_down w.targets) w.asked (λ q is. subst (λ m. q.to.number < m) many (down-within w.targets q.to.number (and_right (not q.to.client) (is_down_at w.targets q.to.number) is)))))
-
-pub events-keep-sent : EventsKeepSent
-events-keep-sent r n w v ends nothing e k =
-    let sent = letters-then r n w e.u ends nothing k.targets k.letters e.happens in
-    let many = targets-then r n w e.u ends nothing k.targets k.letters e.happens in
-    record { targets = ap (λ x. length x.targets) e.after ∙ many; letters = subst (AreSo n) (sym (ap (λ x. x.messages) e.after)) (swept-so n e.u many sent) }

@@ -1,5 +1,5 @@
--- What a client does keeps, all together, its conversation, what lines tell of it, epochs, and what is told of how attempts ended.
-use Rattle.std.specs.Prelude.{ℕ, ◌≡◌, ◌<◌, false, List, slice_get, Option, Some, None, refl}
+-- What a client hears fits what it asked, and lines tell of it what it has told.
+use Rattle.std.specs.Prelude.{ℕ, ◌≡◌, false, List, slice_get, Option, Some, None, refl}
 use Rattle.std.proofs.Common.{sym, ◌∙◌, ap, subst}
 use Rattle.base_messages.specs.declared.message.Message.{Message}
 use Rattle.base_messages.specs.declared.message.Message.TheVariants as message
@@ -12,33 +12,22 @@ use Rattle.world_base.specs.declared.client.ClientState.{ClientState}
 use Rattle.world_base.specs.declared.client.Present.{Present}
 use Rattle.world_base.specs.declared.letter.Letter.{Letter}
 use Rattle.world_base.specs.declared.world.World.{World}
-use Rattle.world_base.specs.ClientTurns.{attempt_id, heard, listed}
-use Rattle.world_base.specs.Events.{ClientGoes, ClientHears, Rules, client_plan}
+use Rattle.world_base.specs.ClientTurns.{heard, listed}
+use Rattle.world_base.specs.Events.{Rules, client_plan}
 use Rattle.world_base.specs.Letters.{Takes, client, is_tell}
-use Rattle.world_base.specs.StepLaws.{by-hearing, by-next}
-use Rattle.world_base.specs.Steps.{KeptByCounting, KeptByHearing, KeptByMoves, after_move, without}
+use Rattle.world_base.specs.Steps.{after_move, without}
 use Rattle.world_letters.specs.clients.AnswerLaws.{heard-answered}
 use Rattle.world_letters.specs.clients.Answered.{IsFit, IsFitHere}
 use Rattle.world_letters.specs.clients.MoveLaws.{heard-keeps}
-use Rattle.world_letters.specs.endings.Events as ending
-use Rattle.world_letters.specs.epochs.Epochs.{Epochs, Unsnapped}
-use Rattle.world_letters.specs.epochs.EventLaws as epoch
-use Rattle.world_letters.specs.epochs.PlainLaws.{own-of, plain-epochs, whole-epochs}
-use Rattle.world_causes.specs.handing.Fitting.{hears-fitly}
+use Rattle.world_letters.specs.epochs.Epochs.{Epochs}
 use Rattle.world_causes.specs.handing.Handing.{told-to}
-use Rattle.world_causes.specs.hearing.HappeningEpochs.{talks-once}
-use Rattle.world_letters.specs.lines.EndingLaws.{endings-by-counting, endings-by-moves}
-use Rattle.world_letters.specs.lines.LineLaws.{did-tell, got-fits, lines-by-counting, lines-by-moves}
+use Rattle.world_letters.specs.lines.LineLaws.{did-tell, got-fits}
 use Rattle.world_letters.specs.lines.Lines.{Endings, Lines}
-use Rattle.world_causes.specs.outcomes.ClientLaws as outcome
-use Rattle.world_causes.specs.outcomes.HearLaws as outcome_heard
 use Rattle.world_causes.specs.outcomes.Outcomes.{Outcomes}
 use Rattle.world_letters.specs.talks.AskLaws.{sent-is-asked}
 use Rattle.world_letters.specs.talks.Conversation.{Answers}
-use Rattle.world_contents.specs.verdicts.Verdicts.{Agrees}
-use Rattle.world_letters.specs.waits.ClientLaws as wait
 use Rattle.world_letters.specs.waits.Waits.{Conversation, IsAnswer, IsLost, IsQuestion, IsReplyTo, ItsAsk, ItsRequest}
-use Rattle.world_plain.specs.whole.Judged.{DecidedIssued, lines-stand}
+use Rattle.world_plain.specs.whole.Judged.{DecidedIssued}
 
 -- ---- what a client hears of its attempt
 
@@ -93,45 +82,3 @@ pub record ClientsSpeak (r : Rules) (top : ℕ) (h : History) (w : World) : Type
   pub epochs : Epochs r top w
   pub issued : DecidedIssued h w
   pub outcomes : Outcomes r h w
-
-module _ (r : Rules) (top : ℕ) (h : History) (some : 0 < r.attempts) (U : Unsnapped r) where
-  -- the epoch that a client knows of its attempt is that of its decision
-  agrees : (w : World) → ClientsSpeak r top h w → Agrees r h w
-  agrees w k n c a f e here at known decided =
-      k.epochs.one (attempt_id (client_plan r n) c a) f e (own-of r U w (attempt_id (client_plan r n) c a) f (k.epochs.known n c a f here at known)) (k.issued (attempt_id (client_plan r n) c a) e decided)
-
-  by-moves : KeptByMoves r (ClientsSpeak r top h)
-  by-moves w n c here k = record {
-    talk = wait.moves-keep r w n c here k.talk;
-    endings = endings-by-moves r w n c here k.endings;
-    lines = lines-by-moves r some w n c here k.lines;
-    epochs = whole-epochs r U top _ (epoch.moves-keep r top some U (Conversation r) (talks-once r) (wait.moves-keep r) (wait.hearing-keeps r) w n c here (k.talk, lines-stand r w k.lines, plain-epochs r U top w k.epochs)).2;
-    issued = k.issued;
-    outcomes = outcome.moving-keeps r h w n c k.lines here k.outcomes;
-  }
-
-  by-counting : KeptByCounting (ClientsSpeak r top h)
-  by-counting w n j c here k = record {
-    talk = wait.counting-keeps r w n j c here k.talk;
-    endings = endings-by-counting w n j c here k.endings;
-    lines = lines-by-counting r w n j c here k.lines;
-    epochs = whole-epochs r U top _ (epoch.counting-keeps r top some U (Conversation r) (talks-once r) (wait.moves-keep r) (wait.hearing-keeps r) w n j c here (plain-epochs r U top w k.epochs));
-    issued = k.issued;
-    outcomes = outcome.counting-keeps r h w n j c here k.outcomes;
-  }
-
-  hearing-keeps : KeptByHearing r (ClientsSpeak r top h)
-  hearing-keeps w n c l rest here awake takes to k = record {
-    talk = wait.hearing-keeps r w n c l rest here awake takes to k.talk;
-    endings = ending.hearing-keeps r w n c l rest here awake takes to k.endings;
-    lines = lines-heard r w n c l rest k.talk k.endings here takes to k.lines;
-    epochs = whole-epochs r U top _ (epoch.hearing-keeps r top some U (Conversation r) (talks-once r) (wait.moves-keep r) (wait.hearing-keeps r) w n c l rest here awake takes to (k.talk, lines-stand r w k.lines, plain-epochs r U top w k.epochs)).2;
-    issued = k.issued;
-    outcomes = outcome_heard.hearing-keeps r h w n c l rest (agrees w k) k.outcomes here takes (hears-fitly r w n c l rest k.talk k.endings here takes to);
-  }
-
-  pub client-goes : (w v : World) → ClientsSpeak r top h w → ClientGoes r w v → ClientsSpeak r top h v
-  client-goes w v k g = by-next r (ClientsSpeak r top h) by-moves by-counting w v k g
-
-  pub client-hears : (w v : World) → ClientsSpeak r top h w → ClientHears r w v → ClientsSpeak r top h v
-  client-hears w v k g = by-hearing r (ClientsSpeak r top h) by-moves hearing-keeps w v k g
