@@ -11,7 +11,6 @@ pub mod Writing
 pub mod Deciding
 pub mod HappeningReads
 pub mod Floors
-pub mod EpochTurns
 pub mod Cutting
 pub mod EpochCuts
 pub mod EpochRequests

@@ -6,4 +6,3 @@ pub mod Cutting
 pub mod Further
 pub mod FurtherEvents
 pub mod Happening
-pub mod Laws

@@ -8,5 +8,3 @@ pub mod hearing;
 pub mod losses;
 pub mod outcomes;
 pub mod restarts;
-pub mod showing;
-pub mod stored;

@@ -1,13 +1,13 @@
 // Who tells that an attempt is unresolved by itself, and all that may lead to it: a target of the attempt stopped since it began.
 
-ghost use Rattle.world_causes.specs.losses.Keeping.{AnswersKeepLosses, ClientsKeepLosses, CutsKeepLosses, DrawnNumbersKeepLosses, EventsKeepLosses, FailedOpeningsKeepLosses, FurtherHearingKeepsLosses, GivenUpTargetsKeepLosses, HearingClientsKeepLosses, HearingKeepsLosses, IdleWorkKeepsLosses, LossesBegin, OpeningsKeepLosses, ResetsKeepLosses, SweepingKeepsLosses};
+ghost use Rattle.world_causes.specs.losses.Keeping.{AnswersKeepLosses, ClientsKeepLosses, CutsKeepLosses, DrawnNumbersKeepLosses, FailedOpeningsKeepLosses, FurtherHearingKeepsLosses, GivenUpTargetsKeepLosses, HearingClientsKeepLosses, HearingKeepsLosses, IdleWorkKeepsLosses, LossesBegin, OpeningsKeepLosses, ResetsKeepLosses, SweepingKeepsLosses};
 
 /// Says what holds of the losses of stops. Some messages there are of a client's present attempt only
 /// where a target of it stopped since the client's last line: its leader asks a member what it holds, or
 /// is answered; its client asks what became of it; what these asked got no answer by a target that
 /// stopped; or it is told that the attempt is unresolved by itself. So it is, too, where the attempt's
 /// leader holds it and doesn't run. And a line tells of an attempt that it is unresolved by itself only
-/// behind such a stop. It is so at the beginning, and every event keeps it so in which nothing is heard
+/// behind such a stop. It is so at the beginning, and each kind of event keeps it so in which nothing is heard
 /// of snapshots and aggregation. A stop rests on what is asked about an attempt being asked of its
 /// targets, and on leaders being targets. What a target hears rests on the attempts that read being
 /// new, and on what isn't settled being held: so no read meets its own attempt. And a client's turn
@@ -27,5 +27,4 @@ pub fn laws_of_losses()
     ensures further { FurtherHearingKeepsLosses }
     ensures clients { ClientsKeepLosses }
     ensures told { HearingClientsKeepLosses }
-    ensures events { EventsKeepLosses }
 {}

@@ -10,20 +10,16 @@ use Rattle.world_base.specs.declared.target.TargetState.{TargetState}
 use Rattle.world_base.specs.declared.world.World.{World}
 use Rattle.world_base.specs.Events.{ByClient, ByTarget, Rules, ToClient, ToTarget, kept, target_plan, with_epoch}
 use Rattle.world_base.specs.Letters.{target}
-use Rattle.world_base.specs.Stops.{AtWork, CutOf, Draws, Fails, Further, GivenUp, Happening, Hearing, IdleWork, IsCut, Opens, Plainly, WorldEvent}
-use Rattle.world_causes.specs.causes.Shown.{FloorsShown}
+use Rattle.world_base.specs.Stops.{AtWork, CutOf, Draws, Fails, Further, GivenUp, Happening, Hearing, IdleWork, IsCut, Opens, Plainly}
 use Rattle.world_letters.specs.epochs.Sayings.{AreKnown, Known, known-all}
 use Rattle.world_contents.specs.reads.EventLaws.{at-or-there}
-use Rattle.world_causes.specs.causes.FloorLaws.{KeepsFloors, RowsStay, openings-keep-floors, staying-keeps-floors, stops-keep-floors, sweeps-keep-floors}
+use Rattle.world_causes.specs.causes.FloorLaws.{KeepsFloors, RowsStay, openings-keep-floors, staying-keeps-floors, stops-keep-floors}
 use Rattle.world_commit.specs.statuses.Events.{HappensWithoutSnapshots}
 use Rattle.world_commit.specs.stops.CutEvents.{IsWithoutSnapshots}
 use Rattle.world_causes.specs.hearing.Storing.{BringsKnown, KeptSo, further-kept, hearing-cut-kept, hears-kept, idle-cut-kept, idle-kept}
 
 abbrev pub HappeningsKeepFloors : Type 0
 HappeningsKeepFloors = (r : Rules) (w v : World) → (e : Happening r w v) → HappensWithoutSnapshots e → KeepsFloors w v
-
-abbrev pub EventsKeepFloors : Type 0
-EventsKeepFloors = (r : Rules) (w v : World) → (e : WorldEvent r w v) → HappensWithoutSnapshots e.happens → KeepsFloors w v
 
 -- any attempt at any epoch
 abbrev Any : Known
@@ -78,6 +74,3 @@ happenings-keep-floors r w v (Opens g) ours = openings-keep-floors r w v (inl g)
 happenings-keep-floors r w v (Fails g) ours = openings-keep-floors r w v (inr (inl g))
 happenings-keep-floors r w v (GivenUp g) ours = openings-keep-floors r w v (inr (inr g))
 happenings-keep-floors r w v (Draws g) ours = none-changed w v [] (ap (λ u. u.lines) g.after ∙ sym (append-nil w.lines)) (ap (λ u. u.targets) g.after)
-
-pub events-keep-floors : EventsKeepFloors
-events-keep-floors r w v e ours o k = subst (FloorsShown o) (sym e.after) (sweeps-keep-floors e.u o (happenings-keep-floors r w e.u e.happens ours o k))

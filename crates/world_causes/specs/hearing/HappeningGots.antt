@@ -34,7 +34,7 @@ use Rattle.world_base.specs.Further.{CommitDown, HearsFurther, IsSpent, IsUnknow
 use Rattle.world_base.specs.Letters.{client, letter_of, target}
 use Rattle.world_base.specs.MemoryLaws.{hears-follows, idles-follows}
 use Rattle.world_base.specs.RightTurns.{HearsRightly}
-use Rattle.world_base.specs.Stops.{AtWork, CutOf, Draws, Fails, Further, GivenUp, Happening, Hearing, IdleWork, IsCut, Opens, Plainly, TargetCut, WorldEvent, is_not_to, is_to, reset_letter, resets, stops_so_far, swept}
+use Rattle.world_base.specs.Stops.{AtWork, CutOf, Draws, Fails, Further, GivenUp, Happening, Hearing, IdleWork, IsCut, Opens, Plainly, TargetCut, is_not_to, is_to, reset_letter, resets, stops_so_far}
 use Rattle.world_base.specs.TargetTurns.{commit_request}
 use Rattle.world_letters.specs.epochs.Epochs.{ClientsStand}
 use Rattle.world_commit.specs.fates.Facts.{Attempts}
@@ -44,7 +44,7 @@ use Rattle.world_contents.specs.gots.Remembering.{Remembers}
 use Rattle.world_contents.specs.gots.StepGots.{is_fetched}
 use Rattle.world_contents.specs.gots.TargetGots.{ends-none, gots-remembered, same-clients, sent-or_left}
 use Rattle.world_causes.specs.restarts.EpochLaws.{rests-gots}
-use Rattle.world_causes.specs.restarts.Resting.{failure-rests, given_up-rests, numbers-rests, opening-rests, sweep-rests, tries-none}
+use Rattle.world_causes.specs.restarts.Resting.{failure-rests, given_up-rests, numbers-rests, opening-rests, tries-none}
 use Rattle.world_commit.specs.statuses.Events.{HappensWithoutSnapshots}
 use Rattle.world_commit.specs.statuses.Heard.{is_of_attempts}
 use Rattle.world_commit.specs.statuses.Senders.{SendersAreRight}
@@ -66,11 +66,6 @@ abbrev pub HappeningsKeepGots : Type 0
 HappeningsKeepGots =
     (r : Rules) (h k : History) (w v : World) → 0 < r.attempts → Remembers h k → Conversation r w → Conversation r v → SendersAreRight w → Attempts r h w → ClientsStand r w → Gots r h w → (e : Happening r w v) → HappensWithoutSnapshots e
     → AnswersAreServed e k → Gots r k v
-
-abbrev pub EventsKeepGots : Type 0
-EventsKeepGots =
-    (r : Rules) (h k : History) (w v : World) → 0 < r.attempts → Remembers h k → Conversation r w → SendersAreRight w → Attempts r h w → ClientsStand r w → Gots r h w → (e : WorldEvent r w v) → Conversation r e.u → HappensWithoutSnapshots e.happens
-    → AnswersAreServed e.happens k → Gots r k v
 
 -- ---- what a target hears after stops adds no line
 
@@ -170,7 +165,3 @@ happenings-keep-gots r h k w v some more W V senders A S G (Opens g) ours answer
 happenings-keep-gots r h k w v some more W V senders A S G (Fails g) ours answered = gots-remembered r h k v more (rests-gots r 0 w v (failure-rests r w v g) h G)
 happenings-keep-gots r h k w v some more W V senders A S G (GivenUp g) ours answered = gots-remembered r h k v more (rests-gots r 0 w v (given_up-rests r w v g) h G)
 happenings-keep-gots r h k w v some more W V senders A S G (Draws g) ours answered = gots-remembered r h k v more (rests-gots r 0 w v (numbers-rests w v g) h G)
-
-pub events-keep-gots : EventsKeepGots
-events-keep-gots r h k w v some more W senders A S G e V ours answered =
-    subst (Gots r k) (sym e.after) (rests-gots r 0 e.u (swept e.u) (sweep-rests e.u) k (happenings-keep-gots r h k w e.u some more W V senders A S G e.happens ours answered))

@@ -29,16 +29,15 @@ use Rattle.world_base.specs.declared.target.TargetState.{TargetState}
 use Rattle.world_base.specs.declared.world.World.{World}
 use Rattle.world_base.specs.CutTurns.{HearingIsCut}
 use Rattle.world_base.specs.Events.{Rules, kept, target_plan}
-use Rattle.world_base.specs.Letters.{target}
 use Rattle.world_base.specs.Roles.{is_prepared}
-use Rattle.world_base.specs.Stops.{AtWork, CutOf, Draws, Fails, Further, GivenUp, Happening, Hearing, IdleWork, IsCut, IsInHand, Opens, Plainly, TargetCut, TargetOpens, WorldEvent, swept}
+use Rattle.world_base.specs.Stops.{AtWork, CutOf, Draws, Fails, Further, GivenUp, Happening, Hearing, IdleWork, IsCut, IsInHand, Opens, Plainly, TargetCut, TargetOpens}
 use Rattle.world_commit.specs.fates.Told.{silent_end}
 use Rattle.world_contents.specs.reads.Given.{IsMessageRight, IsRefusalRight}
 use Rattle.world_contents.specs.reads.Growing.{refused_in}
 use Rattle.world_contents.specs.reads.Reads.{Reads}
 use Rattle.world_contents.specs.reads.Versions.{Versions}
 use Rattle.world_causes.specs.restarts.CutLaws.{IsPlainWork, cuts-keep, is_heard_plainly}
-use Rattle.world_causes.specs.restarts.OpenLaws.{failure-keeps, given_up-keeps, numbers-keep, opening-keeps, sweep-keeps}
+use Rattle.world_causes.specs.restarts.OpenLaws.{failure-keeps, given_up-keeps, numbers-keep, opening-keeps}
 use Rattle.world_commit.specs.statuses.Events.{HappensWithoutSnapshots, told_by}
 use Rattle.world_commit.specs.stops.CutAnswers.{ack_told}
 use Rattle.world_commit.specs.stops.CutEvents.{IsWithoutSnapshots, cut_told, is_without_snapshots, message_told}
@@ -54,12 +53,6 @@ use Rattle.world_causes.specs.hearing.PlainTurns.{knows, plain-goes, stays-on}
 abbrev pub HappeningsKeepReads : Type 0
 HappeningsKeepReads =
     (r : Rules) (o : Opening) (held : ℕ → List Version) (h : History) (w v : World) → Before r o held h w → (e : Happening r w v) → HappensWithoutSnapshots e → GoesOn r o held h v (told_by e) (AnswersAreServed e)
-
--- and so does an event of a run, by which what goes to targets that are given up is lost
-abbrev pub EventsKeepReads : Type 0
-EventsKeepReads =
-    (r : Rules) (o : Opening) (held : ℕ → List Version) (h : History) (w v : World) → Before r o held h w → (e : WorldEvent r w v) → HappensWithoutSnapshots e.happens
-    → GoesOn r o held h v (told_by e.happens) (AnswersAreServed e.happens)
 
 -- ---- a turn is cut
 
@@ -202,19 +195,3 @@ happenings-keep r o held h w v b (Opens g) ours = open-goes r o held h w v b g
 happenings-keep r o held h w v b (Fails g) ours = stays-on r o held h w v b (λ later. Unit {0}) tt (failure-keeps r o held h w v g b.versions b.reads)
 happenings-keep r o held h w v b (GivenUp g) ours = stays-on r o held h w v b (λ later. Unit {0}) tt (given_up-keeps r o held h w v g b.versions b.reads)
 happenings-keep r o held h w v b (Draws g) ours = stays-on r o held h w v b (λ later. Unit {0}) tt (numbers-keep r o held h w v g b.versions b.reads)
-
-pub events-keep : EventsKeepReads
-events-keep r o held h w v b e ours = record {
-  later = k.later;
-  grows = k.grows;
-  served = k.served;
-  also = k.also;
-  versions = subst (Versions r o held k.later) (sym e.after) s.0;
-  reads = subst (Reads r o k.later) (sym e.after) s.1;
-}
-  where
-    k : GoesOn r o held h e.u (told_by e.happens) (AnswersAreServed e.happens)
-    k = happenings-keep r o held h w e.u b e.happens ours
-
-    s : Versions r o held k.later (swept e.u) × Reads r o k.later (swept e.u)
-    s = sweep-keeps r o held k.later e.u k.versions k.reads

@@ -56,9 +56,6 @@ module _ (t : TargetPlan) (m : TargetMemory) (d : Durable) (parked : List Parked
   one-says to n k p (inl same) = subst (SaysFurther d parked) (sym (ap (λ q. q.message) same)) k
   one-says to n k p (inr j) = absurd j
 
-  both-say : (ps qs : List Post) → AllSay d parked ps → AllSay d parked qs → AllSay d parked (ps ++ qs)
-  both-say ps qs k n p i = elim (has-cases ps qs p i) [ inl j ↦ k p j | inr j ↦ n p j ]
-
   -- an entry that is found is kept, and the attempt's
   record IsKeptOf (x : AttemptId) (e : Entry) : Type 0 where
     among : Has e d.entries

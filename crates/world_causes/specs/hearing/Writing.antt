@@ -18,7 +18,7 @@ use Rattle.world_base.specs.declared.target.TargetState.{TargetState}
 use Rattle.world_base.specs.declared.world.World.{World}
 use Rattle.world_base.specs.Events.{ByClient, ByTarget, Rules, ToClient, ToTarget, kept, target_plan}
 use Rattle.world_base.specs.Letters.{target}
-use Rattle.world_base.specs.Stops.{AtWork, CutOf, Draws, Fails, Further, GivenUp, Happening, Hearing, IdleWork, IsCut, IsInHand, Opens, Plainly, WorldEvent}
+use Rattle.world_base.specs.Stops.{AtWork, CutOf, Draws, Fails, Further, GivenUp, Happening, Hearing, IdleWork, IsCut, IsInHand, Opens, Plainly}
 use Rattle.world_letters.specs.epochs.Sayings.{AreKnown, Known, known-all, known-each}
 use Rattle.world_commit.specs.fates.Facts.{Attempts, IsSaidSo}
 use Rattle.world_contents.specs.reads.EventLaws.{at-or-there}
@@ -38,10 +38,6 @@ pub record EntriesKnown (r : Rules) (o : Opening) (held : ℕ → List Version) 
 -- it is so where no target has an entry
 abbrev pub EntriesBegin : Type 0
 EntriesBegin = (r : Rules) (w : World) → ((t : ℕ) (s : TargetState) → slice_get w.targets t ≡ Some s → s.durable.entries ≡ []) → EntriesWrite r w
-
--- and stays so, whatever happens but for what is heard of snapshots and aggregation
-abbrev pub EventsKeepEntries : Type 0
-EventsKeepEntries = (r : Rules) (o : Opening) (held : ℕ → List Version) (h : History) (w v : World) → EntriesKnown r o held h w → (e : WorldEvent r w v) → HappensWithoutSnapshots e.happens → EntriesWrite r v
 
 -- an attempt that writes something, at whatever epoch
 abbrev Writes : Rules → Known
@@ -108,9 +104,6 @@ entries-write r o held h w v b (Opens g) ours = same-set r w v b.writes g.t g.s 
 entries-write r o held h w v b (Fails g) ours = same-set r w v b.writes g.t g.s _ g.here (ap (λ u. u.targets) g.after) (elim g.left [ inl is ↦ ap (λ d. d.entries) is | inr is ↦ ap (λ d. d.entries) is ∙ reopened-entries g.s.durable ])
 entries-write r o held h w v b (GivenUp g) ours = same-set r w v b.writes g.t g.s _ g.here (ap (λ u. u.targets) g.after) refl
 entries-write r o held h w v b (Draws g) ours = none-set r w v b.writes (ap (λ u. u.targets) g.after)
-
-pub events-keep-entries : EventsKeepEntries
-events-keep-entries r o held h w v b e ours t s k at i = entries-write r o held h w e.u b e.happens ours t s k (ap (λ u. slice_get u.targets t) (sym e.after) ∙ at) i
 
 pub entries-begin : EntriesBegin
 entries-begin r w none t s e here i = absurd (subst (Has e) (none t s here) i)

@@ -4,14 +4,13 @@ use Rattle.world_commit.specs.attempts.History.{History}
 use Rattle.world_base.specs.declared.world.World.{World}
 use Rattle.world_base.specs.Events.{ClientGoes, ClientHears, Rules, TargetHears, TargetHearsBy, TargetIdles}
 use Rattle.world_base.specs.Further.{HearsFurther}
-use Rattle.world_base.specs.Stops.{HearsMore, NumbersDrawn, OpeningFails, TargetCut, TargetGivenUp, TargetOpens, WorldEvent, swept}
+use Rattle.world_base.specs.Stops.{HearsMore, NumbersDrawn, OpeningFails, TargetCut, TargetGivenUp, TargetOpens, swept}
 use Rattle.world_commit.specs.fates.Facts.{Attempts}
 use Rattle.world_commit.specs.fates.Keeping.{HasNoneYet}
 use Rattle.world_causes.specs.losses.ClientHears.{LossesAreAsked}
 use Rattle.world_causes.specs.losses.Clients.{AreBegun}
 use Rattle.world_causes.specs.losses.Hearing.{is_answered_back}
 use Rattle.world_causes.specs.losses.Readers.{OpenAreHeld, ReadersAreNew}
-use Rattle.world_commit.specs.statuses.Events.{HappensWithoutSnapshots}
 use Rattle.world_commit.specs.statuses.Heard.{is_of_attempts}
 use Rattle.world_causes.specs.losses.Resets.{WaitForOthers, is_reset}
 use Rattle.world_causes.specs.losses.Losses.{AsksItsTargets, LeadersAreTargets, Losses}
@@ -81,7 +80,3 @@ pub record AllBeside (r : Rules) (h : History) (w : World) : Type 0 where
   pub begun : AreBegun r w
   pub lost : LossesAreAsked w
   pub asks : AsksItsTargets r w
-
--- So each event keeps them in which nothing is heard of snapshots and aggregation, where leaders are targets after it.
-abbrev pub EventsKeepLosses : Type 0
-EventsKeepLosses = (r : Rules) (h : History) (w v : World) → AllBeside r h w → LeadersAreTargets r v → (e : WorldEvent r w v) → HappensWithoutSnapshots e.happens → Losses r w → Losses r v

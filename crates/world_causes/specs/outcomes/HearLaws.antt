@@ -1,5 +1,5 @@
 -- A client that hears a message keeps the facts of outcomes.
-use Rattle.std.specs.Prelude.{ℕ, ◌≡◌, ◌≢◌, ◌<◌, ◌⊎◌, ◌++◌, Bool, true, false, ◌&&◌, List, [], ◌∷◌, map, slice_get, Contains, Option, Some, None, refl, if◌then◌else◌}
+use Rattle.std.specs.Prelude.{ℕ, ◌≡◌, ◌≢◌, ◌⊎◌, Bool, true, false, ◌&&◌, List, slice_get, Option, Some, None, refl, if◌then◌else◌}
 use Rattle.std.proofs.Common.{sym, ◌∙◌, ap, subst, inl, inr}
 use Rattle.base_types.specs.declared.outcome.Cause.TheVariants.{Unresolved}
 use Rattle.base_types.specs.declared.epoch.Epoch.{Epoch}
@@ -7,14 +7,11 @@ use Rattle.base_types.specs.declared.id.AttemptId.{AttemptId}
 use Rattle.base_types.specs.declared.outcome.Outcome.{Outcome}
 use Rattle.base_types.specs.declared.outcome.Outcome.TheVariants as outcome
 use Rattle.base_types.specs.declared.report.Attempt.{Attempt}
-use Rattle.base_types.specs.declared.report.Line.{Line}
 use Rattle.model_laws.specs.Members.{Has}
 use Rattle.base_messages.specs.declared.message.Message.{Message, more_of-Message}
 use Rattle.base_messages.specs.declared.message.Message.TheVariants as message
-use Rattle.base_messages.specs.declared.message.Post.{Post}
 use Rattle.base_messages.specs.declared.message.Reply.{Reply}
 use Rattle.base_messages.specs.declared.message.Reply.TheVariants as reply
-use Rattle.daos_model.specs.Attempts.{tries}
 use Rattle.daos_model.specs.BoolLaws.{and_left, and_right}
 use Rattle.dtx_base.specs.LeaderLaws.{same-is}
 use Rattle.world_commit.specs.attempts.Attempts.{IsBorn, entry_at, leader_of}
@@ -25,7 +22,7 @@ use Rattle.world_base.specs.declared.client.ClientState.{ClientState}
 use Rattle.world_base.specs.declared.client.Present.{Present}
 use Rattle.world_base.specs.declared.letter.Letter.{Letter}
 use Rattle.world_base.specs.declared.world.World.{World}
-use Rattle.world_base.specs.ClientTurns.{Move, about, answered, asks_again, at_present, attempt_id, command_at, ended, ends, goes, heard, heard_at, hears_epochs, is_about, knows, knows_epoch, listed, lost, op_of, op_told, replied, reset, reset_by, snaps_known}
+use Rattle.world_base.specs.ClientTurns.{Move, about, answered, asks_again, at_present, attempt_id, command_at, ended, ends, goes, heard, heard_at, hears_epochs, is_about, knows, knows_epoch, listed, op_of, op_told, replied, reset, reset_by, snaps_known}
 use Rattle.world_base.specs.Events.{Rules, client_plan, or_issued}
 use Rattle.world_base.specs.Letters.{Takes}
 use Rattle.world_base.specs.Steps.{after_move, without}
@@ -49,9 +46,6 @@ module _ (r : Rules) (h : History) (w : World) (n : ℕ) (c : ClientState) (l : 
 
   abbrev DoesSo : Move → Type 0
   DoesSo m = Does r h w n c (listed m.post) (listed m.line) m.state
-
-  nothing-sent : (m : Move) → m.post ≡ None → (q : Post) → Has q (listed m.post) → ⊥
-  nothing-sent m none q i = subst (λ o. Has q (listed o)) none i
 
   -- a client that waits for an end waits with its present attempt
   is-present : (a : Present) (x : AttemptId) → c.present ≡ Some a → (z : WaitsForEnd p c x) → (z.a ≡ a) × (attempt_id p c a ≡ x)

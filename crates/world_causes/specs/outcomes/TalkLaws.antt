@@ -1,11 +1,10 @@
 -- Where conversations are in order, clients hand attempts over one at a time, and hear what goes with what they asked.
-use Rattle.std.specs.Prelude.{ℕ, ◌≡◌, ◌≢◌, Bool, true, false, List, [], ◌∷◌, slice_get, Contains, Option, Some, None, refl}
+use Rattle.std.specs.Prelude.{ℕ, ◌≡◌, true, false, List, [], ◌∷◌, slice_get, Contains, Option, Some, None, refl}
 use Rattle.std.proofs.Common.{sym, ◌∙◌, ap, subst}
 use Rattle.base_types.specs.declared.epoch.Epoch.{Epoch}
 use Rattle.base_types.specs.declared.id.AttemptId.{AttemptId}
 use Rattle.base_types.specs.declared.outcome.Outcome.{Outcome}
-use Rattle.base_types.specs.declared.outcome.Outcome.TheVariants as outcome
-use Rattle.model_laws.specs.Members.{Has, contains-from_has}
+use Rattle.model_laws.specs.Members.{contains-from_has}
 use Rattle.base_messages.specs.declared.message.Message.{Message}
 use Rattle.base_messages.specs.declared.message.Message.TheVariants as message
 use Rattle.base_messages.specs.declared.message.Post.{Post}
@@ -22,7 +21,7 @@ use Rattle.world_base.specs.declared.letter.Letter.{Letter}
 use Rattle.world_base.specs.declared.world.World.{World}
 use Rattle.world_base.specs.ClientTurns.{about, attempt_id, is_about}
 use Rattle.world_base.specs.Events.{Rules, client_plan}
-use Rattle.world_base.specs.Letters.{Takes, client, letter_of, talk_of}
+use Rattle.world_base.specs.Letters.{Takes, client, talk_of}
 use Rattle.world_letters.specs.clients.Answered.{is_refusal, ops_here}
 use Rattle.world_letters.specs.lines.Lines.{Endings, IsRefusalOrNone, TellsEnd}
 use Rattle.world_letters.specs.talks.Asked.{ARead, ASnapshot, AnAggregation, Asked, ItsWrites}
@@ -30,8 +29,8 @@ use Rattle.world_letters.specs.talks.Conversation.{Answers, Conversation, is_req
 use Rattle.world_letters.specs.talks.Hearing.{ATracker, AReply, AnEnd, IsHearing, hearing-is}
 use Rattle.world_letters.specs.talks.InFlight.{GetsAnswer, HearsRequest, hears-request}
 use Rattle.world_letters.specs.talks.TalkLaws.{taken-from, taken-is-among}
-use Rattle.world_causes.specs.outcomes.Outcomes.{IsBehind, WaitsForEnd, commits}
-use Rattle.world_causes.specs.outcomes.Premises.{CommitsAreOfClients, HandsOver, HearsFitly, IsBefore, IsFit, IsReplyFit, IsWaitedFor, hands}
+use Rattle.world_causes.specs.outcomes.Outcomes.{IsBehind, WaitsForEnd}
+use Rattle.world_causes.specs.outcomes.Premises.{HandsOver, HearsFitly, IsBefore, IsFit, IsReplyFit, IsWaitedFor, hands}
 
 -- ---- what is handed over
 
@@ -81,14 +80,6 @@ module _ (r : Rules) (w : World) (talk : Conversation r w) (addressed : AreAddre
     alone = λ l rest x takes own. let z = asked-so l rest x takes own in subst (λ m. talk_of m rest ≡ []) (ap (λ y. y.client) z.own) z.heard.none_else;
     answered = λ l x own how i says. (subst (GoesTo (crowd r.script) l.to) says (addressed.letters l (contains-from_has w.messages l i)).goes).1;
   }
-
--- what hands an attempt over comes of its client
-pub handed-by_clients : (r : Rules) (w : World) → HandsOver r w → CommitsAreOfClients w
-handed-by_clients r w over l x i is = ap (λ a. a.client) (over.sender l x i (as-hands l.message is))
-  where
-    as-hands : (m : Message) → commits x m ≡ true → hands x m ≡ true
-    as-hands (message.Commit y ep first tracker ws) own = own
-    as-hands m own = let no : ⊥ = cc in absurd no
 
 -- ---- what a client hears
 

@@ -224,9 +224,6 @@ module _ (r : Rules) (o : Opening) (held : ℕ → List Version) (h : History) (
       waiting : (p : Parked) → Has p s.memory.member.parked → IsParkedRight r o w t s.durable p.ask
       waiting = parked-right r o held h w b t s here runs reading l among to_it
 
-      Next : verdict.VerdictStage → Kept → Option Change → verdict.VerdictStage → Type 0
-      Next = verdict.VerdictNext is_prepared (target_plan r t) s.memory reading x ask v
-
       step : (g : verdict.VerdictStage) (k : Kept) (c : Option Change) (u : verdict.VerdictStage) (n : Kept) → verdict.VerdictNext is_prepared (target_plan r t) s.memory reading x ask v g k c u → Steps c k n → Stands g k → Stands u n
       unfolding Stands
       step g k c u n (verdict.SettlesBy j p same) steps p' =

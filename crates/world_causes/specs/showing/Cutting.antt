@@ -35,7 +35,6 @@ use Rattle.world_base.specs.Changes.{Change, Kept}
 use Rattle.world_base.specs.Commits as commit
 use Rattle.world_base.specs.CutTurns.{Before, CommitIsCut, CutTurn, Cutting, HearingIsCut, IdleWorkIsCut, NoneIsDown, OneIsDown, UnstoredNext, is_stored, issued_by_commit, issued_by_fetch, listed_issue, none_issued}
 use Rattle.world_base.specs.Events.{Rules, kept, target_plan}
-use Rattle.world_base.specs.Events as events
 use Rattle.world_base.specs.Idle.{IdleNext}
 use Rattle.world_base.specs.Marks as mark
 use Rattle.world_base.specs.PathLaws.{AllPlain}
@@ -44,15 +43,14 @@ use Rattle.world_base.specs.Reads as read
 use Rattle.world_base.specs.Requests.{fetch_message, issued_for}
 use Rattle.world_base.specs.Roles.{is_prepared, member_at, told_by}
 use Rattle.world_base.specs.Statuses.{AtOnce, Looking, Looks, NoChange, status_refusal}
-use Rattle.world_base.specs.Stops.{AtWork, CutOf, Hearing, IdleWork, IsInHand, TargetCut, after_cut, is_not_to, is_to, reset_letter, resets, stopped_at, stops_so_far}
+use Rattle.world_base.specs.Stops.{AtWork, CutOf, Hearing, IdleWork, after_cut, is_not_to, is_to, reset_letter, resets, stopped_at, stops_so_far}
 use Rattle.world_base.specs.TargetTurns.{commit_request, fetch_request, prepare_request}
 use Rattle.world_base.specs.TurnLaws.{RaisesAll, ack-plain, ack-raises, commit-plain, commit-raises, fetch-plain, fetch-raises, idle-plain, idle-raises, mark-plain, mark-raises, marked-plain, marked-raises, prepare-plain, prepare-raises, query-plain, query-raises, verdict-plain, verdict-raises}
 use Rattle.world_base.specs.Verdicts as verdict
 use Rattle.world_causes.specs.restarts.Cuts.{cut-of}
 use Rattle.world_causes.specs.restarts.Resting.{is_silent}
-use Rattle.world_commit.specs.stops.CutEvents.{IsWithoutSnapshots, is_without_snapshots}
+use Rattle.world_commit.specs.stops.CutEvents.{is_without_snapshots}
 use Rattle.world_causes.specs.causes.Causes.{Dated, Stored, blocks_of_stored}
-use Rattle.world_base.specs.Letters.{Takes, target}
 use Rattle.world_contents.specs.reads.EventLaws.{at-or-there}
 use Rattle.world_letters.specs.talks.Asked.{commit_of}
 use Rattle.world_causes.specs.causes.CommitTurns.{IsCommit, need-is}
@@ -60,7 +58,6 @@ use Rattle.world_causes.specs.causes.PrepareTurns.{IsPrepare}
 use Rattle.world_causes.specs.causes.ReadTurns.{IsFetch}
 use Rattle.world_causes.specs.causes.Dates.{IsDated, request-dated}
 use Rattle.world_causes.specs.causes.FloorLaws.{stops-keep-floors}
-use Rattle.world_causes.specs.causes.Growth.{blocks-more}
 use Rattle.world_causes.specs.causes.Heard.{IsHeardAs}
 use Rattle.world_causes.specs.causes.Lasting.{limit-told}
 use Rattle.world_causes.specs.causes.Leases.{AsksBelow, CommitBelow, ExtendsTo, FetchBelow, IsDatedBelow, IsLeasedBelow, VerdictBelow, ack-to, commit-to, fetch-to, heard-below, idle-to, leased-near, mark-to, marked-to, prepare-to, query-to, verdict-to, was-leased}
@@ -113,11 +110,6 @@ module _ {S : Type 0} (Next : S → Kept → Option Change → S → Type 0) (pl
     where
       sum : (a b c : ℕ) → a ≤ b → a + c ≤ b + c
       sum a b c f = omega (arith, f)
-
--- what is listed is what was issued
-listed-same : (i : Option (AttemptId × Epoch)) → listed_issue i ≡ events.listed i
-listed-same None = refl
-listed-same (Some i) = refl
 
 -- an epoch that is issued to a request is within the limit
 issue-dated : (o : Opening) (w : World) (x : AttemptId) (ep first : Option Epoch) (e : Epoch) (issued : Dated) → issued ≡ listed_issue (issued_for x ep e) → IsDated o w.issued w.lines x ep first e
@@ -418,14 +410,3 @@ module _ (r : Rules) (o : Opening) (stored new : Stored) (w v : World) (C : Caus
 
   pub cut-follows_on : Causes r o (new ++ stored) v
   cut-follows_on = follows-keep r o stored new w v C cut-follows
-
--- where a turn is cut in which nothing is heard of snapshots and aggregation, and what it heard is known
-pub cuts-keep : (r : Rules) (o : Opening) (stored : Stored) (w v : World) → Causes r o stored w → (g : TargetCut r w v) → IsWithoutSnapshots g.work
-    → ((l : Letter) (rest : List Letter) → Takes w.messages l rest → l.to ≡ target g.t → IsHeardAs r o stored w g.t g.s l) → Causes r o (work_stored (target_plan r g.t) g.s g.work g.cut g.turn ++ stored) v
-cuts-keep r o stored w v C g plain known = by g.work g.in_hand plain g.turn
-  where
-    by : (work : AtWork) → IsInHand w g.t work → IsWithoutSnapshots work → (turn : CutOf (target_plan r g.t) g.s work g.cut) → Causes r o (work_stored (target_plan r g.t) g.s work g.cut turn ++ stored) v
-    by (Hearing l reading number) hand plain turn =
-        cut-follows_on r o stored _ w v C g.t g.s g.cut g.here g.runs g.after (λ u off. blocks-more r.script u _ stored)
-        (hearing-leaves r o stored w C g.t g.s g.here g.runs reading l (known l hand.0.0 hand.0.1 hand.1) l.message number g.cut refl plain turn)
-    by IdleWork hand plain turn = cut-follows_on r o stored [] w v C g.t g.s g.cut g.here g.runs g.after (λ u off. blocks-more r.script u [] stored) (idle-leaves r o stored w C g.t g.s g.here g.runs g.cut turn)

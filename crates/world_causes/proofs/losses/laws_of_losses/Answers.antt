@@ -1,6 +1,6 @@
 use Rattle.world_causes.specs.losses.Beginning.{losses-begin}
 use Rattle.world_causes.specs.losses.ClientTurns as clients
-use Rattle.world_causes.specs.losses.Laws.{answers-keep, cuts-keep, drawing-keeps, events-keep, failures-keep, further-keeps, giving-up-keeps, hearing-keeps, idle-work-keeps, openings-keep, resets-keep, sweeping-keeps}
+use Rattle.world_causes.specs.losses.Laws.{answers-keep, cuts-keep, drawing-keeps, failures-keep, further-keeps, giving-up-keeps, hearing-keeps, idle-work-keeps, openings-keep, resets-keep, sweeping-keeps}
 use Rattle.world_causes.proofs.losses.laws_of_losses.Goals as goal
 
 pub returns : goal.returns
@@ -19,5 +19,4 @@ returns c = record {
   further = further-keeps;
   clients = clients.going-keeps;
   told = clients.hearing-keeps;
-  events = events-keep;
 }
