@@ -3,7 +3,6 @@
 
 pub mod ends;
 pub mod facts;
-pub mod forms;
 pub mod lone;
 pub mod unstopped;
 pub mod whole;

@@ -1,20 +1,13 @@
 -- What a script with keys writes leaves keys in a map, so what is read there as names are keys.
 use Rattle.std.specs.Prelude.{ℕ, ◌≡◌, ◌+◌, Bool, true, false, nat_le, nat_lt, List, [], ◌∷◌, slice_get, All, Option, Some, None, refl, if◌then◌else◌}
 use Rattle.std.proofs.lemmas.List.Elements.{All-append, All-cons, All-filter, All-head, All-nil, All-tail}
-use Rattle.base_types.specs.declared.epoch.Epoch.{Epoch}
 use Rattle.base_types.specs.declared.id.AttemptId.{AttemptId}
-use Rattle.base_types.specs.declared.operation.Act.{Act}
-use Rattle.base_types.specs.declared.operation.Act.TheVariants.{Fetch, Change}
-use Rattle.base_types.specs.declared.operation.Op.{Op}
 use Rattle.base_types.specs.declared.operation.Write.{Write}
 use Rattle.base_types.specs.declared.operation.Write.TheVariants as write
 use Rattle.base_types.specs.declared.path.Path.{Path}
-use Rattle.base_types.specs.declared.report.Attempt.{Attempt}
-use Rattle.base_types.specs.declared.report.Line.{Line}
 use Rattle.base_types.specs.declared.script.Command.{Command}
 use Rattle.base_types.specs.declared.script.Script.{Script}
 use Rattle.base_types.specs.Keys.{IsKey}
-use Rattle.base_types.specs.Operations.{act_path}
 use Rattle.base_types.specs.Paths.{leads_to, record_size}
 use Rattle.base_types.specs.Scripts.{is_numbered}
 use Rattle.model_laws.specs.Lists.{all-at}
@@ -23,10 +16,8 @@ use Rattle.daos_model.specs.declared.stand.Stand.{Stand}
 use Rattle.daos_model.specs.declared.stand.Taken.{Taken}
 use Rattle.daos_model.specs.Answers.{akey_under, akeys_below, dkey_under, dkeys_below, in_byte_order, is_before, name_among, option_before}
 use Rattle.daos_model.specs.AsOf.{as_of, below, in_order, put_in, run_all}
-use Rattle.daos_model.specs.Attempts.{tries}
 use Rattle.daos_model.specs.Effect.{effect, effects, extent_cells, index_value, record_cells, records_of, without}
-use Rattle.daos_model.specs.TookEffect.{all_taken, taken_at, taken_by, took, took_effect}
-use Rattle.daos_model.specs.Transactions.{attempt_ops, command_of, numbered, ops_or_none, writes_of, written}
+use Rattle.daos_model.specs.Transactions.{attempt_ops, command_of, numbered, ops_or_none}
 use Rattle.script_traits.specs.Keyed.{CellHasKeys, CommandHasKeys, HasKeys, IsKeyOrNone, MapHasKeys, OpHasKeys, ScriptHasKeys, TakenHasKeys, WriteHasKeys}
 
 -- ---- attempts
@@ -43,15 +34,6 @@ attempt-keys s x k = by (slice_get s.clients x.client) refl
     by : (o : Option (List Command)) → slice_get s.clients x.client ≡ o → All OpHasKeys (attempt_ops s x)
     by None at = rw at (All-nil OpHasKeys)
     by (Some list) at = rw at (of_list list (all-at (λ l. All CommandHasKeys l) s.clients x.client list k.commands at) (slice_get (numbered list) x.command) refl)
-
-written-keys : (a : Act) → HasKeys (act_path a) → All WriteHasKeys (written a)
-written-keys (Fetch r) k = All-nil WriteHasKeys
-written-keys (Change w) k = All-cons WriteHasKeys w [] k (All-nil WriteHasKeys)
-
-writes-keys : (ops : List Op) → All OpHasKeys ops → All WriteHasKeys (writes_of ops)
-unfolding writes_of
-writes-keys [] k = All-nil WriteHasKeys
-writes-keys (op ∷ ops) k = All-append WriteHasKeys (written op.act) (writes_of ops) (written-keys op.act (All-head OpHasKeys op ops k)) (writes-keys ops (All-tail OpHasKeys op ops k))
 
 -- ---- effects
 
@@ -111,28 +93,6 @@ run-keys (t ∷ ts) m h k = run-keys ts (effects t.writes m) (All-tail TakenHasK
 pub as_of-keys : (opening : Stand) (T : List Taken) (e : ℕ) → MapHasKeys opening.now → All TakenHasKeys T → MapHasKeys (as_of opening T e)
 unfolding as_of
 as_of-keys opening T e k h = run-keys (in_order (below e T)) opening.now (in_order-keys (below e T) (below-keys e T h)) k
-
--- ---- what took effect
-
-taken_at-keys : (e : Option Epoch) (ws : List Write) → All WriteHasKeys ws → All TakenHasKeys (taken_at e ws)
-taken_at-keys None ws k = All-nil TakenHasKeys
-taken_at-keys (Some e) [] k = All-nil TakenHasKeys
-taken_at-keys (Some e) (w ∷ ws) k = All-cons TakenHasKeys (record { epoch = e; writes = w ∷ ws }) [] k (All-nil TakenHasKeys)
-
-taken_by-keys : (s : Script) (resolved : AttemptId → Bool) (a : Attempt) → ScriptHasKeys s → All TakenHasKeys (taken_by s resolved a)
-taken_by-keys s resolved a k =
-    elim (took_effect (resolved a.id) a.outcome) as (λ b. All TakenHasKeys (if b then taken_at a.epoch (writes_of (attempt_ops s a.id)) else [])) [
-      | true ↦ taken_at-keys a.epoch (writes_of (attempt_ops s a.id)) (writes-keys (attempt_ops s a.id) (attempt-keys s a.id k))
-      | false ↦ All-nil TakenHasKeys
-    ]
-
-all_taken-keys : (s : Script) (resolved : AttemptId → Bool) (attempts : List Attempt) → ScriptHasKeys s → All TakenHasKeys (all_taken s resolved attempts)
-all_taken-keys s resolved [] k = All-nil TakenHasKeys
-all_taken-keys s resolved (a ∷ attempts) k = All-append TakenHasKeys (taken_by s resolved a) (all_taken s resolved attempts) (taken_by-keys s resolved a k) (all_taken-keys s resolved attempts k)
-
-pub took-keys : (s : Script) (resolved : AttemptId → Bool) (lines : List Line) → ScriptHasKeys s → All TakenHasKeys (took s resolved lines)
-unfolding took
-took-keys s resolved lines k = all_taken-keys s resolved (tries lines) k
 
 -- ---- names
 

@@ -5,14 +5,11 @@ use Rattle.std.proofs.lemmas.List.Sums.{length-filter}
 use Rattle.std.proofs.lemmas.Option.{slice_get_within}
 use Rattle.base_types.specs.declared.id.AttemptId.{AttemptId}
 use Rattle.base_types.specs.declared.report.Attempt.{Attempt}
-use Rattle.base_types.specs.declared.report.Line.{Line}
 use Rattle.base_types.specs.declared.script.Command.{Command}
 use Rattle.base_types.specs.declared.script.Script.{Script}
 use Rattle.base_types.specs.Scripts.{IsInForm, count_numbered, is_numbered}
-use Rattle.model_laws.specs.Members.{Has, has-cases, has-filter}
-use Rattle.model_laws.specs.TargetLaws.{same_number}
-use Rattle.daos_model.specs.Attempts.{is_of_client, tries, tries_of}
-use Rattle.daos_model.specs.Order.{AllInTurn, AreAttempts, AreInTurn, client_commands, commands_or_none}
+use Rattle.model_laws.specs.Members.{Has, has-cases}
+use Rattle.daos_model.specs.Order.{AreAttempts, AreInTurn, client_commands, commands_or_none}
 use Rattle.daos_model.specs.Transactions.{numbered}
 use Rattle.report_writer.specs.Forms.{IsAttemptId}
 
@@ -62,11 +59,3 @@ number-form limit s x form few low its = by (slice_get s.clients x.client) refl
         let here : x.client < length s.clients = slice_get_within s.clients x.client list e in
         let clients = form.clients in
         record { client = omega (arith, here, clients); command = omega (arith, low, count, less, all); attempt = omega (arith, its, few) }
-
--- so has one that a line tells of
-pub id-form : (limit : ℕ) (s : Script) (lines : List Line) (a : Attempt) → IsInForm s.targets s → 0 < limit → limit ≤ 256 → AllInTurn limit s lines → Has a (tries lines) → IsAttemptId a.id
-id-form limit s lines a form some few turn i = number-form limit s a.id form few (let low : a.id.command < 0 + length (client_commands s a.id.client) = within.0 in omega (arith, low)) within.1
-  where
-    within : (a.id.command < 0 + length (client_commands s a.id.client)) × (a.id.attempt < limit)
-    within = in_turn-within limit a.id.client 0 (client_commands s a.id.client) (tries_of a.id.client lines) a some (turn a.id.client)
-        (has-filter (is_of_client a.id.client) (tries lines) a i (same_number a.id.client))

@@ -8,7 +8,6 @@ use Rattle.std.proofs.lemmas.List.Elements.{All-nil}
 use Rattle.base_types.specs.declared.entry.Entry.{Entry}
 use Rattle.base_types.specs.declared.id.AttemptId.{AttemptId}
 use Rattle.base_types.specs.declared.id.ContId.{ContId}
-use Rattle.base_types.specs.declared.report.Attempt.{Attempt}
 use Rattle.base_types.specs.declared.script.Command.{Command}
 use Rattle.model_laws.specs.Dated.{Dated, dated, dated_of, is_from}
 use Rattle.model_laws.specs.Lists.{filter-all, none-in}
@@ -136,9 +135,6 @@ module _ (r : Rules) (o : Opening) (w : World) (A : IsSimple r) (B : IsBegun r o
   no-tries : tries w.lines ≡ []
   unfolding tries
   no-tries = ap tries B.lines
-
-  no-try : (a : Attempt) → Contains (tries w.lines) a → ⊥
-  no-try a i = none-in (tries w.lines) a no-tries i
 
   -- each client is at its beginning
   client-is : (n : ℕ) (c : ClientState) → slice_get w.clients n ≡ Some c → (list : List Command) × (first_client r.script o list ≡ c)
