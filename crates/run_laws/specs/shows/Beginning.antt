@@ -1,16 +1,16 @@
 -- With what a run of actors begins.
-use Rattle.std.specs.Prelude.{ℕ, ◌≡◌, ◌≤◌, List, [], length, map, slice_get, Option, Some, None, refl}
-use Rattle.std.proofs.Common.{sym, ◌∙◌, ap, subst, arith}
+use Rattle.std.specs.Prelude.{ℕ, ◌≡◌, List, [], map, slice_get, Option, Some, None, refl}
+use Rattle.std.proofs.Common.{sym, ◌∙◌, ap, subst}
 use Rattle.base_types.specs.declared.script.Command.{Command}
 use Rattle.daos_model.specs.Opening.{Opening}
 use Rattle.world_base.specs.declared.target.TargetState.{TargetState}
 use Rattle.world_base.specs.declared.world.World.{World}
 use Rattle.world_base.specs.ClientTurns.{at_first}
 use Rattle.world_base.specs.Events.{Rules}
-use Rattle.world_plain.specs.whole.Begins.{IsBegun, IsOpeningPlain, IsSimple, StartsWith, first_tracker}
+use Rattle.world_plain.specs.whole.Begins.{IsBegun, IsOpeningPlain, StartsWith, first_tracker}
 use Rattle.world_upheld.specs.explained.Explanations.{HoldNoMoreSnapshots}
 use Rattle.world_upheld.specs.upheld.Begins.{AreRulesInForm, RunBeginsWith, snaps_held}
-use Rattle.world_upheld.specs.upheld.PlainRuns.{none-held, plain-runs_begin}
+use Rattle.world_upheld.specs.upheld.PlainRuns.{none-held}
 
 -- A script in form for some targets; these have opened, and hold no more snapshots than the opening keeps maps of; and clients before their first
 -- turns.
@@ -18,12 +18,6 @@ pub record RunBegins (r : Rules) (o : Opening) (w : World) : Type 0 where
   pub form : AreRulesInForm r
   pub begins : RunBeginsWith r o w
   pub few : HoldNoMoreSnapshots o w
-
--- a run of a script without snapshots and aggregation, over stores without snapshots, begins so
-pub plainly-begins : (r : Rules) (o : Opening) (w : World) → IsSimple r → IsBegun r o w → RunBegins r o w
-plainly-begins r o w A B =
-    let k = plain-runs_begin r o w A B in
-    record { form = k.0; begins = k.1; few = λ t s here. subst (λ n. n ≤ length o.stand.snaps) (sym (ap length (B.starts t s here).opens.snaps)) (omega arith) }
 
 -- and where no snapshot is there, any run begins as one of such a script
 pub plain-begun : (r : Rules) (o : Opening) (w : World) → IsOpeningPlain o → RunBeginsWith r o w → ((t : ℕ) (s : TargetState) → slice_get w.targets t ≡ Some s → s.durable.snaps ≡ []) → IsBegun r o w

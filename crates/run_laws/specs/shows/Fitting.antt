@@ -1,33 +1,27 @@
 -- Actors that can have their turns can have them after a turn.
 use Rattle.world_plain.specs.whole.KnownSnapshots.{ReadsKnown}
-use Rattle.std.specs.Prelude.{ℕ, ◌≡◌, ◌≤◌, ◌<◌, ◌+◌, ◌==◌, ◌^◌, ◌++◌, List, filter, length, slice_get, slice_set, Bool, true, false, Contains, Option, Some, is_some, refl, if◌then◌else◌}
+use Rattle.std.specs.Prelude.{ℕ, ◌≡◌, ◌≤◌, ◌<◌, ◌+◌, ◌==◌, ◌^◌, length, slice_get, slice_set, Bool, true, false, Option, Some, refl, if◌then◌else◌}
 use Rattle.std.proofs.Common.{inl, inr, sym, ◌∙◌, ap, subst, arith}
 use Rattle.std.proofs.lemmas.Bool.{cases_eq}
 use Rattle.std.proofs.lemmas.Option.{slice_get_within}
 use Rattle.client_core.specs.Clients.{ClientNow}
-use Rattle.base_types.specs.declared.epoch.Epoch.{Epoch}
-use Rattle.base_types.specs.declared.id.AttemptId.{AttemptId}
-use Rattle.base_types.specs.declared.report.Line.{Line}
 use Rattle.daos_model.specs.declared.durable.Durable.{Durable}
-use Rattle.model_laws.specs.Members.{Has, contains-from_has, has-from_contains}
+use Rattle.model_laws.specs.Members.{contains-from_has, has-from_contains}
 use Rattle.run_base.specs.Letters.{BetweenNow}
 use Rattle.run_laws.specs.shows.Givings.{lives-same}
 use Rattle.run_laws.specs.shows.Lettered.{AllInForm, asked-lost, lost-form, swept-form}
-use Rattle.run_laws.specs.shows.Parts.{is-set}
 use Rattle.run_laws.specs.shows.CanGo.{CanGo, CanWork}
 use Rattle.run_laws.specs.shows.ListLaws.{get-set, length-set}
 use Rattle.run_laws.specs.shows.Shows.{IsGoing}
 use Rattle.run_laws.specs.shows.Stages.{IsPlace, StageNow}
-use Rattle.run_laws.specs.shows.Turned.{AfterStop, Failed, LastTime, NotFailed, cut_between, failed_stage, given_up_between, given_up_stage, stopped_stage, swept_between, swept_stage}
+use Rattle.run_laws.specs.shows.Turned.{AfterStop, Failed, LastTime, NotFailed, failed_stage, given_up_between, given_up_stage, swept_stage}
 use Rattle.run_watch.specs.Watches.{WatchNow, after_fault, with_life}
 use Rattle.target_core.specs.Targets.{TargetOf}
 use Rattle.vos_store.specs.Calls.{State}
-use Rattle.world_base.specs.declared.letter.Letter.{Letter}
 use Rattle.world_base.specs.declared.target.Life.{Life}
-use Rattle.world_base.specs.declared.target.Life.TheVariants.{Down, Running, Stopped}
+use Rattle.world_base.specs.declared.target.Life.TheVariants.{Down, Running}
 use Rattle.world_base.specs.Events.{Rules, client_plan, target_plan}
 use Rattle.world_base.specs.StepLaws.{set-is, set-there}
-use Rattle.world_contents.specs.posts.Forms.{IsLetter}
 use Rattle.world_upheld.specs.upheld.Begins.{AreRulesInForm}
 
 -- all that lets actors have their turns, whatever their stores tell
@@ -89,10 +83,6 @@ module _ {S C : Type 0} (state : S → State) (r : Rules) (rules : AreRulesInFor
     between = swept-form (target_plan r) a.watch.lives a.between few f.between;
   }
 
-  -- something else lies between them
-  pub fit-between : (b : BetweenNow) → AllInForm (target_plan r) b → Fits state r (record a { between = b })
-  fit-between b k = record { plans = f.plans; known = f.known; made = f.made; many = f.many; standing = f.standing; openings = f.openings; work = λ t x p. f.work t x (record { there = p.there; stands = p.stands }); between = k }
-
   -- one of the targets changed, and how it stands
   pub fit-target : (t : ℕ) (x y : TargetOf S C) (watch : WatchNow) (life : Life) (b : BetweenNow) → slice_get a.targets t ≡ Some x → y.plan ≡ x.plan → watch.lives ≡ slice_set a.watch.lives t life → watch.openings < 2 ^ 32 → (life ≡ Running → CanWork state y)
       → AllInForm (target_plan r) b → Fits state r (record a { targets = slice_set a.targets t y; watch = watch; between = b })
@@ -132,10 +122,6 @@ module _ {S C : Type 0} (state : S → State) (r : Rules) (rules : AreRulesInFor
   pub fit-given_up : (t : ℕ) → t < 64 → Fits state r (given_up_stage t a)
   fit-given_up t small = fit-life t (with_life t Down a.watch) Down (given_up_between t a.between) refl refl (λ e. let no : ⊥ = cc in no)
       (record { messages = lost-form (target_plan r) t true a.between small f.between; asked = asked-lost (target_plan r) t a.between f.between })
-
-  pub fit-stopped : (t : ℕ) (issued : Option (AttemptId × Epoch)) (lines : List Line) → t < 64 → Fits state r (stopped_stage t issued lines a)
-  fit-stopped t issued lines small = fit-life t (with_life t Stopped a.watch) Stopped (cut_between t issued lines a.between) refl refl (λ e. let no : ⊥ = cc in no)
-      (record { messages = lost-form (target_plan r) t false a.between small f.between; asked = asked-lost (target_plan r) t a.between f.between })
 
   pub fit-failed : (t n : ℕ) → Fits state r (failed_stage t n a)
   fit-failed t n = record {

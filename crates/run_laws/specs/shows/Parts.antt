@@ -1,14 +1,13 @@
 -- What the actors show of a world once a part of it changed.
-use Rattle.std.specs.Prelude.{ℕ, ◌≡◌, ◌++◌, List, [], ◌∷◌, filter, length, map, slice_get, slice_set, Bool, true, false, Option, Some, None, refl, if◌then◌else◌}
+use Rattle.std.specs.Prelude.{ℕ, ◌≡◌, ◌++◌, List, [], ◌∷◌, filter, length, map, slice_get, slice_set, Bool, true, false, Option, Some, refl, if◌then◌else◌}
 use Rattle.std.proofs.Common.{zero, suc, inl, inr, sym, ◌∙◌, ap, subst, arith}
 use Rattle.std.proofs.Math.ListN.{set}
 use Rattle.std.proofs.lemmas.Bool.{cases_eq}
-use Rattle.client_core.specs.Clients.{ClientNow}
 use Rattle.daos_model.specs.declared.durable.Durable.{Durable}
 use Rattle.run_base.specs.Letters.{BetweenNow, IsPicked}
-use Rattle.run_base.specs.Sweeps.{SweepsAreOfLives, is_left_by, is_lost_by, lives_of, sweeps-are_of_lives}
-use Rattle.run_laws.specs.shows.ListLaws.{get-set, length-set, map-get, map-set}
-use Rattle.run_laws.specs.shows.Shows.{IsTargetOf, Leads, Shows, state_of}
+use Rattle.run_base.specs.Sweeps.{lives_of, sweeps-are_of_lives}
+use Rattle.run_laws.specs.shows.ListLaws.{length-set, map-get, map-set}
+use Rattle.run_laws.specs.shows.Shows.{IsTargetOf, Leads, Shows}
 use Rattle.run_laws.specs.shows.Stages.{IsPlace, StageNow}
 use Rattle.run_laws.specs.shows.Turned.{followed, swept_between, swept_stage, with_between}
 use Rattle.run_laws.specs.turns.Raising.{raised_in}
@@ -23,10 +22,10 @@ use Rattle.world_base.specs.declared.letter.Letter.{Letter}
 use Rattle.world_base.specs.declared.target.Life.{Life}
 use Rattle.world_base.specs.declared.target.TargetState.{TargetState}
 use Rattle.world_base.specs.declared.world.World.{World}
-use Rattle.world_base.specs.Events.{Rules, after_turn, client_plan, listed, target_plan, with_epoch, with_target}
+use Rattle.world_base.specs.Events.{Rules, after_turn, listed, target_plan, with_epoch, with_target}
 use Rattle.world_base.specs.Letters.{Takes, asked_after, letters_of}
 use Rattle.world_base.specs.StepLaws.{set-is, set-there}
-use Rattle.world_base.specs.Stops.{reset_letter, swept}
+use Rattle.world_base.specs.Stops.{swept}
 
 pub picked-takes : (letters : List Letter) (n : ℕ) (l : Letter) (rest : List Letter) → (a : _) → IsPicked letters a n l rest → Takes letters l rest
 picked-takes letters n l rest a k = record { before = k.before; after = k.after; among = k.among; left = k.left }
@@ -37,10 +36,6 @@ at-both [] ys n x many at = let no : ⊥ = cc in absurd no
 at-both (z ∷ xs) [] n x many at = let no : ⊥ = omega (arith, many) in absurd no
 at-both (z ∷ xs) (y ∷ ys) zero x many at = (y, refl)
 at-both (z ∷ xs) (y ∷ ys) (suc n) x many at = at-both xs ys n x (omega (arith, many)) at
-
--- the world with this between its actors
-abbrev between-put : BetweenNow → World → World
-between-put b w = record w { messages = b.messages; asked = b.asked; issued = b.issued; lines = b.lines }
 
 module _ {S C : Type 0} (durable : S → Option Durable) (state : S → State) (r : Rules) where
   -- ---- a target of the world
@@ -102,20 +97,6 @@ module _ {S C : Type 0} (durable : S → Option Durable) (state : S → State) (
                 (subst (λ q. IsTargetOf durable state (target_plan r t) life (found' t) q u) one (subst (λ q. IsTargetOf durable state (target_plan r t) life (found' t) y q) two now))
 
   -- ---- what lies between changes
-
-  pub between-shown : (found : ℕ → Durable) (a : StageNow S C) (b : BetweenNow) (w : World) → Shows durable state r found a w → Shows durable state r found (with_between b a) (between-put b w)
-  between-shown found a b w k = record {
-    clients = k.clients;
-    plans = k.plans;
-    many = k.many;
-    lives = k.lives;
-    targets = λ t x life s place here. k.targets t x life s (record { there = place.there; stands = place.stands }) here;
-    messages = refl;
-    asked = refl;
-    issued = refl;
-    lines = refl;
-    restarts = k.restarts;
-  }
 
   -- what goes to targets that are given up is lost
   pub swept-shown : (found : ℕ → Durable) (a : StageNow S C) (w : World) → Shows durable state r found a w → Shows durable state r found (swept_stage a) (swept w)

@@ -1,5 +1,5 @@
 -- Which actors have something to do, and what they hear, is that of each world that they show.
-use Rattle.std.specs.Prelude.{ℕ, ◌≡◌, ◌≤◌, ◌<◌, ◌++◌, All, Bool, true, false, ◌||◌, nat_lt, List, [], ◌∷◌, filter, length, slice_get, max, Option, Some, None, refl, if◌then◌else◌}
+use Rattle.std.specs.Prelude.{ℕ, ◌≡◌, ◌≤◌, ◌<◌, ◌++◌, All, Bool, true, false, ◌||◌, nat_lt, List, [], ◌∷◌, filter, length, slice_get, max, Option, Some, refl, if◌then◌else◌}
 use Rattle.std.proofs.Common.{sym, ◌∙◌, ap, subst, arith}
 use Rattle.std.proofs.lemmas.Bool.Decides.{nat_tests}
 use Rattle.std.proofs.lemmas.List.{append-nil}
@@ -13,7 +13,7 @@ use Rattle.run_base.specs.Picks as picks
 use Rattle.run_base.specs.Picks.{count_to, heard_awake, heard_by_client, if_client_due, if_target_due, is_client_due, is_due, is_due_where, numbered}
 use Rattle.run_laws.specs.shows.Due.{AllAreDue, AreDue, IsActor, IsUp, is_due_client}
 use Rattle.run_laws.specs.shows.ListLaws.{map-get}
-use Rattle.run_laws.specs.shows.Parts.{IsThere, target-there}
+use Rattle.run_laws.specs.shows.Parts.{target-there}
 use Rattle.run_laws.specs.shows.Shows.{IsTargetOf, Shows, state_of}
 use Rattle.run_laws.specs.shows.Stages.{IsPlace, StageNow}
 use Rattle.run_laws.specs.turns.Turns.{heard_by_target, heard_in, heard_where}
@@ -54,20 +54,6 @@ target-is-up lives t up is down = up down
 
 -- ---- letters
 
--- where a letter is in flight to a target, it has something to do
-pub letters-due : (count n : ℕ) (idle : Bool) → n ≡ count → 0 < n → nat_lt 0 n ≡ (nat_lt 0 count || idle)
-letters-due count n idle is some =
-    let here : nat_lt 0 n ≡ true = grind (arith, nat_tests) in
-    let there : nat_lt 0 count ≡ true = ap (nat_lt 0) (sym is) ∙ here in
-    here ∙ ap (λ b. b || idle) (sym there)
-
--- where none is, it has something to do where it has idle work
-pub idle-due : (count n : ℕ) (due idle : Bool) → n ≡ count → n ≤ 0 → due ≡ idle → due ≡ (nat_lt 0 count || idle)
-idle-due count n due idle is none same = same ∙ ap (λ b. b || idle) (sym silent)
-  where
-    silent : nat_lt 0 count ≡ false
-    silent = let zero : count ≡ 0 = omega (arith, is, none) in grind (arith, nat_tests)
-
 -- a client that hears one of these letters is awake, and the number is that of one of them
 pub record HearsOne (c : ClientState) (count number : ℕ) : Type 0 where
   pub awake : c.skip ≡ 0
@@ -79,10 +65,6 @@ hears-one c count heard number is some within = by (nat_lt 0 c.skip) refl
     by : (b : Bool) → nat_lt 0 c.skip ≡ b → HearsOne c count number
     by true s = absurd (let none : heard ≡ 0 = is ∙ ap (λ b. if b then 0 else count) s in omega (arith, none, some))
     by false s = record { awake = grind (arith, nat_tests); within = let all : heard ≡ count = is ∙ ap (λ b. if b then 0 else count) s in let few : number < max 1 count = within in omega (arith, all, some, few) }
-
--- none is heard where the count that was looked at isn't above 0
-pub none-heard : (count heard : ℕ) → heard ≡ count → heard ≤ 0 → count ≡ 0
-none-heard count heard is none = omega (arith, is, none)
 
 -- how many are heard are in flight
 awake-few : (c : ClientState) (count : ℕ) → heard_awake c count ≤ count
@@ -180,13 +162,6 @@ module _ {S C : Type 0} (a : StageNow S C) (actor : ActorId) where
 -- ---- those that have something to do, one by one
 
 module _ {S C : Type 0} (durable : S → Option Durable) (state : S → State) (settling : Bool) (stage : StageNow S C) where
-  -- none of no actors
-  pub none-due : (due : List ActorId) → due ≡ [] → AreDue durable state settling stage [] due
-  none-due due none = record {
-    shown = λ r found w s. none;
-    there = subst (All (IsActor (length stage.clients) (length stage.targets))) (sym none) (All-nil (IsActor (length stage.clients) (length stage.targets)));
-    up = subst (All (IsUp stage.watch.lives)) (sym none) (All-nil (IsUp stage.watch.lives));
-  }
 
   module _ (some due : List ActorId) (a : ActorId) (k : AreDue durable state settling stage some due) where
     one-due : (r : Rules) (w : World) (is : Bool) → is_due settling r w a ≡ is → due ≡ filter (is_due settling r w) some → due ++ (if is then a ∷ [] else []) ≡ filter (is_due settling r w) (some ++ a ∷ [])

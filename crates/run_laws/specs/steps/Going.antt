@@ -1,6 +1,6 @@
 -- Turns of actors one after another.
 use Rattle.run_laws.specs.turns.Drawn.{RunsOn, runs-on-none, runs-on-then, turn-runs-on}
-use Rattle.std.specs.Prelude.{ℕ, ◌≡◌, true, List, length, Bool, Option, is_some, Result, Ok, Err, OnOk, refl}
+use Rattle.std.specs.Prelude.{ℕ, ◌≡◌, true, List, length, Bool, Option, is_some, refl}
 use Rattle.std.proofs.Common.{◌∙◌}
 use Rattle.base_messages.specs.declared.actor.ActorId.{ActorId}
 use Rattle.base_types.specs.declared.script.StopDecl.{StopDecl}
@@ -14,7 +14,6 @@ use Rattle.run_laws.specs.shows.Shows.{Leads, Shows, WasReached}
 use Rattle.run_laws.specs.shows.Stages.{StageNow}
 use Rattle.run_laws.specs.turns.Keeping.{TurnsKeep, draws-keep, in_turn-keeps, rounds-keep}
 use Rattle.run_laws.specs.turns.Orders.{Draws, InDraws, InRounds, InTurn, Rounds}
-use Rattle.run_laws.specs.turns.Turns.{TurnOf}
 use Rattle.vos_store.specs.Calls.{State}
 use Rattle.world_base.specs.declared.world.World.{World}
 use Rattle.world_base.specs.Events.{Rules}
@@ -31,9 +30,6 @@ IsRun way = (r : Rules) (w v : World) → way r w v → RunsOn r w v
 
 runs-keep : (r : Rules) (w : World) → TurnsKeep r (RunsOn r w)
 runs-keep r w settling a k u v t on = runs-on-then r w u v on (turn-runs-on settling r a k u v t)
-
-pub turn-is-run : (settling : Bool) (a : ActorId) (k : ℕ) → IsRun (λ r. TurnOf settling r a k)
-turn-is-run settling a k r w v t = turn-runs-on settling r a k w v t
 
 pub turns-are-run : (settling : Bool) (some : List ActorId) → IsRun (λ r w v. InTurn settling r w some v)
 turns-are-run settling some r w v k = in_turn-keeps r (RunsOn r w) (runs-keep r w) settling w some v k (runs-on-none r w)
@@ -74,12 +70,6 @@ module _ {S C : Type 0} (durable : S → Option Durable) (state : S → State) (
             let y = n.led x.next (reached-then r one w x.next runs x.turn was) x.shows in
             record { next = y.next; turn = join n.before w x.next y.next x.shows x.turn y.turn; shows = y.shows };
       }
-
-  -- and then another, if it comes to its end
-  pub leads-then-ok : {T E : Type 0} (r : Rules) (one other both : Rules → World → World → Type 0) (a b c : StageNow S C) (result : Result T E) → IsRun one → ((found : ℕ → Durable) (w u v : World) → Shows durable state r found b u → one r w u → other r u v → both r w v)
-      → Leads durable state may (one r) r a b → OnOk result (Leads durable state may (other r) r b c) → OnOk result (Leads durable state may (both r) r a c)
-  leads-then-ok r one other both a b c (Ok x) runs join k l = leads-then r one other both a b c runs join k l
-  leads-then-ok r one other both a b c (Err e) runs join k l = tt
 
   -- said in another way
   pub leads-as : (r : Rules) (one other : Rules → World → World → Type 0) (a b : StageNow S C) → ((found before : ℕ → Durable) (w v : World) → Shows durable state r before a w → Shows durable state r found b v → one r w v → other r w v) → Leads durable state may (one r) r a b
