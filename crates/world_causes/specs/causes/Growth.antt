@@ -1,5 +1,5 @@
 -- What an outcome shows it goes on to show, and what holds of lists where one element changed.
-use Rattle.std.specs.Prelude.{ℕ, ◌≡◌, ◌≤◌, ◌+◌, ◌⊎◌, ◌++◌, true, ◌||◌, List, [], ◌∷◌, slice_get, Option, Some, None, refl}
+use Rattle.std.specs.Prelude.{ℕ, ◌≡◌, ◌≤◌, ◌⊎◌, ◌++◌, true, ◌||◌, List, [], ◌∷◌, slice_get, Option, Some, None, refl}
 use Rattle.std.proofs.Common.{sym, ◌∙◌, ap, subst, inl, inr, arith}
 use Rattle.std.proofs.Math.Bool.{or-true}
 use Rattle.std.proofs.Math.ListN.{set}

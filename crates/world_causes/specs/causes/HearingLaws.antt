@@ -20,7 +20,7 @@ use Rattle.world_base.specs.declared.client.ClientState.{ClientState}
 use Rattle.world_base.specs.declared.client.Present.{Present}
 use Rattle.world_base.specs.declared.letter.Letter.{Letter}
 use Rattle.world_base.specs.declared.world.World.{World}
-use Rattle.world_base.specs.ClientTurns.{Move, about, answered, asks_again, heard_at, is_about, lost, reset, attempt_id, begun, command_at, ends, goes, greatest, heard, hears_epochs, knows, listed, op_of, replied, snaps_known, told_by_message, waits}
+use Rattle.world_base.specs.ClientTurns.{Move, about, answered, asks_again, heard_at, is_about, lost, reset, attempt_id, begun, command_at, ends, goes, greatest, heard, hears_epochs, knows, listed, op_of, replied, snaps_known, told_by_message}
 use Rattle.world_letters.specs.epochs.Epochs.{PlainEpochs}
 use Rattle.world_letters.specs.epochs.Talking.{TalksOnce, taken-silent}
 use Rattle.world_base.specs.Events.{Rules, client_plan}

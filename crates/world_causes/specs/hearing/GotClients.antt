@@ -1,7 +1,6 @@
 -- A client's turn keeps that clients were told what was served, also where it hears that what it asked was lost.
 use Rattle.std.specs.Prelude.{ℕ, ◌≡◌, ◌<◌, ◌⊎◌, ◌++◌, ◌&&◌, Bool, true, false, List, Contains, slice_get, Option, Some, None, refl, if◌then◌else◌}
 use Rattle.std.proofs.Common.{sym, ◌∙◌, ap, subst, append-nil, inl, inr}
-use Rattle.base_types.specs.declared.answer.Answer.{Answer}
 use Rattle.base_types.specs.declared.outcome.Cause.TheVariants.{Unresolved}
 use Rattle.base_types.specs.declared.outcome.Outcome.{Outcome}
 use Rattle.base_types.specs.declared.outcome.Outcome.TheVariants as outcome
@@ -18,7 +17,7 @@ use Rattle.world_base.specs.declared.client.ClientState.{ClientState}
 use Rattle.world_base.specs.declared.client.Present.{Present}
 use Rattle.world_base.specs.declared.letter.Letter.{Letter}
 use Rattle.world_base.specs.declared.world.World.{World}
-use Rattle.world_base.specs.ClientTurns.{Move, about, answered, ends, asks_again, attempt_id, goes, heard, heard_at, hears_epochs, is_about, knows, listed, replied, reset_by, rests, waits}
+use Rattle.world_base.specs.ClientTurns.{Move, about, answered, ends, asks_again, attempt_id, goes, heard, heard_at, hears_epochs, is_about, knows, listed, replied, reset_by, rests}
 use Rattle.world_base.specs.Events.{ClientGoes, ClientHears, Rules, client_plan, with_client}
 use Rattle.world_base.specs.Letters.{Takes, client, is_tell, letters_of}
 use Rattle.world_base.specs.StepLaws.{by-hearing, by-next}

@@ -1,8 +1,7 @@
 -- Every step of a client keeps the facts of outcomes.
-use Rattle.std.specs.Prelude.{ℕ, ◌≡◌, ◌≢◌, ◌<◌, ◌⊎◌, ◌++◌, Bool, true, false, ◌&&◌, List, [], ◌∷◌, map, slice_get, Contains, Option, Some, None, refl, if◌then◌else◌}
+use Rattle.std.specs.Prelude.{ℕ, ◌≡◌, ◌<◌, ◌⊎◌, Bool, true, false, List, slice_get, Option, Some, None, refl}
 use Rattle.std.proofs.Common.{sym, ◌∙◌, ap, subst, inl, inr, arith}
 use Rattle.std.proofs.Math.ListN.{set}
-use Rattle.base_types.specs.declared.outcome.Cause.TheVariants.{Unresolved}
 use Rattle.base_types.specs.declared.entry.Entry.{Entry}
 use Rattle.base_types.specs.declared.epoch.Epoch.{Epoch}
 use Rattle.base_types.specs.declared.id.AttemptId.{AttemptId}
@@ -10,44 +9,33 @@ use Rattle.base_types.specs.declared.outcome.Outcome.{Outcome}
 use Rattle.base_types.specs.declared.outcome.Outcome.TheVariants as outcome
 use Rattle.base_types.specs.declared.report.Attempt.{Attempt}
 use Rattle.base_types.specs.declared.report.Line.{Line}
-use Rattle.model_laws.specs.Members.{Has, contains-from_has, has-cases, has-from_contains, has-from_map}
-use Rattle.base_messages.specs.declared.message.Message.{Message, more_of-Message}
-use Rattle.base_messages.specs.declared.message.Message.TheVariants as message
+use Rattle.model_laws.specs.Members.{Has, has-cases, has-from_map}
 use Rattle.base_messages.specs.declared.message.Post.{Post}
-use Rattle.base_messages.specs.declared.message.Reply.{Reply}
-use Rattle.base_messages.specs.declared.message.Reply.TheVariants as reply
 use Rattle.daos_model.specs.Attempts.{tries}
-use Rattle.daos_model.specs.BoolLaws.{and_left, and_right}
-use Rattle.daos_model.specs.Durables.{same_attempt}
 use Rattle.dtx_base.specs.LeaderLaws.{same-is}
-use Rattle.world_commit.specs.attempts.Attempts.{IsBorn, IsHeld, entry_at, leader_of}
-use Rattle.world_commit.specs.attempts.Counting.{has-left_over, has-taken}
-use Rattle.world_commit.specs.attempts.History.{Aborted, Decided, History}
+use Rattle.world_commit.specs.attempts.Attempts.{IsBorn, entry_at, leader_of}
+use Rattle.world_commit.specs.attempts.History.{History}
 use Rattle.world_commit.specs.attempts.Turning.{one-or_another}
 use Rattle.world_base.specs.declared.client.ClientPlan.{ClientPlan}
 use Rattle.world_base.specs.declared.client.ClientState.{ClientState}
 use Rattle.world_base.specs.declared.client.Present.{Present}
 use Rattle.world_base.specs.declared.letter.Letter.{Letter}
 use Rattle.world_base.specs.declared.world.World.{World}
-use Rattle.world_base.specs.ClientTurns.{Move, about, answered, asks_again, at_present, attempt_id, begun, command_at, ended, ends, goes, heard, heard_at, hears_epochs, is_about, is_waiting, knows, knows_epoch, listed, lost, moved, op_of, replied, reset, reset_by, snaps_known, waits}
-use Rattle.world_base.specs.Events.{Rules, client_plan, or_issued, with_client, with_epoch}
-use Rattle.world_base.specs.Letters.{Takes, client, letter_of, letters_of}
+use Rattle.world_base.specs.ClientTurns.{attempt_id, begun, is_waiting, listed, moved, waits}
+use Rattle.world_base.specs.Events.{Rules, client_plan, with_client}
+use Rattle.world_base.specs.Letters.{client, letter_of, letters_of}
 use Rattle.world_base.specs.StepLaws.{set-here, set-there}
 use Rattle.world_base.specs.Steps.{KeptByCounting, after_client, after_move, without}
-use Rattle.world_letters.specs.clients.Answered.{ops_here}
 use Rattle.world_letters.specs.epochs.Epochs.{IsPast}
-use Rattle.world_commit.specs.fates.Facts.{Attempts}
 use Rattle.world_letters.specs.lines.Lines.{Lines, filled}
 use Rattle.world_letters.specs.talks.AskLaws.{move-is, waiting-rests}
 use Rattle.world_letters.specs.talks.Asked.{ARead, ASnapshot, AnAggregation, Asked, Asking, IsMove, ItsWrites, Silent, Telling}
 use Rattle.world_contents.specs.verdicts.TellLaws.{AllRead, MoveTells, NoSnap, Nothing, moved-tells}
 use Rattle.world_contents.specs.verdicts.TurnLaws.{move-ends-nothing, move-tells-decided, none-told, ends-one}
 use Rattle.world_contents.specs.verdicts.VerdictLaws.{EndNothing, tried-cases}
-use Rattle.world_contents.specs.verdicts.Verdicts.{Agrees, HasWrites}
-use Rattle.world_causes.specs.outcomes.Concluding.{waiting-not_past}
-use Rattle.world_causes.specs.outcomes.Moving.{AnswerDoes, FailsWith, OnWith, end-own, end-past, moved-how, op-does, same-past}
-use Rattle.world_causes.specs.outcomes.Outcomes.{IsBehind, IsEndTrue, IsHandedOver, Outcomes, WaitsForEnd, commits, is_failed}
-use Rattle.world_causes.specs.outcomes.Premises.{HearsFitly, IsBefore, IsFit, IsLossFit, IsReplyFit, IsResetFit}
+use Rattle.world_contents.specs.verdicts.Verdicts.{HasWrites}
+use Rattle.world_causes.specs.outcomes.Moving.{moved-how}
+use Rattle.world_causes.specs.outcomes.Outcomes.{IsEndTrue, IsHandedOver, Outcomes, WaitsForEnd, commits, is_failed}
 
 -- ---- what a client does
 

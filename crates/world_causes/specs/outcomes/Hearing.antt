@@ -1,5 +1,5 @@
 -- A target hears a message: what follows for outcomes, of whatever kind its turn is.
-use Rattle.std.specs.Prelude.{ℕ, ◌≡◌, ◌≢◌, ◌⊎◌, ◌++◌, Bool, true, false, List, [], ◌∷◌, map, slice_get, Contains, Option, Some, None, refl}
+use Rattle.std.specs.Prelude.{ℕ, ◌≡◌, ◌≢◌, ◌⊎◌, ◌++◌, Bool, true, false, List, slice_get, Contains, Option, Some, None, refl}
 use Rattle.std.proofs.Common.{sym, ◌∙◌, ap, subst, inl, inr}
 use Rattle.std.proofs.Math.ListN.{set}
 use Rattle.base_types.specs.declared.entry.Entry.{Entry}
@@ -8,25 +8,22 @@ use Rattle.base_types.specs.declared.id.AttemptId.{AttemptId}
 use Rattle.base_types.specs.declared.outcome.Outcome.{Outcome}
 use Rattle.base_types.specs.declared.outcome.Outcome.TheVariants.{Committed}
 use Rattle.base_types.specs.declared.report.Attempt.{Attempt}
-use Rattle.base_types.specs.declared.report.Line.{Line}
-use Rattle.model_laws.specs.Members.{Has, contains-from_has, has-cases, has-from_contains, has-from_map}
+use Rattle.model_laws.specs.Members.{Has, has-cases, has-from_map}
 use Rattle.base_messages.specs.declared.message.Message.{Message}
 use Rattle.base_messages.specs.declared.message.Message.TheVariants as message
 use Rattle.base_messages.specs.declared.message.Post.{Post}
 use Rattle.daos_model.specs.Attempts.{tries}
-use Rattle.daos_model.specs.Durables.{entry_of, same_attempt}
-use Rattle.daos_model.specs.declared.durable.Durable.{Durable}
+use Rattle.daos_model.specs.Durables.{entry_of}
 use Rattle.dtx_base.specs.LeaderLaws.{same-is}
 use Rattle.world_commit.specs.attempts.Attempts.{IsBorn, IsHeld, entry_at, entry_in, leader_of}
 use Rattle.world_commit.specs.attempts.Counting.{has-left_over, has-taken}
-use Rattle.world_commit.specs.attempts.History.{Aborted, Decided, GrowsBy, History, Tells}
+use Rattle.world_commit.specs.attempts.History.{GrowsBy, History, Tells}
 use Rattle.world_commit.specs.attempts.Turning.{one-or_another}
 use Rattle.world_base.specs.declared.letter.Letter.{Letter}
 use Rattle.world_base.specs.declared.target.TargetState.{TargetState}
 use Rattle.world_base.specs.declared.world.World.{World}
-use Rattle.world_base.specs.Changes.{Kept}
-use Rattle.world_base.specs.Events.{Rules, TargetHearsBy, kept, target_after, with_epoch}
-use Rattle.world_base.specs.Letters.{Takes, client, letter_of, letters_of, target}
+use Rattle.world_base.specs.Events.{Rules, TargetHearsBy, target_after}
+use Rattle.world_base.specs.Letters.{letter_of, letters_of, target}
 use Rattle.world_base.specs.StepLaws.{set-here, set-there}
 use Rattle.world_base.specs.TargetTurns.{Hearing}
 use Rattle.world_commit.specs.fates.Facts.{Attempts, IsPrepareRight, IsSaidSo}

@@ -15,7 +15,6 @@ use Rattle.base_types.specs.declared.script.Command.TheVariants.{Run, Snap, Aggr
 use Rattle.daos_model.specs.Accesses.{minor_writes, op_path}
 use Rattle.daos_model.specs.Attempts.{is_restart, snapshot_of_command}
 use Rattle.daos_model.specs.Conditions.{holds_where}
-use Rattle.daos_model.specs.Transactions.{ops_of}
 use Rattle.world_base.specs.declared.client.ClientPlan.{ClientPlan}
 use Rattle.world_base.specs.declared.client.ClientState.{ClientState}
 use Rattle.world_base.specs.declared.client.Present.{Present}

@@ -1,5 +1,5 @@
 -- What is told of how attempts ended, in a run in which targets may stop.
-use Rattle.std.specs.Prelude.{ℕ, ◌≡◌, ◌≢◌, ◌⊎◌, Bool, true, false, List, [], slice_get, Contains, Option, Some, None}
+use Rattle.std.specs.Prelude.{◌≡◌, ◌≢◌, ◌⊎◌, Bool, true, false, List, [], slice_get, Contains, Option, Some, None}
 use Rattle.base_types.specs.declared.epoch.Epoch.{Epoch}
 use Rattle.base_types.specs.declared.id.AttemptId.{AttemptId}
 use Rattle.base_types.specs.declared.operation.Op.{Op}
@@ -13,7 +13,7 @@ use Rattle.daos_model.specs.Accesses.{minor_writes}
 use Rattle.daos_model.specs.Attempts.{tries}
 use Rattle.daos_model.specs.Durables.{same_attempt}
 use Rattle.world_commit.specs.attempts.Attempts.{IsBorn, entry_at, leader_of}
-use Rattle.world_commit.specs.attempts.History.{Aborted, Decided, History}
+use Rattle.world_commit.specs.attempts.History.{Decided, History}
 use Rattle.world_base.specs.declared.client.ClientPlan.{ClientPlan}
 use Rattle.world_base.specs.declared.client.ClientState.{ClientState}
 use Rattle.world_base.specs.declared.client.Present.{Present}

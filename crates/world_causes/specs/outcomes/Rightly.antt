@@ -1,5 +1,5 @@
 -- Every right event of a target keeps the facts of outcomes.
-use Rattle.std.specs.Prelude.{ℕ, ◌≡◌, ◌⊎◌, ◌++◌, Bool, true, false, List, [], ◌∷◌, slice_get, Contains, Option, Some, None, is_some, refl}
+use Rattle.std.specs.Prelude.{ℕ, ◌≡◌, ◌⊎◌, ◌++◌, true, false, List, [], ◌∷◌, slice_get, Contains, Option, Some, is_some, refl}
 use Rattle.std.proofs.Common.{append-nil, sym, ◌∙◌, ap, subst, inl, inr}
 use Rattle.std.proofs.Math.ListN.{set}
 use Rattle.base_types.specs.declared.entry.Entry.{Entry}
@@ -19,7 +19,7 @@ use Rattle.daos_model.specs.Durables.{entry_of}
 use Rattle.daos_model.specs.EntryLaws.{same_attempt-itself}
 use Rattle.dtx_base.specs.Leading.{undecided_attempt}
 use Rattle.dtx_base.specs.Rows.{is_among, row_of}
-use Rattle.world_commit.specs.attempts.Attempts.{IsHeld, IsOpenAt, entry_at, entry_in, leader_of, row_at, row_in}
+use Rattle.world_commit.specs.attempts.Attempts.{IsHeld, IsOpenAt, entry_in, leader_of, row_at, row_in}
 use Rattle.world_commit.specs.attempts.Counting.{has-taken}
 use Rattle.world_commit.specs.attempts.History.{GrowsBy, History, Tells}
 use Rattle.world_commit.specs.attempts.MarkTurns.{target-is}
@@ -40,11 +40,10 @@ use Rattle.world_commit.specs.fates.Lefts.{fetch-left, idle-left, mark-answers, 
 use Rattle.world_commit.specs.fates.Told.{silent_at}
 use Rattle.world_commit.specs.fates.Working.{ArePlain, mild-untold, plain-mild}
 use Rattle.world_causes.specs.outcomes.Concluding.{Concludes}
-use Rattle.world_causes.specs.outcomes.Hearing.{AreToldOf, IsToldOf, held-back, hearing-concludes}
-use Rattle.world_causes.specs.outcomes.Outcomes.{commits}
+use Rattle.world_causes.specs.outcomes.Hearing.{AreToldOf, held-back, hearing-concludes}
 use Rattle.world_causes.specs.outcomes.Premises.{CommitsAreOfClients, hands}
 use Rattle.world_causes.specs.outcomes.Storing.{idles-unstored, rightly-unstored}
-use Rattle.world_causes.specs.outcomes.Telling.{AreEndsOf, end_to, AreOfRow, IsEndOf, IsOfRow, ack-tells, commit-ends, post_to, silent-tells, single}
+use Rattle.world_causes.specs.outcomes.Telling.{AreEndsOf, end_to, IsOfRow, ack-tells, commit-ends, post_to, silent-tells, single}
 use Rattle.world_contents.specs.verdicts.VerdictLaws.{tried-cases}
 
 -- no line tells of an attempt where there is none

@@ -1,9 +1,8 @@
 -- Stops and openings keep the facts of outcomes.
-use Rattle.std.specs.Prelude.{ℕ, ◌≡◌, ◌≢◌, ◌⊎◌, ◌==◌, ◌+◌, ◌++◌, Bool, true, false, not, ◌&&◌, List, [], ◌∷◌, filter, map, slice_get, Contains, Option, Some, None, is_some, refl}
+use Rattle.std.specs.Prelude.{ℕ, ◌≡◌, ◌⊎◌, ◌+◌, ◌++◌, Bool, true, false, not, List, [], ◌∷◌, filter, map, slice_get, Contains, Option, Some, None, is_some, refl}
 use Rattle.std.proofs.Common.{sym, ◌∙◌, ap, subst, inl, inr, arith}
 use Rattle.std.proofs.Math.ListN.{set}
 use Rattle.std.proofs.lemmas.Bool.Decides.{nat_tests}
-use Rattle.base_types.specs.declared.entry.Entry.{Entry}
 use Rattle.base_types.specs.declared.epoch.Epoch.{Epoch}
 use Rattle.base_types.specs.declared.id.AttemptId.{AttemptId}
 use Rattle.base_types.specs.declared.outcome.Outcome.{Outcome}
@@ -17,9 +16,8 @@ use Rattle.base_messages.specs.declared.message.Post.{Post}
 use Rattle.daos_model.specs.Attempts.{tries}
 use Rattle.daos_model.specs.Changes.{reopened}
 use Rattle.daos_model.specs.Durables.{entry_of}
-use Rattle.daos_model.specs.declared.durable.Durable.{Durable}
 use Rattle.dtx_base.specs.LeaderLaws.{same-is}
-use Rattle.world_commit.specs.attempts.Attempts.{IsBorn, IsHeld, IsToLeader, entry_at, entry_in, leader_of}
+use Rattle.world_commit.specs.attempts.Attempts.{IsBorn, IsHeld, IsToLeader, entry_in, leader_of}
 use Rattle.world_commit.specs.attempts.Counting.{has-taken}
 use Rattle.world_commit.specs.attempts.History.{Aborted, Decided, GrowsBy, History, Tells}
 use Rattle.world_commit.specs.attempts.MarkTurns.{target-is}
@@ -27,11 +25,10 @@ use Rattle.world_base.specs.declared.letter.Letter.{Letter}
 use Rattle.world_base.specs.declared.target.Life.TheVariants.{Down}
 use Rattle.world_base.specs.declared.target.TargetState.{TargetState}
 use Rattle.world_base.specs.declared.world.World.{World}
-use Rattle.world_base.specs.CutTurns.{Cutting}
 use Rattle.world_base.specs.Events.{Rules, kept, target_plan}
 use Rattle.world_base.specs.Letters.{Takes, letter_of, letters_of, target}
 use Rattle.world_base.specs.Statuses.{opening_posts, status_refusal}
-use Rattle.world_base.specs.Stops.{AtWork, CutOf, Hearing, IdleWork, IsInHand, NumbersDrawn, OpeningFails, TargetCut, TargetGivenUp, TargetOpens, after_cut, is_not_to, is_not_to_down, is_to, is_to_down, opened_at, reset_letter, resets, restart_line, stopped_at, stops_so_far, swept}
+use Rattle.world_base.specs.Stops.{AtWork, CutOf, Hearing, IdleWork, IsInHand, NumbersDrawn, OpeningFails, TargetCut, TargetGivenUp, TargetOpens, is_not_to, is_not_to_down, is_to, is_to_down, opened_at, reset_letter, resets, restart_line, stopped_at, stops_so_far, swept}
 use Rattle.world_commit.specs.fates.Facts.{Attempts, IsAckRight, IsPrepareRight, IsSaidSo, IsStateRight}
 use Rattle.world_commit.specs.stops.CutAnswers.{ack_told}
 use Rattle.world_commit.specs.stops.CutEvents.{cut_told, message_told}
@@ -44,7 +41,7 @@ use Rattle.world_causes.specs.outcomes.Outcomes.{commits}
 use Rattle.world_causes.specs.outcomes.Premises.{hands}
 use Rattle.world_causes.specs.outcomes.Storing.{hearing-cut, idling-cut, is_stored_by}
 use Rattle.world_causes.specs.outcomes.Telling.{silent-tells}
-use Rattle.world_causes.specs.outcomes.Untried.{hearing-untried, idling-untried, untried-back, untried-both, untried-one}
+use Rattle.world_causes.specs.outcomes.Untried.{hearing-untried, idling-untried, untried-back, untried-one}
 
 -- ---- events in which nothing is told of ends
 

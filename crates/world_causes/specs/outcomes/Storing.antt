@@ -1,8 +1,7 @@
 -- Which turns of a target store an attempt's entry: those in which it hears its Commit or its Prepare, whole or cut.
-use Rattle.std.specs.Prelude.{ℕ, ◌≡◌, ◌⊎◌, Bool, true, false, List, [], map, Option, Some, None, refl, if◌then◌else◌}
+use Rattle.std.specs.Prelude.{ℕ, ◌≡◌, ◌⊎◌, Bool, true, false, List, map, Option, Some, None, refl, if◌then◌else◌}
 use Rattle.std.specs.Option.{option_map}
-use Rattle.std.proofs.Common.{sym, ◌∙◌, ap, subst, inl, inr}
-use Rattle.base_types.specs.declared.entry.Entry.{Entry}
+use Rattle.std.proofs.Common.{◌∙◌, ap, inl, inr}
 use Rattle.base_types.specs.declared.entry.Verdict.{Verdict}
 use Rattle.base_types.specs.declared.outcome.Outcome.{Outcome}
 use Rattle.daos_model.specs.declared.durable.Version.{Version}
@@ -17,7 +16,7 @@ use Rattle.base_types.specs.declared.report.Line.{Line}
 use Rattle.base_messages.specs.declared.actor.ActorId.{ActorId}
 use Rattle.base_messages.specs.declared.message.Message.{Message, more_of-Message}
 use Rattle.base_messages.specs.declared.message.Message.TheVariants as message
-use Rattle.daos_model.specs.Changes.{committed_at, confirmed_at, created, frozen, leased, marked, new_snap, prepared, pruned, raised_at, settled, with_versions}
+use Rattle.daos_model.specs.Changes.{committed_at, confirmed_at, created, frozen, marked, new_snap, pruned, raised_at, settled, with_versions}
 use Rattle.daos_model.specs.Durables.{entry_of, is_frozen, same_attempt, snap_key}
 use Rattle.daos_model.specs.EntryLaws.{same_attempt-itself}
 use Rattle.daos_model.specs.Ordered.{put}
@@ -36,7 +35,7 @@ use Rattle.world_base.specs.CutTurns as cuts
 use Rattle.world_base.specs.EntryLaws.{entry-aborted, entry-aborted_other, entry-committed, entry-confirmed, entry-leased, entry-prepared_other}
 use Rattle.world_base.specs.Further.{HearsFurther}
 use Rattle.world_base.specs.Idle.{IdleNext, SettlesFirst}
-use Rattle.world_base.specs.Marks.{MarkNext, PassesBy, SettlesMarked}
+use Rattle.world_base.specs.Marks.{MarkNext, SettlesMarked}
 use Rattle.world_base.specs.PathLaws.{path-keeps, reached-keeps}
 use Rattle.world_base.specs.Prepares as prepare
 use Rattle.world_base.specs.Reads as read
@@ -45,7 +44,7 @@ use Rattle.world_base.specs.Snapshots as snap
 use Rattle.world_base.specs.Roles.{is_in_doubt, is_prepared, told_by}
 use Rattle.world_base.specs.Statuses.{AtOnce, Looking, Looks, NoChange, status_refusal}
 use Rattle.world_base.specs.TargetTurns.{Hears, IdlesWhole, commit_request, fetch_request, prepare_request}
-use Rattle.world_base.specs.Turns.{Reached, Whole}
+use Rattle.world_base.specs.Turns.{Reached}
 use Rattle.world_base.specs.Verdicts as verdict
 
 -- ---- changes

@@ -1,6 +1,6 @@
 -- Lines of targets tell of no attempt.
 use Rattle.std.specs.Prelude.{ℕ, ◌≡◌, ◌++◌, List, [], ◌∷◌, Contains, Option, Some, None, refl}
-use Rattle.std.proofs.Common.{append-nil, sym, ◌∙◌, ap, subst}
+use Rattle.std.proofs.Common.{append-nil, ◌∙◌, ap, subst}
 use Rattle.base_types.specs.declared.epoch.Epoch.{Epoch}
 use Rattle.base_types.specs.declared.id.AttemptId.{AttemptId}
 use Rattle.base_types.specs.declared.outcome.FloorWhy.{FloorWhy}

@@ -5,7 +5,6 @@ use Rattle.std.proofs.lemmas.Bool.Decides.{nat_tests}
 use Rattle.base_types.specs.declared.report.Attempt.{Attempt}
 use Rattle.base_types.specs.declared.report.Line.{Line}
 use Rattle.base_types.specs.declared.report.Line.TheVariants as line
-use Rattle.base_types.specs.declared.script.Command.TheVariants.{Aggregate}
 use Rattle.model_laws.specs.Members.{Has}
 use Rattle.daos_model.specs.Attempts.{tries}
 use Rattle.daos_model.specs.Stops.{down_targets, least, least_with}

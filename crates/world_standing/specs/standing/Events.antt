@@ -14,10 +14,7 @@ use Rattle.world_base.specs.Events.{Rules, kept, target_plan}
 use Rattle.world_base.specs.Further.{HearsFurther}
 use Rattle.world_base.specs.Stops.{Draws, Fails, Further, GivenUp, Happening, HearsMore, IsCut, Opens, Plainly}
 use Rattle.world_commit.specs.fates.Facts.{Attempts}
-use Rattle.world_causes.specs.firsts.Events as first
-use Rattle.world_causes.specs.hearing.HappeningReads as reading
 use Rattle.world_letters.specs.lines.Lines.{Lines}
-use Rattle.world_causes.specs.outcomes.Laws as outcome
 use Rattle.world_causes.specs.outcomes.Outcomes.{IsEndTrue, Outcomes}
 use Rattle.world_commit.specs.questions.Flying.{IsWithoutCollections}
 use Rattle.world_commit.specs.questions.Hearing.{is_of_collections, is_of_stops}
