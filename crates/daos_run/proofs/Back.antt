@@ -28,8 +28,7 @@ use Rattle.report_reader.specs.Law.{RiseFrom}
 use Rattle.report_round_trip.specs.Laws.{AnswersOfKindAreSpelled, IsSpelled, IsToldInOrder, IsToldWell, LegalReportsAreForScripts, LegalReportsAreReadBack}
 use Rattle.report_round_trip.specs.Rising.{conditions-rise, reads-rise}
 use Rattle.report_round_trip.specs.Values.{AllTellBytes, HasByteAnswers, HasBytes}
-use Rattle.run_laws.specs.shows.Asked.{AllTellInOrder, CameInOrder, TellsInOrder}
-use Rattle.run_laws.specs.shows.Going.{AreAlike, AreFindable}
+use Rattle.run_targets.specs.Below.{AllTellInOrder, AreAlike, AreFindable, CameInOrder, TellsInOrder}
 use Rattle.run_targets.specs.Ends.{IsKeyed, given_by}
 use Rattle.vos_store.specs.Calls.{State}
 use Rattle.world_contents.specs.gots.FormLaws.{ops-form}

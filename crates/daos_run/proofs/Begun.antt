@@ -21,14 +21,13 @@ use Rattle.daos_model.specs.Sound.{Sound}
 use Rattle.daos_run.specs.Opens.{AreFirst, IsNew}
 use Rattle.script_traits.specs.Plain.{IsPlain, are_plain, is_plain, is_plain_command}
 use Rattle.run_targets.specs.Ends.{AllTell, BeginsSo, HasStarted, HaveStarted, first_world, from-map, given_by, same-lists, stores_of}
-use Rattle.run_laws.specs.shows.Shows.{state_of}
-use Rattle.target_core.specs.Targets.{TargetOf}
+use Rattle.run_targets.specs.Below.{TargetOf, state_of}
 use Rattle.target_parts.specs.Knowing.{IsHeard}
 use Rattle.vos_store.specs.Calls.{State}
 use Rattle.world_base.specs.ClientTurns.{at_first, plan_of}
 use Rattle.world_base.specs.declared.client.ClientState.{ClientState}
 use Rattle.world_plain.specs.whole.Begins.{IsSimple, first_tracker}
-use Rattle.world_upheld.specs.upheld.Begins.{AreRulesInForm}
+use Rattle.run_starts.specs.Below.{AreRulesInForm}
 use Rattle.world_plain.specs.ends.Ends.{rules_of}
 use Rattle.world_letters.specs.epochs.Epochs.{is_unsnapped}
 use Rattle.world_base.specs.Events.{client_plan, commands_or_none}

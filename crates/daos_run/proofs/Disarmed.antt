@@ -8,15 +8,13 @@ use Rattle.base_types.specs.declared.id.ContId.{ContId}
 use Rattle.daos_run.specs.declared.stop.RunStop.{RunStop}
 use Rattle.daos_run.specs.declared.stop.RunStop.TheVariants as stop
 use Rattle.daos_run.specs.Stops.{MayStop}
-use Rattle.run_laws.specs.shows.Serving.{served-same}
+use Rattle.run_targets.specs.Below.{IsServed, length-set, served-same}
 use Rattle.run_starts.specs.Calls.{AreTooMany}
 use Rattle.run_targets.specs.Ends.{one-there, same-lists}
 use Rattle.daos_run.specs.Slots.{AreAsBefore, AreFree, AreSet, ClocksStay, EachStore, FromTo, FusesAreGone, HasNoFuse, IsAt, IsDisarmed, StoresAreServed, stores_in}
 use Rattle.daos_run.proofs.Places.{at-low, in-place, store-at, stores-many}
 use Rattle.run_opening.specs.All.{AreKept}
 use Rattle.daos_run.proofs.Slots.{same-pair}
-use Rattle.run_laws.specs.shows.Accounts.{IsServed}
-use Rattle.run_laws.specs.shows.ListLaws.{length-set}
 use Rattle.vos_store.specs.Calls.{State}
 use Rattle.world_base.specs.StepLaws.{set-here, set-there, set-twice}
 

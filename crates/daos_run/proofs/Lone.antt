@@ -29,7 +29,7 @@ use Rattle.daos_run.specs.Comes.{ComesFrom, FindsPlaces}
 use Rattle.run_opening.specs.All.{AreKept, MayBeFound}
 use Rattle.run_opening.specs.Opened.{lasting_snaps}
 use Rattle.run_targets.specs.Ends.{IsLegal, IsOutside, TellsOfLoneClient, given_by, some-may_be, some_lasts}
-use Rattle.run_laws.specs.shows.Going.{AreAlike, AreFindable}
+use Rattle.run_targets.specs.Below.{AreAlike, AreFindable}
 use Rattle.script_traits.specs.Plain.{IsPlain, is_plain_command}
 use Rattle.vos_store.specs.Calls.{State}
 

@@ -5,7 +5,7 @@ use Rattle.std.proofs.lemmas.Option.{slice_get_within}
 use Rattle.daos_model.specs.FormLaws.{length-map}
 use Rattle.daos_run.specs.Slots.{AreBack, AreSet, IsAt, stores_in}
 use Rattle.run_targets.specs.Ends.{from-map, same-lists, stores_of}
-use Rattle.target_core.specs.Targets.{TargetOf}
+use Rattle.run_targets.specs.Below.{TargetOf}
 
 -- each place has a store and a clock
 abbrev AllSet : {S C : Type 0} → List (Option (S × C)) → Type 0

@@ -6,8 +6,7 @@ use Rattle.std.proofs.lemmas.Option.{slice_get_within}
 use Rattle.model_laws.specs.Lists.{length-replicate}
 use Rattle.daos_run.specs.Slots.{AreBack, HaveStores, IsAt}
 use Rattle.run_targets.specs.Ends.{one-there}
-use Rattle.run_laws.specs.shows.ListLaws.{length-set}
-use Rattle.target_core.specs.Targets.{TargetOf}
+use Rattle.run_targets.specs.Below.{TargetOf, length-set}
 use Rattle.world_base.specs.StepLaws.{set-here, set-there}
 
 -- so many places without anything; there is room for these

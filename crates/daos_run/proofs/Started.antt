@@ -11,9 +11,7 @@ use Rattle.daos_run.specs.Starts.{AreStarted, StartsOver}
 use Rattle.daos_run.proofs.Places.{at-low}
 use Rattle.daos_run.proofs.Slots.{at-end, length-end, same-pair}
 use Rattle.daos_run.proofs.Taking.{none-taken, one-taken}
-use Rattle.run_laws.specs.shows.Accounts.{AreServed, IsServed}
-use Rattle.run_laws.specs.shows.ListLaws.{length-set}
-use Rattle.target_core.specs.Targets.{TargetOf}
+use Rattle.run_targets.specs.Below.{AreServed, IsServed, TargetOf, length-set}
 use Rattle.target_parts.specs.Readings.{IsReadOn}
 use Rattle.vos_store.specs.Calls.{State}
 use Rattle.world_base.specs.StepLaws.{set-here, set-there}

@@ -5,7 +5,7 @@ use Rattle.std.proofs.lemmas.Bool.{cases_eq}
 use Rattle.daos_run.specs.Slots.{AreApart, AreSetBack, AreTaken, IsAt}
 use Rattle.daos_run.proofs.Slots.{at-last, before-end, beyond, length-end, same-pair}
 use Rattle.run_targets.specs.Ends.{one-there}
-use Rattle.run_laws.specs.shows.ListLaws.{length-set}
+use Rattle.run_targets.specs.Below.{length-set}
 use Rattle.world_base.specs.StepLaws.{set-here, set-there}
 
 -- ---- places from which all is taken, one after another

@@ -30,17 +30,15 @@ use Rattle.model_laws.specs.Lists.{at-within}
 use Rattle.run_targets.specs.Ends.{AllTell, BeginsSo, BreaksOffSo, ComesTo, HaveStarted, IsOutside, IsSoundAgain, RunsPlainly, first_world, from-map, given_by, one-there, or_empty, same-lists, state_now, stores_of}
 use Rattle.run_opening.specs.All.{AreKept, FromTo as ListsFromTo, MayBeFound}
 use Rattle.run_opening.specs.Opened.{lasting_snaps}
-use Rattle.run_laws.specs.shows.Going.{AreAlike}
-use Rattle.run_laws.specs.shows.Serving.{served-by-runs, served-on}
+use Rattle.run_targets.specs.Below.{AreAlike, TargetOf, served-by-runs, served-on}
 use Rattle.run_starts.specs.Runs.{IsNew as IsNewTarget, IsNewWorld, opened-runs-begin}
 use Rattle.run_starts.specs.Starts.{AreOpened, BeginsAs, CanOpen, begun_family}
-use Rattle.target_core.specs.Targets.{TargetOf}
 use Rattle.vos_store.specs.Calls.{State}
 use Rattle.world_base.specs.declared.world.World.{World}
 use Rattle.world_base.specs.Events.{Rules}
 use Rattle.world_plain.specs.ends.Ends.{durable_of, durables_of, rules_of}
 use Rattle.world_plain.specs.whole.Begins.{IsSimple}
-use Rattle.world_upheld.specs.upheld.Begins.{AreRulesInForm}
+use Rattle.run_starts.specs.Below.{AreRulesInForm}
 
 -- ---- what stores keep that tell it
 

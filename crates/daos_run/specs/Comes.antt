@@ -12,7 +12,7 @@ use Rattle.run_targets.specs.Ends.{ComesTo, FollowsOrder, IsOutside, RunsPlainly
 use Rattle.run_opening.specs.All.{AreKept, FromTo, MayBeFound}
 use Rattle.run_opening.specs.Left.{IsLeftOf}
 use Rattle.run_opening.specs.Opened.{lasting_snaps}
-use Rattle.run_laws.specs.shows.Accounts.{IsServed}
+use Rattle.run_targets.specs.Below.{IsServed}
 use Rattle.run_starts.specs.Starts.{CanOpen, begun_family}
 use Rattle.script_traits.specs.Plain.{IsPlain}
 use Rattle.vos_store.specs.Calls.{State}

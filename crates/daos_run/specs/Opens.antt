@@ -13,7 +13,7 @@ use Rattle.daos_model.specs.Opening.{Given}
 use Rattle.dtx_base.specs.Joining.{first_member}
 use Rattle.dtx_base.specs.Leading.{first_memory}
 use Rattle.run_targets.specs.Ends.{given_by}
-use Rattle.target_core.specs.Targets.{TargetOf}
+use Rattle.run_targets.specs.Below.{TargetOf}
 use Rattle.target_parts.specs.Knowing.{IsHeard}
 use Rattle.vos_store.specs.Calls.{State}
 use Rattle.world_base.specs.ClientTurns.{at_first, plan_of}

@@ -1,9 +1,8 @@
 -- The stores and the clocks that a run is given and hands back.
 use Rattle.std.specs.Prelude.{ℕ, ◌≡◌, ◌≤◌, ◌<◌, true, false, List, [], ◌∷◌, length, slice_get, slice_set, Option, Some, None}
 use Rattle.daos_model.specs.declared.durable.Durable.{Durable}
-use Rattle.target_core.specs.Targets.{TargetOf}
+use Rattle.run_targets.specs.Below.{IsServed, TargetOf}
 use Rattle.target_parts.specs.Readings.{IsReadOn}
-use Rattle.run_laws.specs.shows.Accounts.{IsServed}
 use Rattle.vos_store.specs.Calls.{SetsFuse, State}
 
 -- the target of a number has a store and a clock

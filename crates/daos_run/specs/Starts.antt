@@ -5,7 +5,7 @@ use Rattle.daos_model.specs.declared.durable.Durable.{Durable}
 use Rattle.daos_model.specs.Durables.{empty_durable}
 use Rattle.daos_run.specs.Opens.{IsNew}
 use Rattle.daos_run.specs.Slots.{IsAt}
-use Rattle.target_core.specs.Targets.{TargetOf}
+use Rattle.run_targets.specs.Below.{TargetOf}
 use Rattle.vos_plain.specs.Plain.{new_state, plain_durable, plain_state}
 use Rattle.vos_plain.specs.declared.store.PlainStore.{PlainStore}
 

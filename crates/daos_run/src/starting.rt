@@ -9,8 +9,8 @@ use crate::stop::RunStop;
 use base_outside::clock::Clock;
 use base_types::epoch::TargetId;
 use base_types::job::Job;
+use run_targets::run::{Target, TargetNew};
 use std::alloc::Global;
-use target_core::target::{Target, TargetNew};
 use vos_store::store::{Fuse, Store};
 
 // A store's fuse is taken away; the store and the clock are in their place again.

@@ -1,6 +1,4 @@
 -- How a run of clients and targets begins, and what it comes to.
-pub mod Turns
-pub mod Reports
 pub mod Starts
 pub mod Standing
 pub mod Arming

@@ -9,13 +9,7 @@ use Rattle.base_random.specs.Draws.{drawn}
 use Rattle.daos_model.specs.declared.durable.Durable.{Durable}
 use Rattle.run_base.specs.Orders.{after_pick, pick}
 use Rattle.run_base.specs.Picks.{is_due, numbered}
-use Rattle.run_laws.specs.steps.Going.{GoesOn, IsRun, draws-are-run, goes-as, goes-then, rounds-are-run, turns-are-run}
-use Rattle.run_laws.specs.shows.Due.{AllAreDue, first_targets, is_due_client}
-use Rattle.run_laws.specs.shows.Shown.{client-due-shown, due-shown, many-clients}
-use Rattle.run_laws.specs.shows.Shows.{Shows}
-use Rattle.run_laws.specs.shows.Stages.{StageNow}
-use Rattle.run_laws.specs.turns.Orders.{AndThen, Draws, HasIt, HasNone, InDraws, InOrder, InRounds, InTurn, OneDraw, OneRound, RoundOf, Rounds}
-use Rattle.run_laws.specs.turns.Turns.{TurnOf, heard_in}
+use Rattle.run_stage.specs.Below.{AllAreDue, AndThen, Draws, GoesOn, HasIt, HasNone, InDraws, InOrder, InRounds, InTurn, IsRun, OneDraw, OneRound, RoundOf, Rounds, Shows, StageNow, TurnOf, client-due-shown, draws-are-run, due-shown, first_targets, goes-as, goes-then, heard_in, is_due_client, many-clients, rounds-are-run, turns-are-run}
 use Rattle.vos_store.specs.Calls.{State}
 use Rattle.world_base.specs.declared.world.World.{World}
 use Rattle.world_base.specs.Events.{Rules}

@@ -1,2 +1,3 @@
 -- The actors of a run as their contracts see them.
 pub mod Now
+pub mod Below

@@ -10,7 +10,7 @@ use client_core::client::Client;
 use run_base::between::Between;
 use run_watch::watch::Watch;
 use std::alloc::Global;
-use target_core::target::Target;
+pub use target_core::target::{Target, TargetNew};
 use vos_store::store::Store;
 use world_base::did::Did;
 

@@ -5,3 +5,4 @@ pub mod Starts
 pub mod LastLaws
 pub mod Begins
 pub mod Runs
+pub mod Below

@@ -10,7 +10,7 @@ use Rattle.base_types.specs.declared.report.Line.TheVariants as line
 use Rattle.daos_model.specs.Attempts.{tries}
 use Rattle.daos_model.specs.Stops.{down_targets, least, least_with}
 use Rattle.model_laws.specs.Lists.{place-of}
-use Rattle.run_laws.specs.ends.Reports.{AreTyped, HasTypedNumbers}
+use Rattle.run_loop.specs.Below.{AreTyped, HasTypedNumbers}
 use Rattle.report_round_trip.specs.Values.{AllTellBytes, HasByteAnswers, TellsBytes}
 use Rattle.run_targets.proofs.Taken.{all-more, all-taken}
 

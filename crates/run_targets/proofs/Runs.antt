@@ -13,34 +13,13 @@ use Rattle.client_core.specs.Clients.{ClientNow}
 use Rattle.daos_model.specs.Opening.{Given, Opening}
 use Rattle.daos_model.specs.declared.durable.Durable.{Durable}
 use Rattle.run_base.specs.Letters.{BetweenNow}
-use Rattle.run_laws.specs.ends.Armed.{armed-accounted, armed-first, before-fuse, fuses-serve, fuses-started, fuses-tell, states_of, told-fuse}
-use Rattle.run_laws.specs.ends.Arming.{AreArmed, AreUnfused}
-use Rattle.run_laws.specs.ends.Begun.{IsFirstWatch, can-go, first-drawn, first_stage, nothing, run-begins, shows-first}
-use Rattle.run_laws.specs.ends.Comes.{BreaksOffSo, ComesTo, report_with}
-use Rattle.run_laws.specs.ends.Keeping.{all-tell, breaks-off}
-use Rattle.run_laws.specs.ends.Ending.{comes-to}
-use Rattle.run_laws.specs.ends.Starts.{AllTell, HaveStarted, first_world, given_by, stores_of}
-use Rattle.run_laws.specs.ends.Reports.{AreTyped}
-use Rattle.run_laws.specs.shows.Ends.{EndsGoOn}
-use Rattle.run_laws.specs.shows.EndsLaws.{ends-first}
-use Rattle.run_laws.specs.shows.Kinds.{AnswersGoOn}
-use Rattle.run_laws.specs.shows.KindsLaws.{answers-first}
+use Rattle.run_loop.specs.Below.{AllCanReopen, AllTell, AnswersGoOn, AreAccounted, AreAlike, AreArmed, AreDrawn, AreFindable, AreServed, AreSteady, AreTyped, AreUnfused, Breaks, BreaksOffSo, CanGo, ComesTo, EndsGoOn, HasRunWith, HaveStarted, IsFirstWatch, RunBegins, Shows, StageNow, TargetOf, all-tell, answers-first, armed-accounted, armed-first, before-fuse, breaks-off, broke-between, can-go, comes-to, ends-first, first-drawn, first_stage, first_world, fuses-serve, fuses-started, fuses-tell, given_by, left_of, nothing, report_with, run-begins, served-then, shows-first, states_of, stores_of, told-fuse}
 use Rattle.run_targets.proofs.Telling.{first, told-first}
-use Rattle.run_laws.specs.shows.Accounts.{AreAccounted, AreServed}
-use Rattle.run_laws.specs.shows.CanGo.{CanGo}
-use Rattle.run_laws.specs.shows.Going.{AreAlike, AreFindable, AreSteady}
-use Rattle.run_laws.specs.shows.Serving.{served-then}
-use Rattle.run_laws.specs.shows.Shows.{Shows}
-use Rattle.run_laws.specs.shows.Stages.{StageNow}
-use Rattle.run_laws.specs.ends.Turns.{AllCanReopen, Breaks, HasRunWith, broke-between, left_of}
 use Rattle.run_watch.specs.Watches.{WatchNow, first_watch}
-use Rattle.target_core.specs.Targets.{TargetOf}
 use Rattle.vos_store.specs.Calls.{State}
 use Rattle.world_base.specs.declared.world.World.{World}
 use Rattle.world_base.specs.Events.{Rules}
 use Rattle.world_plain.specs.ends.Ends.{rules_of}
-use Rattle.run_laws.specs.shows.Beginning.{RunBegins}
-use Rattle.run_laws.specs.turns.Drawn.{AreDrawn}
 
 nothing-is : (b : BetweenNow) → b.messages ≡ [] → b.asked ≡ [] → b.issued ≡ [] → b.lines ≡ [] → b ≡ nothing
 nothing-is b messages asked issued lines =

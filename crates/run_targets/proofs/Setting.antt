@@ -4,12 +4,8 @@ use Rattle.std.proofs.Common.{add-one, inl, inr, sym, ◌∙◌, ap, subst, arit
 use Rattle.std.proofs.lemmas.Bool.{cases_eq}
 use Rattle.std.proofs.lemmas.Option.{slice_get_within}
 use Rattle.daos_model.specs.declared.durable.Durable.{Durable}
-use Rattle.run_laws.specs.ends.Arming.{AreArmed, AreUnfused, HaveFuses, lines_left}
-use Rattle.run_laws.specs.ends.FuseLaws.{next-left}
-use Rattle.run_laws.specs.shows.ListLaws.{length-set}
-use Rattle.run_laws.specs.shows.Openings.{HasFuse}
+use Rattle.run_loop.specs.Below.{AreArmed, AreUnfused, HasFuse, HaveFuses, TargetOf, length-set, lines_left, next-left}
 use Rattle.run_watch.specs.Watches.{WatchNow, fuse_set, next_fuse}
-use Rattle.target_core.specs.Targets.{TargetOf}
 use Rattle.vos_store.specs.Calls.{State}
 use Rattle.world_base.specs.StepLaws.{set-is, set-there}
 

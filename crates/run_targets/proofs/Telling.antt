@@ -9,17 +9,8 @@ use Rattle.client_core.specs.Clients.{ClientNow}
 use Rattle.daos_model.specs.FormLaws.{length-map}
 use Rattle.daos_model.specs.Opening.{Given}
 use Rattle.daos_model.specs.declared.durable.Durable.{Durable}
-use Rattle.run_laws.specs.ends.Comes.{report_with}
-use Rattle.run_laws.specs.ends.Places.{from-map}
-use Rattle.run_laws.specs.ends.Starts.{AreFirst, HaveStarted}
+use Rattle.run_loop.specs.Below.{AllBeginInTurn, AllTellInOrder, AreFirst, HaveStarted, StageNow, TargetOf, TellInTurn, from-map, map-get, report_with, state_of, tells-first}
 use Rattle.report_round_trip.specs.Values.{AllTellBytes}
-use Rattle.run_laws.specs.shows.Asked.{AllTellInOrder}
-use Rattle.run_laws.specs.shows.InTurn.{AllBeginInTurn, TellInTurn}
-use Rattle.run_laws.specs.shows.InTurnLaws.{tells-first}
-use Rattle.run_laws.specs.shows.ListLaws.{map-get}
-use Rattle.run_laws.specs.shows.Shows.{state_of}
-use Rattle.run_laws.specs.shows.Stages.{StageNow}
-use Rattle.target_core.specs.Targets.{TargetOf}
 use Rattle.vos_store.specs.Calls.{State}
 use Rattle.world_plain.specs.ends.Ends.{rules_of}
 use Rattle.world_ended.specs.Clients.{AllEndWell}

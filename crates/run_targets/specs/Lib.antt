@@ -1,2 +1,3 @@
 -- What a run begins with and comes to, passed on.
 pub mod Ends
+pub mod Below

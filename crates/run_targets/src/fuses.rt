@@ -1,12 +1,12 @@
 // The fuses of targets, before a run and after it.
 ghost use Rattle.std.specs.Prelude.{◌≡◌, ◌≤◌, ℕ, length, slice_get, Some, true, false};
 ghost use Rattle.base_types.specs.declared.script.StopDecl.{StopDecl};
-ghost use Rattle.run_laws.specs.ends.Arming.{AreArmed, AreUnfused};
+ghost use Rattle.run_loop.specs.Below.{AreArmed, AreUnfused};
 ghost use Rattle.run_watch.specs.Watches.{WatchNow};
 
 use base_outside::clock::Clock;
+use run_loop::order::Target;
 use run_watch::watch::Watch;
-use target_core::target::Target;
 use vos_store::store::Fuse;
 
 // The fuse of each target's first stop line is set; none where it has none.

@@ -1,8 +1,7 @@
 // The report of a run's lines.
 ghost use Rattle.std.specs.Prelude.{◌≡◌, Some};
 ghost use Rattle.daos_model.specs.Stops.{down_targets, least, least_with};
-ghost use Rattle.run_laws.specs.ends.Comes.{report_with};
-ghost use Rattle.run_laws.specs.ends.Reports.{AreTyped, HasTypedNumbers};
+ghost use Rattle.run_loop.specs.Below.{AreTyped, HasTypedNumbers, report_with};
 ghost use Rattle.report_round_trip.specs.Values.{AllTellBytes};
 
 use crate::values::tells_bytes;

@@ -1,15 +1,10 @@
 // Clients and targets run a script.
 ghost use Rattle.std.specs.Prelude.{◌≡◌, ◌≤◌, ◌<◌, ℕ, IfErr, IfOk, length, slice_get, Some, true, false};
 ghost use Rattle.daos_model.specs.Opening.{Opening};
-ghost use Rattle.run_laws.specs.ends.Comes.{BreaksOffSo, ComesTo, IsReportOfLines};
-ghost use Rattle.run_laws.specs.ends.Starts.{AllTell, HaveStarted, given_by, stores_of};
-ghost use Rattle.run_laws.specs.shows.Accounts.{AreServed};
-ghost use Rattle.run_laws.specs.shows.Asked.{AllTellInOrder};
-ghost use Rattle.run_laws.specs.shows.InTurn.{AllBeginInTurn};
+ghost use Rattle.run_loop.specs.Below.{AllBeginInTurn, AllTell, AllTellInOrder, AreServed, BreaksOffSo, ComesTo, HaveStarted, IsReportOfLines, TargetOf, given_by, stores_of};
 ghost use Rattle.report_round_trip.specs.Values.{AllTellBytes};
 ghost use Rattle.world_ended.specs.Clients.{AllEndWell};
 ghost use Rattle.world_letters.specs.kinds.Fitting.{AllAnswersFit};
-ghost use Rattle.target_core.specs.Targets.{TargetOf};
 
 use crate::fuses::{arm, disarm};
 use crate::report::report_of;
@@ -21,12 +16,11 @@ use base_types::report::Report;
 use base_types::script::Script;
 use client_core::client::Client;
 use run_base::between::Between;
-use run_loop::order::run_in_order;
-use run_stage::stage::Stage;
+pub use run_loop::order::{Target, TargetNew};
+use run_loop::order::{Stage, run_in_order};
 use run_watch::watch::Watch;
 use std::alloc::Global;
 use std::sync::Wait;
-use target_core::target::Target;
 use vos_store::store::Fuse;
 
 /// Clients and targets that have just started run a script in the job's order, until none has anything to

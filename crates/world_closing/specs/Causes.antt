@@ -41,15 +41,13 @@ use Rattle.world_causes.specs.causes.LastCauses.{blocks-within, count-within, id
 use Rattle.world_causes.specs.causes.Shown as stand
 use Rattle.world_causes.specs.causes.Shown.{Causes, IsFirstEpoch, IsOpenTo, MeetsFloor, MeetsLaterWrite, MeetsUnresolved, OutcomeStands, SpendsAll, WasLost, limit_over}
 use Rattle.world_causes.specs.causes.Storing.{AreApart, dated_ids}
-use Rattle.world_plain.specs.ends.Ends.{rules_of}
+use Rattle.world_upheld.specs.below.Plain.{rules_of}
 use Rattle.world_upheld.specs.causing.Dates.{AreDates, counted_as, counts-issued, issued-own, with_dates}
 use Rattle.world_letters.specs.clients.Snapshots.{at-same, is_at_snapshot}
 use Rattle.world_making.specs.dates.Moves.{command-same}
 use Rattle.world_letters.specs.epochs.Epochs.{Epochs, HasLine, IsEpochOf, IsOwn, IsSeen}
 use Rattle.world_letters.specs.lives.Adding.{restarts-append}
-use Rattle.world_legal.specs.closing.Closing.{report_over}
-use Rattle.world_legal.specs.closing.First.{BeginsWith, among-tries, first-found}
-use Rattle.world_legal.specs.closing.Took.{one-line}
+use Rattle.world_upheld.specs.below.Legal.{BeginsWith, among-tries, first-found, one-line, report_over}
 
 -- ---- what this stands on
 

@@ -8,3 +8,4 @@ pub mod legal
 pub mod safety
 pub mod stands
 pub mod Whole
+pub mod Below

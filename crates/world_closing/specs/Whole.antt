@@ -12,13 +12,11 @@ use Rattle.world_base.specs.Ended.{HasEnded}
 use Rattle.world_base.specs.Events.{Rules}
 use Rattle.world_base.specs.Stops.{WorldRun}
 use Rattle.world_commit.specs.attempts.History.{History}
-use Rattle.world_legal.specs.closing.Closing.{Concluded, IsOver, report_over}
-use Rattle.world_legal.specs.reasons.Accounted.{stored_over}
+use Rattle.world_upheld.specs.below.Legal.{Concluded, IsOver, report_over, stored_over}
 use Rattle.world_letters.specs.lives.Counting.{AreCountedSo}
 use Rattle.world_letters.specs.lives.Legal.{AreCaused}
 use Rattle.world_making.specs.making.Snapshots.{holds_created}
-use Rattle.world_plain.specs.ends.Ends.{durables_of, rules_of}
-use Rattle.world_plain.specs.whole.Begins.{held_at}
+use Rattle.world_upheld.specs.below.Plain.{durables_of, held_at, rules_of}
 use Rattle.world_upheld.specs.explained.Explanations.{HoldNoMoreSnapshots}
 use Rattle.world_upheld.specs.explained.Runs.{runs-are_explained}
 use Rattle.world_upheld.specs.upheld.Begins.{AreRulesInForm, RunBeginsWith}

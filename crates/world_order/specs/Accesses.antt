@@ -19,9 +19,7 @@ use Rattle.daos_model.specs.Transactions.{read_at, read_of, read_of_op}
 use Rattle.model_laws.specs.EntryLaws.{found-has}
 use Rattle.model_laws.specs.Members.{Has, contains-from_has, has-cases, has-from_contains, has-from_map, has-left, has-right}
 use Rattle.world_base.specs.declared.target.TargetState.{TargetState}
-use Rattle.world_standing.specs.external.Behind.{BeganAfter}
-use Rattle.world_standing.specs.external.Kept.{AreInOrder}
-use Rattle.world_standing.specs.external.Order.{IsAnsweredBefore}
+use Rattle.world_upheld.specs.below.Standing.{AreInOrder, BeganAfter, IsAnsweredBefore}
 
 -- ---- accesses
 

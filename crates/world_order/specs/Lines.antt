@@ -37,12 +37,8 @@ use Rattle.world_contents.specs.gots.Right.{IsAskable}
 use Rattle.world_contents.specs.reads.Given.{FitsTargets, Given}
 use Rattle.world_contents.specs.reads.MemberLaws.{writes-member}
 use Rattle.world_contents.specs.reads.Versions.{IsWriteAt}
-use Rattle.world_plain.specs.whole.Everything.{AreBefore}
-use Rattle.world_standing.specs.external.Behind.{BeganAfter, IsBehind, IsFar, IsFarOfFirst, IsLater, WasAnswered, WritesAt}
-use Rattle.world_standing.specs.external.Cells.{IsAskedAs, MeetsAt, asked-own, group-is_asked, meets, members-under, some-own}
-use Rattle.world_standing.specs.external.Kept.{IsStoredBehind, ReadsAt}
-use Rattle.world_standing.specs.external.Order.{AreExternallyConsistent, Conflict, HasSmallerEpoch, IsAnsweredBefore, IsCommitted, KeepsTheBound, WritesWhere}
-use Rattle.world_standing.specs.external.Told.{IsServedAt, line-served, none-has}
+use Rattle.world_upheld.specs.below.Plain.{AreBefore}
+use Rattle.world_upheld.specs.below.Standing.{AreExternallyConsistent, BeganAfter, Conflict, HasSmallerEpoch, IsAnsweredBefore, IsAskedAs, IsBehind, IsCommitted, IsFar, IsFarOfFirst, IsLater, IsServedAt, IsStoredBehind, KeepsTheBound, MeetsAt, ReadsAt, WasAnswered, WritesAt, WritesWhere, asked-own, group-is_asked, line-served, meets, members-under, none-has, some-own}
 use Rattle.daos_model.specs.BoolLaws.{not_true}
 use Rattle.world_letters.specs.clients.Snapshots.{at-same, is_at_snapshot}
 use Rattle.world_making.specs.dates.Owning.{own-issued}

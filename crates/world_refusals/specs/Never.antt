@@ -14,11 +14,10 @@ use Rattle.world_base.specs.Events.{ByClient, ByTarget, Event, Rules, ToClient, 
 use Rattle.world_base.specs.Stops.{Begins, Draws, Fails, Further, GivenUp, Goes, Happening, IsCut, Opens, Plainly, WorldRun, restart_line}
 use Rattle.world_causes.specs.causes.Causes.{Stored}
 use Rattle.world_commit.specs.attempts.History.{History}
-use Rattle.world_legal.specs.closing.Kept.{runs-as_many}
-use Rattle.world_legal.specs.reasons.Accounted.{stored_over}
+use Rattle.world_upheld.specs.below.Legal.{runs-as_many, stored_over}
 use Rattle.world_letters.specs.lives.Events.{as-added}
 use Rattle.world_letters.specs.lives.TurnLines.{further-lines, idle-lines, plain-lines}
-use Rattle.world_plain.specs.unstopped.Growing.{TellsOfNoStop, none-stops, none-told_before}
+use Rattle.world_upheld.specs.below.Plain.{TellsOfNoStop, none-stops, none-told_before}
 use Rattle.world_refusals.specs.Alone.{hears-none}
 use Rattle.world_refusals.specs.Hearing.{NoneRestarts, TellsNone, goes-quiet, hears-quiet}
 use Rattle.world_refusals.specs.Runs.{all-runs-tell_fitly}

@@ -6,3 +6,4 @@ pub mod order
 pub mod reasons
 pub mod hearing
 pub mod explained
+pub mod below

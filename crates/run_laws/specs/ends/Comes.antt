@@ -25,7 +25,7 @@ use Rattle.world_commit.specs.attempts.Attempts.{IsOther}
 use Rattle.world_base.specs.declared.target.TargetState.{TargetState}
 use Rattle.world_base.specs.declared.world.World.{World}
 use Rattle.world_plain.specs.ends.Ends.{durables_of, rules_of}
-use Rattle.world_standing.specs.external.Order.{AreExternallyConsistent, KeepsTheBound}
+use Rattle.world_closing.specs.Below.{AreExternallyConsistent, KeepsTheBound}
 use Rattle.world_plain.specs.facts.Facts.{IsMember}
 pub use Rattle.run_laws.specs.ends.Standing.{StandsForAttempts}
 pub use Rattle.run_laws.specs.reports.Reports.{AreIssuedSince, IsKeyed}

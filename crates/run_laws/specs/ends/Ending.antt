@@ -44,7 +44,7 @@ use Rattle.run_watch.specs.Watches.{WatchNow, first_watch}
 use Rattle.target_core.specs.Targets.{TargetOf}
 use Rattle.vos_store.specs.Calls.{State}
 use Rattle.world_commit.specs.attempts.Attempts.{IsHeld, entry_in}
-use Rattle.world_legal.specs.doubts.Recounting.{found-entry}
+use Rattle.world_closing.specs.Below.{AreExternallyConsistent, KeepsTheBound, found-entry}
 use Rattle.world_base.specs.declared.target.Life.TheVariants.{Down, Running}
 use Rattle.world_base.specs.declared.target.TargetState.{TargetState}
 use Rattle.world_base.specs.declared.world.World.{World}
@@ -52,7 +52,6 @@ use Rattle.world_base.specs.Events.{Rules, target_plan}
 use Rattle.world_causes.specs.causes.Causes.{is_try}
 use Rattle.run_laws.specs.reports.Closings.{report_over}
 use Rattle.world_plain.specs.ends.Ends.{durable_of, durables_of, rules_of}
-use Rattle.world_standing.specs.external.Order.{AreExternallyConsistent, KeepsTheBound}
 use Rattle.world_order.specs.Runs.{all-runs-are_consistent}
 use Rattle.world_plain.specs.facts.Facts.{IsMember}
 use Rattle.world_letters.specs.lives.Legal.{AreCaused}

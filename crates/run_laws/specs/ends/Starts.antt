@@ -21,7 +21,7 @@ use Rattle.world_closing.specs.stands.Stands.{HoldsOpenings}
 use Rattle.world_base.specs.Events.{client_plan, target_plan}
 use Rattle.world_plain.specs.ends.Ends.{rules_of}
 use Rattle.world_plain.specs.whole.Begins.{first_tracker, no_leading}
-use Rattle.world_upheld.specs.upheld.Begins.{AreRulesInForm}
+use Rattle.world_closing.specs.Below.{AreRulesInForm}
 
 -- a run of a script, over what was opened
 abbrev pub given_by : Script → Job → Opening → Given

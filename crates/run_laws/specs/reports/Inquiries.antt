@@ -58,7 +58,7 @@ use Rattle.world_making.specs.losses.Events.{of-attempts}
 use Rattle.world_making.specs.making.Making.{IsOfMaking, MakingLeaves, tells_of_snapshots}
 use Rattle.world_making.specs.making.Turns.{hearings-leave}
 use Rattle.world_making.specs.questions.Sends.{query-unsent}
-use Rattle.world_standing.specs.standing.Events.{no-collections}
+use Rattle.world_closing.specs.Below.{no-collections}
 
 -- ---- what comes
 

@@ -12,14 +12,10 @@ use Rattle.world_base.specs.Events.{Rules}
 use Rattle.world_base.specs.Stops.{WorldRun}
 use Rattle.world_closing.specs.forming.Epochs.{first, sees}
 use Rattle.world_commit.specs.attempts.History.{History}
-use Rattle.world_legal.specs.closing.Closing.{report_over}
+use Rattle.world_closing.specs.Below.{AreRulesInForm, Grounds, RunBeginsWith, begins-well, report_over, runs-have_grounds}
 use Rattle.world_letters.specs.epochs.Epochs.{IsEpochOf, IsIssued, IsOwn, IsSeen}
 use Rattle.world_making.specs.freezings.Freezings.{IsOfSnap}
 use Rattle.world_plain.specs.ends.Ends.{rules_of}
-use Rattle.world_upheld.specs.upheld.Begins.{AreRulesInForm, RunBeginsWith}
-use Rattle.world_upheld.specs.upheld.Runs.{runs-have_grounds}
-use Rattle.world_upheld.specs.upheld.BeginVersions.{begins-well}
-use Rattle.world_upheld.specs.upheld.Upheld.{Grounds}
 use Rattle.run_laws.specs.reports.Legal.{events}
 use Rattle.run_laws.specs.reports.Reports.{AreIssuedSince, OrdersIssueThere}
 

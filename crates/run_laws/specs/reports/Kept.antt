@@ -1,5 +1,5 @@
 -- What is left where a run has ended in which targets may stop.
-use Rattle.world_upheld.specs.upheld.BeginVersions.{begins-well}
+use Rattle.world_closing.specs.Below.{AccountedFor, AreAll, AreRulesInForm, IsOver, RunBeginsWith, begins-well, leader-there, other-there, runs-are_accounted, stored_over, told-down}
 use Rattle.std.specs.Prelude.{ℕ, ◌≡◌, ◌<◌, ◌==◌, ◌&&◌, Bool, true, false, not, filter, is_none, List, [], ◌∷◌, Contains, length, slice_get, Option, Some, None, refl}
 use Rattle.std.specs.List.{list_any}
 use Rattle.std.proofs.Common.{inl, inr, sym, ◌∙◌, ap, subst, arith}
@@ -45,22 +45,14 @@ use Rattle.world_base.specs.Events.{Rules}
 use Rattle.world_base.specs.Letters.{target}
 use Rattle.world_base.specs.Stops.{WorldRun}
 use Rattle.world_causes.specs.causes.Causes.{Stored}
-use Rattle.world_legal.specs.closing.Closing.{IsOver}
-use Rattle.world_legal.specs.closing.Holding.{leader-there, other-there}
-use Rattle.world_legal.specs.closing.Waited.{told-down}
 use Rattle.world_plain.specs.facts.Facts.{IsMember}
 use Rattle.world_commit.specs.fates.Facts.{IsSaidSo, down_in}
 use Rattle.world_letters.specs.lives.Lives.{standing_of}
 use Rattle.world_commit.specs.questions.Facts.{IsAsked, IsNamed, IsOnNaming, IsOnQuery, IsTold, IsToldOrStopped, LeaderStopped}
 use Rattle.world_commit.specs.questions.Facts as fact
-use Rattle.world_legal.specs.reasons.Accounted.{stored_over}
 use Rattle.world_plain.specs.whole.Begins.{held_at}
-use Rattle.world_legal.specs.closing.Kept.{AreAll}
 use Rattle.world_closing.specs.asked.Runs.{ended-all_over, runs-have_all, still-all_over}
 use Rattle.world_plain.specs.ends.Ends.{rules_of}
-use Rattle.world_upheld.specs.reasons.Accounted.{AccountedFor}
-use Rattle.world_upheld.specs.reasons.Runs.{runs-are_accounted}
-use Rattle.world_upheld.specs.upheld.Begins.{AreRulesInForm, RunBeginsWith}
 use Rattle.run_laws.specs.reports.Legal as legal
 use Rattle.run_laws.specs.reports.Middle.{HasMiddle, middle-settled, middle-still, orders-have-middle}
 use Rattle.run_laws.specs.reports.Reports.{GoesInOrder, IsSettledOrLeft, LacksMember, LeavesInTheEnd, OrdersLeaveInTheEnd}

@@ -1,6 +1,6 @@
 -- Where a run in an order begins to settle: nobody has a message to hear or a command to go on with, and idle work has asked nothing yet.
 use Rattle.world_commit.specs.statuses.Events.{told_by}
-use Rattle.world_upheld.specs.upheld.BeginVersions.{begins-well}
+use Rattle.world_closing.specs.Below.{AreRulesInForm, IsStill, RunBeginsWith, attempts-happened, begins-well, grows-with, later-with, runs-are_accounted}
 use Rattle.std.specs.Prelude.{ℕ, zero, suc, ◌≡◌, ◌⊎◌, ◌<◌, ◌||◌, ◌&&◌, ◌==◌, Bool, true, false, not, nat_lt, List, [], ◌∷◌, filter, length, slice_get, Some, None, refl}
 use Rattle.std.proofs.Common.{inl, inr, sym, ◌∙◌, ap, subst, arith}
 use Rattle.std.proofs.lemmas.Bool.{cases_eq}
@@ -33,11 +33,7 @@ use Rattle.world_base.specs.Idle.{has_idle}
 use Rattle.world_base.specs.Letters.{client, target}
 use Rattle.world_base.specs.Roles.{leader_at, member_at}
 use Rattle.world_base.specs.Stops.{Begins, Draws as NumbersAreDrawn, Fails, Further, GivenUp, Goes, Happening, IsCut, Opens, Plainly, WorldEvent, WorldRun}
-use Rattle.world_legal.specs.closing.Closing.{IsStill}
 use Rattle.world_plain.specs.whole.Begins.{held_at}
-use Rattle.world_upheld.specs.reasons.Runs.{runs-are_accounted}
-use Rattle.world_upheld.specs.upheld.Begins.{AreRulesInForm, RunBeginsWith}
-use Rattle.world_upheld.specs.upheld.Events as stands
 use Rattle.run_laws.specs.reports.Inquiries.{AnswersOne, AsksNow, InquiriesCome, InquiryComes, IsAnswered, IsAsked, IsSettling, LetterComes, Stays, WasFlying, inquiries-come, swept-come}
 
 -- ---- idle work has asked nothing
@@ -108,7 +104,7 @@ module _ (r : Rules) (o : Opening) (w : World) (A : AreRulesInForm r) (B : RunBe
   event-asks : (u v : World) (e : WorldEvent r u v) → (IsSettling e.happens → ⊥) → AsksNone u → AsksNone v
   event-asks u v e off k =
       let a = runs-are_accounted r o w u A (begins-well r o w B) k.run in
-      let after = stands.attempts-happened r o a.0 (stands.later-with a.0 (told_by e.happens)) u v A.some_attempt a.1.grounds e (stands.grows-with a.0 (told_by e.happens)) in
+      let after = attempts-happened r o a.0 (later-with a.0 (told_by e.happens)) u v A.some_attempt a.1.grounds e (grows-with a.0 (told_by e.happens)) in
       let happened = come-none (IsSettling e.happens) r u e.u off (inquiries-come r u e.u a.0 _ a.1.grounds.heard.attempts after e.happens) k.none in
       record { run = Goes u v k.run e; none = subst NoneInquires (sym e.after) (come-none ⊥ r e.u _ (λ no. no) (swept-come r _ e.u after) happened) }
 

@@ -30,7 +30,7 @@ use Rattle.world_base.specs.declared.target.Life.TheVariants.{Running}
 use Rattle.world_base.specs.declared.target.TargetState.{TargetState}
 use Rattle.world_base.specs.declared.world.World.{World}
 use Rattle.world_base.specs.Events.{Rules}
-use Rattle.world_legal.specs.closing.Closing.{report_over}
+use Rattle.world_closing.specs.Below.{report_over}
 use Rattle.world_plain.specs.ends.Ends.{TellsPlain, durables_of, rules_of}
 use Rattle.world_plain.specs.facts.Facts.{IsMember}
 use Rattle.world_plain.specs.facts.Settled.{IsCommittedAtAll}

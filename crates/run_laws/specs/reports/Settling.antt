@@ -56,11 +56,7 @@ use Rattle.world_commit.specs.statuses.Events.{told_by}
 use Rattle.world_commit.specs.statuses.Fates.{told_by_it}
 use Rattle.world_commit.specs.stops.Happenings.{rightly, told_in}
 use Rattle.world_plain.specs.unstopped.Growing.{lines-grow}
-use Rattle.world_upheld.specs.reasons.Accounted.{AccountedFor}
-use Rattle.world_upheld.specs.reasons.Events.{all-events-keep_accounts}
-use Rattle.world_upheld.specs.upheld.Begins.{AreRulesInForm}
-use Rattle.world_upheld.specs.upheld.Events as stands
-use Rattle.world_upheld.specs.upheld.Upheld.{Grounds}
+use Rattle.world_closing.specs.Below.{AccountedFor, AreRulesInForm, Grounds, all-events-keep_accounts, attempts-happened, grows-with, later-with}
 use Rattle.run_laws.specs.reports.Inquiries.{AnswersOne, AsksNow, InquiriesCome, InquiryComes, IsAnswered, IsAsked, IsSettling, LetterComes, Stays, WasFlying, inquiries-come, swept-come}
 use Rattle.run_laws.specs.reports.Reports.{LacksMember}
 
@@ -221,16 +217,16 @@ module _ (r : Rules) (o : Opening) (stored : Stored) (h : History) (w v : World)
   all = k.accounted.grounds
 
   abbrev later : History
-  later = stands.later-with h (told_by e.happens)
+  later = later-with h (told_by e.happens)
 
   grows : GrowsBy h (told_by e.happens) later
-  grows = stands.grows-with h (told_by e.happens)
+  grows = grows-with h (told_by e.happens)
 
   accounted-then : AccountedFor r o later (stored_in r e.happens ++ stored) v
   accounted-then = all-events-keep_accounts r o h later stored w v A k.accounted e grows
 
   attempts-then : Attempts r later e.u
-  attempts-then = stands.attempts-happened r o h later w v A.some_attempt all e grows
+  attempts-then = attempts-happened r o h later w v A.some_attempt all e grows
 
   none-taken : (x : AttemptId) → IsTaken w e.u x → ⊥
   none-taken x t =

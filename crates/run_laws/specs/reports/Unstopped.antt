@@ -15,7 +15,7 @@ use Rattle.world_base.specs.declared.target.TargetState.{TargetState}
 use Rattle.world_base.specs.declared.world.World.{World}
 use Rattle.world_base.specs.Ended.{HasEnded}
 use Rattle.world_base.specs.Events.{Rules, Run}
-use Rattle.world_legal.specs.closing.Closing.{report_over}
+use Rattle.world_closing.specs.Below.{report_over}
 use Rattle.world_plain.specs.ends.Ends.{TellsPlain, durables_of, report_of, rules_of}
 use Rattle.world_plain.specs.ends.FromBeginning.{ended-runs-are-settled, runs-from-the-beginning, runs-give-the-headline}
 use Rattle.world_plain.specs.ends.StopLaws.{tries-undisturbed}

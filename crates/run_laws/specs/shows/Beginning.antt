@@ -8,9 +8,7 @@ use Rattle.world_base.specs.declared.world.World.{World}
 use Rattle.world_base.specs.ClientTurns.{at_first}
 use Rattle.world_base.specs.Events.{Rules}
 use Rattle.world_plain.specs.whole.Begins.{IsBegun, IsOpeningPlain, StartsWith, first_tracker}
-use Rattle.world_upheld.specs.explained.Explanations.{HoldNoMoreSnapshots}
-use Rattle.world_upheld.specs.upheld.Begins.{AreRulesInForm, RunBeginsWith, snaps_held}
-use Rattle.world_upheld.specs.upheld.PlainRuns.{none-held}
+use Rattle.world_closing.specs.Below.{AreRulesInForm, HoldNoMoreSnapshots, RunBeginsWith, none-held, snaps_held}
 
 -- A script in form for some targets; these have opened, and hold no more snapshots than the opening keeps maps of; and clients before their first
 -- turns.

@@ -16,7 +16,7 @@ use Rattle.world_base.specs.declared.target.Life.TheVariants.{Running, Stopped}
 use Rattle.world_base.specs.Events.{Rules, client_plan, target_plan}
 use Rattle.world_base.specs.Letters.{target}
 use Rattle.world_contents.specs.posts.Forms.{ClientsAwait, IsInForm, IsLetter, is_of_client}
-use Rattle.world_upheld.specs.upheld.Begins.{AreRulesInForm}
+use Rattle.world_closing.specs.Below.{AreRulesInForm}
 
 -- a target that runs has opened, its store isn't stopped, and it is clients that wait there for the end of attempts
 pub record CanWork {S C : Type 0} (state : S → State) (x : TargetOf S C) : Type 0 where

@@ -22,7 +22,7 @@ use Rattle.world_base.specs.declared.target.Life.{Life}
 use Rattle.world_base.specs.declared.target.Life.TheVariants.{Down, Running}
 use Rattle.world_base.specs.Events.{Rules, client_plan, target_plan}
 use Rattle.world_base.specs.StepLaws.{set-is, set-there}
-use Rattle.world_upheld.specs.upheld.Begins.{AreRulesInForm}
+use Rattle.world_closing.specs.Below.{AreRulesInForm}
 
 -- all that lets actors have their turns, whatever their stores tell
 pub record Fits {S C : Type 0} (state : S → State) (r : Rules) (a : StageNow S C) : Type 0 where

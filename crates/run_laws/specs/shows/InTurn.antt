@@ -4,7 +4,7 @@ use Rattle.client_core.specs.Clients.{ClientNow}
 use Rattle.daos_model.specs.Attempts.{tries_of}
 use Rattle.run_laws.specs.shows.Stages.{StageNow}
 use Rattle.world_base.specs.Events.{Rules, client_plan}
-pub use Rattle.world_readers.specs.lines.InTurn.{AllBeginInTurn, AreOfNext, BeginsInTurn, HasItsLines}
+pub use Rattle.world_closing.specs.Below.{AllBeginInTurn, AreOfNext, BeginsInTurn, HasItsLines}
 
 -- The actors are those of a run by these rules, and so do the lines tell of every client; of nobody else they tell an attempt.
 pub record TellInTurn {S C : Type 0} (r : Rules) (a : StageNow S C) : Type 0 where

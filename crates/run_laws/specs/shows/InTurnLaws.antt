@@ -34,7 +34,7 @@ use Rattle.world_letters.specs.clients.MoveLaws.{clients-begin, hear-turn-keeps,
 use Rattle.world_letters.specs.clients.Standing.{HasTold, number_of}
 use Rattle.world_letters.specs.lines.FilledLaws.{AreOf, others-same, own-more, same-append, same-filled, stands-of, tries-filled}
 use Rattle.world_letters.specs.lines.Lines.{AreTheSame, filled}
-use Rattle.world_readers.specs.lines.InTurnLaws.{nobody-begins, told-begins}
+use Rattle.world_closing.specs.Below.{nobody-begins, told-begins}
 
 -- ---- what clients have told begins in turn
 

@@ -34,8 +34,7 @@ use Rattle.world_base.specs.StepLaws.{set-there}
 use Rattle.world_base.specs.Stops.{Draws, Fails, IsBelowNumbers, IsFreeRestart, Opens, WorldEvent, WorldRun, after_opening, is_restart_of, opened_at, restart_line, swept}
 use Rattle.run_base.specs.Sweeps.{is_left_by, is_lost_by, lives_of, sweeping-is_done, sweeps-are_of_lives}
 use Rattle.world_base.specs.Stops.{Begins, Goes, reset_letter}
-use Rattle.world_upheld.specs.upheld.Runs.{runs-have_grounds}
-use Rattle.world_upheld.specs.upheld.BeginVersions.{begins-well}
+use Rattle.world_closing.specs.Below.{begins-well, runs-have_grounds}
 
 -- ---- worlds that were reached
 

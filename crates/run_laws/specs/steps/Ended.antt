@@ -32,7 +32,7 @@ use Rattle.world_base.specs.declared.world.World.{World}
 use Rattle.world_base.specs.Ended.{HasEnded}
 use Rattle.world_base.specs.Events.{Rules, target_plan}
 use Rattle.world_base.specs.Stops.{Begins}
-use Rattle.world_upheld.specs.upheld.Begins.{client_begins}
+use Rattle.world_closing.specs.Below.{client_begins}
 
 -- ---- a run that was begun
 

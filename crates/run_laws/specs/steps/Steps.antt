@@ -1,5 +1,5 @@
 -- What a turn of any actor leads to, and that a target can have its turn.
-use Rattle.world_upheld.specs.upheld.BeginVersions.{begins-well}
+use Rattle.world_closing.specs.Below.{IsCovered, all-runs-are_covered, begins-well}
 use Rattle.std.specs.Prelude.{ℕ, ◌≡◌, ◌<◌, ◌+◌, ◌^◌, Bool, IfOk, slice_get, Option, Some, is_some, Err}
 use Rattle.std.proofs.Common.{sym, ◌∙◌, ap, subst, arith}
 use Rattle.daos_model.specs.declared.durable.Durable.{Durable}
@@ -27,8 +27,6 @@ use Rattle.vos_store.specs.Refusals.{says}
 use Rattle.world_base.specs.declared.target.Life.TheVariants.{Stopped}
 use Rattle.world_base.specs.Events.{Rules}
 use Rattle.world_base.specs.Letters.{client, target}
-use Rattle.world_standing.specs.hearable.Covered.{IsCovered}
-use Rattle.world_upheld.specs.hearing.Leases.{all-runs-are_covered}
 use Rattle.world_contents.specs.posts.Forms.{TurnsPostInForm}
 
 module _ {S C : Type 0} (durable : S → Option Durable) (state : S → State) (may : S → Durable → Type 0) where

@@ -9,14 +9,9 @@ use Rattle.world_base.specs.Ended.{HasEnded}
 use Rattle.world_base.specs.Events.{Rules}
 use Rattle.world_base.specs.Stops.{WorldRun}
 use Rattle.world_causes.specs.causes.Causes.{Stored}
-use Rattle.world_legal.specs.closing.Closing.{Concluded, IsStill, Resolves}
-use Rattle.world_legal.specs.closing.Gone.{NoneGoesToGivenUp}
-use Rattle.world_legal.specs.closing.Kept.{AreAll}
-use Rattle.world_legal.specs.closing.Waited.{WaitersAreAsked}
-use Rattle.world_legal.specs.reasons.Accounted.{stored_over}
+use Rattle.world_upheld.specs.below.Legal.{AreAll, Concluded, IsStill, NoneGoesToGivenUp, Resolves, WaitersAreAsked, stored_over}
 use Rattle.world_letters.specs.lines.LastLines.{AreDone}
-use Rattle.world_plain.specs.whole.Begins.{held_at}
-use Rattle.world_plain.specs.whole.Everything.{AreBefore}
+use Rattle.world_upheld.specs.below.Plain.{AreBefore, held_at}
 use Rattle.world_upheld.specs.explained.Explanations.{Explained, HoldNoMoreSnapshots}
 use Rattle.world_upheld.specs.upheld.Begins.{AreRulesInForm, RunBeginsWith}
 use Rattle.world_closing.specs.asked.Collections.{CollectionsAreAsked}

@@ -22,7 +22,7 @@ use Rattle.world_base.specs.Stops.{Draws, Fails, Further, GivenUp, Happening, Is
 use Rattle.world_base.specs.TargetTurns.{Hears}
 use Rattle.world_commit.specs.fates.Facts.{Attempts, PromptsFly}
 use Rattle.world_commit.specs.stops.Parts.{now-here}
-use Rattle.world_legal.specs.closing.Gone.{down-there}
+use Rattle.world_upheld.specs.below.Legal.{down-there}
 use Rattle.world_letters.specs.snapshots.Memories.{idle-same}
 use Rattle.world_closing.specs.asked.CollectingTurns.{further-on, plain-on}
 use Rattle.world_closing.specs.asked.Waiters.{not-to}

@@ -26,7 +26,7 @@ use Rattle.world_base.specs.Stops.{WorldEvent, no_memory, reset_letter}
 use Rattle.world_base.specs.TargetTurns.{Hearing}
 use Rattle.world_commit.specs.fates.Facts.{Attempts, PromptsFly, is_prompt, is_prompt_kind}
 use Rattle.world_commit.specs.stops.Parts as part
-use Rattle.world_legal.specs.closing.Waited.{own-target, some-counted, target-is}
+use Rattle.world_upheld.specs.below.Legal.{own-target, some-counted, target-is}
 use Rattle.world_closing.specs.asked.Collecting.{CameSo, CollectsOn, IsNew, IsTold, LacksOne, WasThere, asks_collected, same-lacks}
 
 -- ---- the fact

@@ -26,8 +26,7 @@ use Rattle.world_base.specs.declared.target.TargetState.{TargetState}
 use Rattle.world_base.specs.declared.world.World.{World}
 use Rattle.world_base.specs.Events.{Rules}
 use Rattle.world_commit.specs.fates.Facts.{Attempts}
-use Rattle.world_plain.specs.ends.Ends.{durables_of}
-use Rattle.world_plain.specs.ends.LastStand.{from-durables}
+use Rattle.world_upheld.specs.below.Plain.{AreBefore, durables_of, from-durables}
 use Rattle.world_letters.specs.epochs.Epochs.{Epochs, HasLine, IsPresent}
 use Rattle.world_causes.specs.hearing.Deciding.{AreEnded, MayEnd, end-all}
 use Rattle.world_causes.specs.hearing.Going.{EntriesWrite}
@@ -38,9 +37,7 @@ use Rattle.world_contents.specs.reads.Given.{Given}
 use Rattle.world_contents.specs.reads.Reads.{Reads}
 use Rattle.world_contents.specs.reads.Versions.{Versions}
 use Rattle.world_contents.specs.verdicts.Verdicts.{HasWrites}
-use Rattle.world_plain.specs.whole.Everything.{AreBefore}
-use Rattle.world_legal.specs.closing.Closing.{Concluded, IsResolved, IsToldOf, Resolves}
-use Rattle.world_legal.specs.closing.Holding.{AreHeld, HasEntries, decided-held, durable-at, held-at, held-resolved, resolved-held}
+use Rattle.world_upheld.specs.below.Legal.{AreHeld, Concluded, HasEntries, IsResolved, IsToldOf, Resolves, decided-held, durable-at, held-at, held-resolved, resolved-held}
 use Rattle.world_upheld.specs.upheld.Begins.{AreRulesInForm}
 use Rattle.world_upheld.specs.upheld.Heard.{all-heard_right}
 use Rattle.world_upheld.specs.upheld.Upheld.{Upheld}

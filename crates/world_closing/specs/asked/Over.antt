@@ -49,12 +49,7 @@ use Rattle.world_letters.specs.lines.Lines.{Lines}
 use Rattle.world_letters.specs.lives.Legal.{NoneIsStopped}
 use Rattle.world_commit.specs.questions.Facts.{IsAsked, IsOnQuery, IsReset, Questions}
 use Rattle.world_commit.specs.requests.Rows.{RowsStandOnce}
-use Rattle.world_legal.specs.closing.Closing.{IsOver, IsStill, WaitsForNone}
-use Rattle.world_legal.specs.closing.Gone.{NoneGoesToGivenUp}
-use Rattle.world_legal.specs.closing.Holding.{leader-there, other-there, writes-led}
-use Rattle.world_legal.specs.closing.Kept.{AreAll}
-use Rattle.world_legal.specs.closing.Waited.{Answers, Asks, TalkWay, WaitersAreAsked, some-counted, target-is, way-of}
-use Rattle.world_legal.specs.reasons.Knowing.{DownsAreKnown}
+use Rattle.world_upheld.specs.below.Legal.{Answers, AreAll, Asks, DownsAreKnown, IsOver, IsStill, NoneGoesToGivenUp, TalkWay, WaitersAreAsked, WaitsForNone, leader-there, other-there, some-counted, target-is, way-of, writes-led}
 use Rattle.world_letters.specs.talks.Asked.{ARead, ASnapshot, AnAggregation, Asked, ItsWrites, group_of_read}
 use Rattle.world_letters.specs.talks.AskLaws.{sent-is-asked}
 use Rattle.world_letters.specs.waits.ClientLaws.{present-of}

@@ -17,14 +17,8 @@ use Rattle.world_causes.specs.causes.Causes.{Stored}
 use Rattle.world_commit.specs.fates.Facts.{talking}
 use Rattle.world_commit.specs.requests.Rows.{commits-find}
 use Rattle.world_letters.specs.lives.Lives.{Lives}
-use Rattle.world_legal.specs.closing.Asking.{AreAsking}
-use Rattle.world_legal.specs.closing.Closing.{IsStill}
-use Rattle.world_legal.specs.closing.Gone.{NoneGoesToGivenUp, events-go_on}
-use Rattle.world_legal.specs.closing.Kept.{runs-as_many}
-use Rattle.world_legal.specs.closing.Waited.{WaitersAreAsked}
-use Rattle.world_legal.specs.reasons.Accounted.{stored_over}
-use Rattle.world_legal.specs.reasons.Knowing.{DownsAreKnown}
-use Rattle.world_plain.specs.whole.Begins.{held_at}
+use Rattle.world_upheld.specs.below.Legal.{AreAsking, DownsAreKnown, IsStill, NoneGoesToGivenUp, WaitersAreAsked, events-go_on, runs-as_many, stored_over}
+use Rattle.world_upheld.specs.below.Plain.{held_at}
 use Rattle.world_upheld.specs.explained.Explanations.{HoldNoMoreSnapshots, upheld_of}
 use Rattle.world_upheld.specs.explained.Runs.{runs-are_explained}
 use Rattle.world_upheld.specs.reasons.Runs.{runs-are_accounted}

@@ -30,8 +30,7 @@ use Rattle.world_base.specs.PathLaws.{reached-keeps}
 use Rattle.world_base.specs.Stops.{Draws, Fails, Further, GivenUp, Happening, HearsMore, IsCut, Opens, Plainly, TargetCut, WorldEvent, is_not_to, stopped_at}
 use Rattle.world_commit.specs.fates.Concerns.{no-talk}
 use Rattle.world_commit.specs.fates.Facts.{IsOneUnless, down_in, is_talk, knows_down, talking}
-use Rattle.world_legal.specs.closing.Asking.{AreAsking, events-ask}
-use Rattle.world_legal.specs.closing.Waited.{Answers, Asks, TalkWay, WaitersAreAsked, row-runs, some-counted, sweeping-asked, target-is, told-down, way-of}
+use Rattle.world_upheld.specs.below.Legal.{Answers, AreAsking, Asks, TalkWay, WaitersAreAsked, events-ask, row-runs, some-counted, sweeping-asked, target-is, told-down, way-of}
 use Rattle.world_making.specs.fates.Sends.{making-unconcerned}
 use Rattle.world_making.specs.losses.Events.{of-attempts}
 use Rattle.world_making.specs.making.Making.{IsOfMaking, MakingLeaves, MakingNext, making_begins, tells_of_snapshots}

@@ -23,11 +23,11 @@ use Rattle.world_base.specs.declared.target.TargetState.{TargetState}
 use Rattle.world_base.specs.declared.world.World.{World}
 use Rattle.world_base.specs.Events.{Rules}
 use Rattle.world_commit.specs.attempts.History.{History}
-use Rattle.world_legal.specs.forming.Epochs as plain
+use Rattle.world_upheld.specs.below.Legal.{LeasesFit, floor-short as plain-floor, issued-short as plain-issued}
 use Rattle.world_letters.specs.epochs.Epochs.{IsEpochOf, IsIssued, IsOwn, IsSeen, ReadsNamed}
 use Rattle.world_letters.specs.snapshots.Makings.{ComesOf}
 use Rattle.world_making.specs.freezings.Seeing.{SeesFrozen, readers-see}
-use Rattle.world_plain.specs.forms.ReportForms.{try-among}
+use Rattle.world_upheld.specs.below.Plain.{try-among}
 use Rattle.world_upheld.specs.upheld.Upheld.{Grounds}
 use Rattle.world_upheld.specs.reasons.Accounted.{AccountedFor}
 use Rattle.world_upheld.specs.hearing.Leases.{AllKeepCovered}
@@ -81,11 +81,11 @@ module _ (r : Rules) (o : Opening) (h : History) (stored : Stored) (w : World) (
   zero : (s : TargetState) × (slice_get w.targets 0 ≡ Some s)
   zero = first r o h w some k
 
-  leases : plain.LeasesFit w
+  leases : LeasesFit w
   leases t s here = (a.owned t s here).lease
 
   pub issued-short : (x : AttemptId) (e : Epoch) → IsIssued w x e → IsEpoch e
-  issued-short x e i = plain.issued-short r o w k.heard.epochs leases x e i
+  issued-short x e i = plain-issued r o w k.heard.epochs leases x e i
 
   its-short : (x : AttemptId) (e : Epoch) → IsEpochOf r w x e → IsEpoch e
   its-short x e (IsOwn i) = issued-short x e i
@@ -108,7 +108,7 @@ module _ (r : Rules) (o : Opening) (h : History) (stored : Stored) (w : World) (
   lines-short : (l : Line) → Has l w.lines → HasShortEpochs l
   lines-short (line.Try a) i = attempt-short a (try-among w.lines a i)
   lines-short (line.Stop n t) i = tt
-  lines-short (line.Restart n t incarnation floor) i = plain.floor-short r o w k.heard.epochs leases k.lives n t incarnation floor i
+  lines-short (line.Restart n t incarnation floor) i = plain-floor r o w k.heard.epochs leases k.lives n t incarnation floor i
   lines-short (line.Freeze t c e) i = let from = comes (line.Freeze t c e) i in issued-short from.0 e (contains-from_has w.issued (from.0, e) from.1)
   lines-short (line.Snapshot name c e) i = let from = comes (line.Snapshot name c e) i in issued-short from.0 e (contains-from_has w.issued (from.0, e) from.1)
   lines-short (line.Aggregate n t c upto) i =

@@ -25,19 +25,11 @@ use Rattle.world_contents.specs.gots.FormLaws.{ops-form}
 use Rattle.world_contents.specs.gots.Gots.{IsLineServed}
 use Rattle.world_contents.specs.gots.ToldLaws.{lines-right}
 use Rattle.world_contents.specs.reads.Transactions.{transactions}
-use Rattle.world_legal.specs.closing.Closing.{report_over}
-use Rattle.world_legal.specs.forming.Ids.{issued-id, told-id}
-use Rattle.world_legal.specs.forming.Outcomes.{AreShort}
-use Rattle.world_legal.specs.reasons.Accounted.{stored_over}
+use Rattle.world_upheld.specs.below.Legal.{AreShort, issued-id, report_over, stored_over, told-id}
 use Rattle.world_letters.specs.clients.Answered.{EndsAsAnswered, ops_numbered}
 use Rattle.world_letters.specs.lines.LastLines.{lines-answered}
 use Rattle.world_letters.specs.snapshots.Makings.{ComesOf}
-use Rattle.world_plain.specs.ends.Ends.{rules_of}
-use Rattle.world_plain.specs.forms.AnswerForms.{told-form}
-use Rattle.world_plain.specs.forms.KeyLaws.{as_of-keys}
-use Rattle.world_plain.specs.forms.ReportForms.{down-is, try-among}
-use Rattle.world_plain.specs.whole.Begins.{held_at}
-use Rattle.world_plain.specs.whole.ScriptForm.{ops-few}
+use Rattle.world_upheld.specs.below.Plain.{as_of-keys, down-is, held_at, ops-few, rules_of, told-form, try-among}
 use Rattle.world_upheld.specs.causing.Dates.{issued-own}
 use Rattle.world_upheld.specs.causing.OverDates.{CausesOverDates, later-reads_issued}
 use Rattle.world_upheld.specs.explained.Explanations.{Explained, Explanations}

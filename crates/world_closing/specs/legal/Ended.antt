@@ -11,16 +11,11 @@ use Rattle.world_base.specs.Events.{Rules}
 use Rattle.world_base.specs.Stops.{WorldRun}
 use Rattle.world_causes.specs.handing.Places.{snapshots-read}
 use Rattle.world_commit.specs.attempts.History.{History}
-use Rattle.world_legal.specs.closing.Closing.{Concluded, IsOver, report_over}
-use Rattle.world_legal.specs.closing.Kept.{runs-as_many}
-use Rattle.world_legal.specs.closing.Took.{AreLines}
-use Rattle.world_legal.specs.reasons.Accounted.{stored_over}
+use Rattle.world_upheld.specs.below.Legal.{AreLines, Concluded, IsOver, report_over, runs-as_many, stored_over}
 use Rattle.world_letters.specs.lines.LastLines.{lines-in-turn}
 use Rattle.world_letters.specs.lives.Counting.{AreCountedSo}
 use Rattle.world_letters.specs.lives.Legal.{AreCaused}
-use Rattle.world_plain.specs.ends.Ends.{durables_of, rules_of}
-use Rattle.world_plain.specs.ends.LinesApart.{lines-apart}
-use Rattle.world_plain.specs.whole.Begins.{held_at}
+use Rattle.world_upheld.specs.below.Plain.{durables_of, held_at, lines-apart, rules_of}
 use Rattle.world_upheld.specs.explained.Explanations.{HoldNoMoreSnapshots}
 use Rattle.world_upheld.specs.explained.Runs.{runs-are_explained}
 use Rattle.world_upheld.specs.upheld.Begins.{AreRulesInForm, RunBeginsWith}

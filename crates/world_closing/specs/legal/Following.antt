@@ -53,15 +53,13 @@ use Rattle.world_making.specs.freezings.Freezings.{Freezings, IsFromBefore, IsKn
 use Rattle.world_making.specs.freezings.Knowing.{IsLearned, LearnsBy, heard-knows, learned-is, learned-more, learned-new, moved-committed, moved-same}
 use Rattle.world_making.specs.freezings.Seeing.{found-known}
 use Rattle.world_making.specs.making.Snapshots.{holds_created}
-use Rattle.world_plain.specs.whole.Judged.{lines-stand}
-use Rattle.world_standing.specs.standing.Clients.{ClientsSpeak}
-use Rattle.world_standing.specs.standing.Telling.{sweeping-tells}
+use Rattle.world_upheld.specs.below.Plain.{get-map, lines-stand}
+use Rattle.world_upheld.specs.below.Standing.{ClientsSpeak, sweeping-tells}
 use Rattle.world_upheld.specs.causing.DateLaws.{epoch-once}
 use Rattle.world_upheld.specs.upheld.Begins.{AreRulesInForm, RunBeginsWith, client_begins, snaps_held}
 use Rattle.world_upheld.specs.upheld.Clients as speak
 use Rattle.world_upheld.specs.upheld.Telling.{all-targets_tell}
 use Rattle.world_commit.specs.asks.Entries.{mapped}
-use Rattle.world_plain.specs.whole.BeginLaws.{get-map}
 use Rattle.world_closing.specs.legal.Naming.{CommittedIsDated, NamesOn, ReadsAsNamed, ReadsNameSnapshots, ReadsSo, as_lines, known_as, names-on, names-stay}
 use Rattle.world_closing.specs.legal.Telling.{WantsOne, hearing-tells, moves-tell}
 

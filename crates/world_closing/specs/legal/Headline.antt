@@ -17,13 +17,11 @@ use Rattle.world_causes.specs.causes.IssuedOnce.{IssuedOnce}
 use Rattle.world_causes.specs.causes.Shown.{Causes, OutcomeStands}
 use Rattle.world_causes.specs.handing.Places.{snapshots-read}
 use Rattle.world_commit.specs.attempts.History.{History}
-use Rattle.world_legal.specs.closing.Closing.{Concluded, report_over}
-use Rattle.world_legal.specs.closing.Took.{AreLines}
+use Rattle.world_upheld.specs.below.Legal.{AreLines, Concluded, report_over}
 use Rattle.world_letters.specs.lines.LastLines.{AreDone, HasClients}
 use Rattle.world_letters.specs.lives.Counting.{AreCountedSo}
 use Rattle.world_letters.specs.lives.Legal.{AreCaused, NoneIsStopped}
-use Rattle.world_plain.specs.ends.Ends.{durables_of, rules_of}
-use Rattle.world_plain.specs.ends.LinesApart.{lines-apart}
+use Rattle.world_upheld.specs.below.Plain.{durables_of, lines-apart, rules_of}
 use Rattle.world_upheld.specs.causing.Dates.{with_dates}
 use Rattle.world_upheld.specs.causing.OverDates.{CausesOverDates, later-reads_issued}
 use Rattle.world_upheld.specs.explained.Explanations.{Explained, upheld_of}

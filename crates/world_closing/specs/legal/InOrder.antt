@@ -17,7 +17,7 @@ use Rattle.model_laws.specs.Lists.{all-at, has-at}
 use Rattle.model_laws.specs.Members.{Has, has-cases, has-from_contains, has-from_filter, has-left, has-right}
 use Rattle.daos_model.specs.Order.{AreInTurn}
 use Rattle.daos_model.specs.Transactions.{command_of, numbered, numbered_at}
-use Rattle.world_legal.specs.closing.First.{command-of, from-on}
+use Rattle.world_upheld.specs.below.Legal.{command-of, from-on}
 use Rattle.world_upheld.specs.upheld.Named.{first-alone, made-named, name_of_snap, never-both, snaps-made}
 use Rattle.world_closing.specs.legal.Names.{NamesDiffer, among-all, differ-right}
 

@@ -7,8 +7,7 @@ use Rattle.world_base.specs.Events.{Rules}
 use Rattle.world_base.specs.Stops.{Begins, Goes, WorldRun}
 use Rattle.world_causes.specs.causes.IssuedOnce.{IssuedOnce}
 use Rattle.world_causes.specs.causes.Storing.{AreApart, dated_ids}
-use Rattle.world_standing.specs.standing.Clients.{ClientsSpeak}
-use Rattle.world_standing.specs.standing.Events.{decided-issued}
+use Rattle.world_upheld.specs.below.Standing.{ClientsSpeak, decided-issued}
 use Rattle.world_upheld.specs.upheld.Begins.{AreRulesInForm, RunBeginsWith}
 use Rattle.world_upheld.specs.upheld.Runs.{grounds-begin, runs-have_grounds}
 use Rattle.world_upheld.specs.upheld.BeginVersions.{begins-well}

@@ -19,7 +19,7 @@ use Rattle.daos_model.specs.BoolLaws.{clash}
 use Rattle.daos_model.specs.Order.{AreAttempts, AreInTurn}
 use Rattle.daos_model.specs.ReadsLegal.{is_named}
 use Rattle.daos_model.specs.Transactions.{command_of, numbered, numbered_at}
-use Rattle.world_legal.specs.closing.First.{command-of, from-on}
+use Rattle.world_upheld.specs.below.Legal.{command-of, from-on}
 use Rattle.world_upheld.specs.upheld.Named.{first-alone, made-named, name_of_snap, never-both, old-named, snaps-made}
 
 -- names of snapshots that differ

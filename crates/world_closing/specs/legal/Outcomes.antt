@@ -22,13 +22,12 @@ use Rattle.world_base.specs.declared.world.World.{World}
 use Rattle.world_base.specs.Events.{Rules}
 use Rattle.world_commit.specs.attempts.History.{History}
 use Rattle.world_contents.specs.gots.Gots.{IsLineServed}
-use Rattle.world_legal.specs.closing.Closing.{report_over}
-use Rattle.world_legal.specs.closing.Outcomes.{ended-well, ends-right, whole-issued}
+use Rattle.world_upheld.specs.below.Legal.{ended-well, ends-right, report_over, whole-issued}
 use Rattle.world_letters.specs.clients.Answered.{IsAnsweredWhole}
 use Rattle.world_letters.specs.lines.LastLines.{AreDone, HasClients, lines-in-turn}
 use Rattle.world_letters.specs.lives.Counting.{AreCountedSo}
 use Rattle.world_letters.specs.lives.Legal.{AreCaused, NoneIsStopped, stops-legal}
-use Rattle.world_plain.specs.ends.Ends.{rules_of}
+use Rattle.world_upheld.specs.below.Plain.{rules_of}
 use Rattle.world_upheld.specs.upheld.Named.{command-knows}
 use Rattle.world_upheld.specs.upheld.Upheld.{Upheld}
 use Rattle.world_closing.specs.legal.Naming.{ReadsNameSnapshots}

@@ -32,11 +32,8 @@ use Rattle.world_contents.specs.gots.MoreLaws.{served-more, stays-remembered}
 use Rattle.world_contents.specs.gots.Right.{SeenHaveDkeys}
 use Rattle.world_contents.specs.gots.ToldLaws.{lines-right}
 use Rattle.world_contents.specs.reads.Transactions.{transactions}
-use Rattle.world_legal.specs.closing.Closing.{Concluded, report_over}
-use Rattle.world_legal.specs.closing.Reads.{right-same}
-use Rattle.world_legal.specs.closing.Took.{AreLines, took-same_map}
-use Rattle.world_plain.specs.ends.Ends.{durables_of}
-use Rattle.world_plain.specs.ends.LastReads.{decided-form}
+use Rattle.world_upheld.specs.below.Legal.{AreLines, Concluded, report_over, right-same, took-same_map}
+use Rattle.world_upheld.specs.below.Plain.{decided-form, durables_of}
 
 -- ---- cells without a dkey
 

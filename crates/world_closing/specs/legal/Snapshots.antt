@@ -27,7 +27,7 @@ use Rattle.daos_model.specs.Snapshots.{Aggregates, ComesFrom, IsCreated, IsSnaps
 use Rattle.daos_model.specs.Transactions.{command_of}
 use Rattle.world_base.specs.declared.world.World.{World}
 use Rattle.world_base.specs.Events.{Rules}
-use Rattle.world_legal.specs.closing.First.{among-tries}
+use Rattle.world_upheld.specs.below.Legal.{among-tries}
 use Rattle.world_letters.specs.epochs.Epochs.{Epochs, HasLine, IsPresent}
 use Rattle.world_letters.specs.lines.LastLines.{AreDone}
 use Rattle.world_letters.specs.snapshots.Makings.{ComesOf, Makings}

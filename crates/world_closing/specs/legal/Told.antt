@@ -38,8 +38,7 @@ use Rattle.world_letters.specs.clients.Snapshots.{is_at_snapshot}
 use Rattle.world_letters.specs.epochs.Epochs.{Epochs, HasLine, IsEpochOf, IsOwn, IsSeen}
 use Rattle.world_letters.specs.lines.LastLines.{AreDone}
 use Rattle.world_making.specs.freezings.Seeing.{found-known}
-use Rattle.world_plain.specs.ends.Ends.{rules_of}
-use Rattle.world_plain.specs.ends.LinesApart.{lines-apart}
+use Rattle.world_upheld.specs.below.Plain.{lines-apart, rules_of}
 use Rattle.world_upheld.specs.causing.DateLaws.{epoch-once}
 use Rattle.world_upheld.specs.causing.Dates.{AreDates, HasItsLine, counted_as, issued-own}
 use Rattle.world_closing.specs.Causes.{AllAreTold}

@@ -3,9 +3,8 @@ use Rattle.std.proofs.Common.{subst, ap}
 use Rattle.model_laws.specs.Members.{Has}
 use Rattle.world_base.specs.Stops.{Begins, Goes}
 use Rattle.world_commit.specs.statuses.Events.{told_by}
-use Rattle.world_legal.specs.reasons.Accounted.{stored_over}
-use Rattle.world_readers.specs.forms.Events.{all-events-keep_form, attempts-prepare_own}
-use Rattle.world_readers.specs.kinds.Events.{all-events-keep_fitting, fitting-begins}
+use Rattle.world_upheld.specs.below.Legal.{stored_over}
+use Rattle.world_upheld.specs.below.Readers.{all-events-keep_fitting, all-events-keep_form, attempts-prepare_own, fitting-begins}
 use Rattle.world_upheld.specs.explained.Events.{all-events-keep_explanations}
 use Rattle.world_upheld.specs.explained.Runs.{explanations-begin}
 use Rattle.world_upheld.specs.hearing.Across.{all-events-go_across}

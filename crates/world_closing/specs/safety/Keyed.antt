@@ -25,11 +25,9 @@ use Rattle.world_commit.specs.attempts.Attempts.{writes_of}
 use Rattle.world_commit.specs.attempts.History.{History}
 use Rattle.world_commit.specs.fates.Asked.{AskedRight}
 use Rattle.world_commit.specs.fates.Facts.{Attempts}
-use Rattle.world_owners.specs.Becoming.{Brings}
-use Rattle.world_owners.specs.Events.{EventBrings}
-use Rattle.world_owners.specs.Versions.{all-events-keep_versions}
-use Rattle.world_plain.specs.forms.KeyLaws.{attempt-keys}
-use Rattle.world_readers.specs.forms.Events.{PreparesCarryOwn, attempts-prepare_own}
+use Rattle.world_upheld.specs.below.Owners.{Brings, EventBrings, all-events-keep_versions}
+use Rattle.world_upheld.specs.below.Plain.{attempt-keys}
+use Rattle.world_upheld.specs.below.Readers.{PreparesCarryOwn, attempts-prepare_own}
 use Rattle.world_upheld.specs.upheld.Events.{asked-so}
 use Rattle.world_upheld.specs.upheld.Runs.{idle, no-tries}
 use Rattle.world_closing.specs.forming.Keys.{minors-keys}

@@ -19,15 +19,11 @@ use Rattle.world_commit.specs.attempts.History.{GrowsBy, History}
 use Rattle.world_commit.specs.statuses.Events.{told_by}
 use Rattle.world_contents.specs.posts.Forms.{IsInForm}
 use Rattle.world_ended.specs.Clients.{AllEndWell}
-use Rattle.world_legal.specs.closing.Closing.{report_over}
-use Rattle.world_legal.specs.reasons.Accounted.{stored_over}
+use Rattle.world_upheld.specs.below.Legal.{report_over, stored_over}
 use Rattle.world_letters.specs.kinds.Fitting.{AllAnswersFit}
-use Rattle.world_plain.specs.ends.Ends.{rules_of}
-use Rattle.world_plain.specs.whole.Begins.{AreEnlisted, no_history}
-use Rattle.world_readers.specs.forms.Forms.{AllKeepInForm}
-use Rattle.world_readers.specs.kinds.Kinds.{AnswersFitInWorld}
-use Rattle.world_readers.specs.lines.InTurn.{AllBeginInTurn}
-use Rattle.world_standing.specs.hearable.Sent.{AreSentSo}
+use Rattle.world_upheld.specs.below.Plain.{AreEnlisted, no_history, rules_of}
+use Rattle.world_upheld.specs.below.Readers.{AllBeginInTurn, AllKeepInForm, AnswersFitInWorld}
+use Rattle.world_upheld.specs.below.Standing.{AreSentSo}
 use Rattle.world_upheld.specs.explained.Explanations.{Explanations, HoldNoMoreSnapshots}
 use Rattle.world_upheld.specs.hearing.Across.{GoAcross}
 use Rattle.world_upheld.specs.hearing.Hearable.{CanHearLetter}

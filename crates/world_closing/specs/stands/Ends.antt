@@ -34,9 +34,8 @@ use Rattle.world_letters.specs.waits.Requests.{is_lost_request}
 use Rattle.world_letters.specs.waits.Waits.{Conversation}
 use Rattle.world_making.specs.freezings.Freezings.{EndComes, Freezings, HasItsLine, IsFated, IsFatedSnap, LossComes}
 use Rattle.world_making.specs.freezings.InTheEnd.{committed-created}
-use Rattle.world_plain.specs.ends.Ends.{durables_of, rules_of}
-use Rattle.world_legal.specs.closing.Closing.{Concluded, report_over}
-use Rattle.world_legal.specs.closing.First.{among-tries}
+use Rattle.world_upheld.specs.below.Plain.{durables_of, rules_of}
+use Rattle.world_upheld.specs.below.Legal.{Concluded, among-tries, report_over}
 use Rattle.world_closing.specs.stands.Containers.{parts-same}
 use Rattle.world_closing.specs.stands.Created.{IsCreatedThere}
 use Rattle.world_closing.specs.stands.Stands.{HoldsOpenings, IsMadeHere}

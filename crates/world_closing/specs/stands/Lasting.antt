@@ -30,10 +30,7 @@ use Rattle.world_base.specs.declared.world.World.{World}
 use Rattle.world_making.specs.freezings.Freezings.{KeepsFrozen}
 use Rattle.world_making.specs.making.Snapshots.{holds_created}
 use Rattle.world_contents.specs.reads.Versions.{HoldsMap, is_own_in}
-use Rattle.world_plain.specs.ends.Ends.{durable_of, durables_of}
-use Rattle.world_plain.specs.ends.Settled.{floors-rise, lease-within}
-use Rattle.world_plain.specs.whole.BeginLaws.{get-map}
-use Rattle.world_plain.specs.whole.Begins.{OpensWith}
+use Rattle.world_upheld.specs.below.Plain.{OpensWith, durable_of, durables_of, floors-rise, get-map, lease-within}
 use Rattle.world_upheld.specs.explained.Explanations.{HoldKeptSnapshots}
 use Rattle.world_upheld.specs.upheld.Begins.{KeepsSnapshots, is_settled_version, without_snaps}
 use Rattle.world_upheld.specs.upheld.BeginVersions.{same-row}

@@ -26,11 +26,11 @@ use Rattle.world_base.specs.Stops.{Begins, Goes, WorldEvent, WorldRun}
 use Rattle.world_making.specs.freezings.Freezings.{IsCreatedFirst, IsOfSnap}
 use Rattle.world_making.specs.freezings.Snapping.{created-frozen}
 use Rattle.world_making.specs.making.Snapshots.{holds_created}
-use Rattle.world_plain.specs.whole.Begins.{OpensWith}
+use Rattle.world_upheld.specs.below.Plain.{OpensWith}
 use Rattle.world_upheld.specs.upheld.Begins.{AreRulesInForm, RunBeginsWith}
 use Rattle.world_upheld.specs.upheld.BeginVersions.{begins-well, frozen-before, same-row, snap-before}
 use Rattle.world_upheld.specs.upheld.Runs.{runs-have_grounds}
-use Rattle.world_standing.specs.standing.Covering.{AreAll}
+use Rattle.world_upheld.specs.below.Standing.{AreAll}
 use Rattle.world_closing.specs.stands.Covered.{IsRowWithin, IsWithin, edge_over}
 use Rattle.world_closing.specs.stands.Created.{AreKeptBy}
 use Rattle.world_closing.specs.stands.Snapped.{WasSnapped, all-events-snap_so}

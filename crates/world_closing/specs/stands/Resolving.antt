@@ -21,10 +21,8 @@ use Rattle.world_base.specs.Events.{Rules}
 use Rattle.world_causes.specs.hearing.Deciding.{AreEnded, MayEnd, end-all}
 use Rattle.world_contents.specs.reads.ChangeLaws.{entry-among}
 use Rattle.world_contents.specs.reads.Given.{Given}
-use Rattle.world_plain.specs.ends.Ends.{durables_of}
-use Rattle.world_plain.specs.whole.Everything.{AreBefore}
-use Rattle.world_legal.specs.closing.Closing.{IsResolved, Resolves}
-use Rattle.world_legal.specs.closing.Holding.{AreHeld, HasEntries, decided-held, held-at, held-resolved, resolved-held}
+use Rattle.world_upheld.specs.below.Plain.{AreBefore, durables_of}
+use Rattle.world_upheld.specs.below.Legal.{AreHeld, HasEntries, IsResolved, Resolves, decided-held, held-at, held-resolved, resolved-held}
 use Rattle.world_upheld.specs.upheld.Heard.{all-heard_right}
 use Rattle.world_upheld.specs.upheld.Upheld.{Upheld}
 

@@ -11,13 +11,9 @@ use Rattle.world_base.specs.Ended.{HasEnded}
 use Rattle.world_base.specs.Events.{Rules}
 use Rattle.world_base.specs.Stops.{WorldRun}
 use Rattle.world_contents.specs.reads.Given.{Given}
-use Rattle.world_plain.specs.ends.Ends.{durables_of, rules_of}
-use Rattle.world_plain.specs.whole.Begins.{held_at}
-use Rattle.world_plain.specs.whole.Everything.{AreBefore}
-use Rattle.world_standing.specs.standing.Covering.{AreAll}
-use Rattle.world_legal.specs.closing.Closing.{Resolves}
-use Rattle.world_legal.specs.closing.Kept.{runs-as_many}
-use Rattle.world_legal.specs.closing.Sounding.{covered-of}
+use Rattle.world_upheld.specs.below.Plain.{AreBefore, durables_of, held_at, rules_of}
+use Rattle.world_upheld.specs.below.Standing.{AreAll}
+use Rattle.world_upheld.specs.below.Legal.{Resolves, covered-of, runs-as_many}
 use Rattle.world_upheld.specs.upheld.Begins.{AreRulesInForm, RunBeginsWith, client_begins}
 use Rattle.world_upheld.specs.upheld.Runs.{held-first, runs-are_upheld}
 use Rattle.world_upheld.specs.upheld.Upheld.{Upheld}

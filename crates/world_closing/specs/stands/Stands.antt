@@ -23,9 +23,8 @@ use Rattle.world_causes.specs.causes.LastCauses.{ids}
 use Rattle.world_causes.specs.causes.Storing.{AreApart}
 use Rattle.world_contents.specs.reads.Transactions.{decided_of}
 use Rattle.world_making.specs.freezings.Freezings.{IsCreatedFirst, IsOfSnap}
-use Rattle.world_plain.specs.ends.Ends.{durables_of, rules_of}
-use Rattle.world_plain.specs.whole.Begins.{held_at}
-use Rattle.world_legal.specs.closing.Closing.{Concluded, IsResolved, report_over}
+use Rattle.world_upheld.specs.below.Plain.{durables_of, held_at, rules_of}
+use Rattle.world_upheld.specs.below.Legal.{Concluded, IsResolved, report_over}
 use Rattle.world_upheld.specs.upheld.Begins.{AreRulesInForm, RunBeginsWith}
 use Rattle.world_closing.specs.stands.Containers.{IsMapIn}
 

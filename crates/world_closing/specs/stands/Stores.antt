@@ -42,13 +42,9 @@ use Rattle.world_contents.specs.reads.Transactions.{counts_by, transactions}
 use Rattle.world_contents.specs.reads.Versions.{HoldsMap, VersionsStand, is_own_in, mark_of}
 use Rattle.world_making.specs.freezings.Freezings.{Freezings, IsOfSnap}
 use Rattle.world_making.specs.freezings.Snapping.{created-frozen}
-use Rattle.world_plain.specs.ends.Ends.{durable_of, durables_of}
-use Rattle.world_plain.specs.ends.FamilyStands.{below-lease}
-use Rattle.world_plain.specs.ends.LastReads.{decided-form}
-use Rattle.world_plain.specs.ends.LastStand.{from-durables}
-use Rattle.world_plain.specs.whole.ScriptForm.{of-end}
-use Rattle.world_standing.specs.standing.Covering.{AreAll}
-use Rattle.world_legal.specs.closing.Closing.{Resolves}
+use Rattle.world_upheld.specs.below.Plain.{below-lease, decided-form, durable_of, durables_of, from-durables, of-end}
+use Rattle.world_upheld.specs.below.Standing.{AreAll}
+use Rattle.world_upheld.specs.below.Legal.{Resolves}
 use Rattle.world_closing.specs.stands.Containers.{EachGivesIn, IsMapIn, containers-agree, containers-stand_for, part-whole}
 use Rattle.world_closing.specs.stands.Covered.{IsWithin, edge_over, row-within}
 use Rattle.world_closing.specs.stands.Created.{AreKeptBy, IsCreatedThere, IsKeptOf, created-at, created-from, kept-among, kept-from, same-cont}

@@ -31,10 +31,8 @@ use Rattle.world_causes.specs.causes.LastCauses.{ids}
 use Rattle.world_causes.specs.causes.Storing.{AreApart}
 use Rattle.world_contents.specs.reads.Given.{Given}
 use Rattle.world_contents.specs.reads.Transactions.{decided_of, transactions}
-use Rattle.world_plain.specs.ends.Ends.{durables_of}
-use Rattle.world_plain.specs.ends.Took.{written-minors}
-use Rattle.world_legal.specs.closing.Closing.{Concluded, IsToldOf}
-use Rattle.world_legal.specs.closing.Took.{one-line}
+use Rattle.world_upheld.specs.below.Plain.{durables_of, written-minors}
+use Rattle.world_upheld.specs.below.Legal.{Concluded, IsToldOf, one-line}
 
 -- ---- one line
 

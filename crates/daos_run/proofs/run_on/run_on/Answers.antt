@@ -14,7 +14,7 @@ use Rattle.daos_run.proofs.Lone.{finds-room, tells-of-lone-client}
 use Rattle.daos_run.proofs.Started.{all-set, run-gone, run-read, run-served}
 use Rattle.daos_run.proofs.Whole.{all-tell, break-off, can-start, come-from, may-start, started, told-first}
 use Rattle.report_round_trip.specs.Values.{AllTellBytes}
-use Rattle.run_laws.specs.shows.Asked.{AllTellInOrder}
+use Rattle.run_targets.specs.Below.{AllTellInOrder}
 use Rattle.run_opening.specs.All.{MayBeFound}
 use Rattle.run_targets.specs.Ends.{BreaksOffSo, ComesTo, stores_of}
 use Rattle.world_letters.specs.kinds.Fitting.{AllAnswersFit}

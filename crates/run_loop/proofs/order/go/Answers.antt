@@ -1,10 +1,7 @@
-use Rattle.run_laws.specs.steps.Breaking.{goes-then_breaks-err}
+use Rattle.run_stage.specs.Below.{ByDraws, ByRounds, InRounds, all-draws-are-run, all-rounds-are-run, goes-then_breaks-err, served-then}
 use Rattle.std.specs.Prelude.{false, true}
 use Rattle.run_loop.specs.Loops.{all_from_draw, goes-then-ok, in_order}
-use Rattle.run_laws.specs.shows.Serving.{served-then}
 use Rattle.run_stage.specs.Now.{stage_now}
-use Rattle.run_laws.specs.steps.Going.{all-draws-are-run, all-rounds-are-run}
-use Rattle.run_laws.specs.turns.Orders.{ByDraws, ByRounds, InRounds}
 use Rattle.run_loop.proofs.order.go.Goals as goal
 
 pub returns-then-order-eq0-clause-goes : goal.returns-then-order-eq0-clause-goes

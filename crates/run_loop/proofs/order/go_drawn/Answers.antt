@@ -1,14 +1,9 @@
 use Rattle.std.proofs.Common.{refl}
-use Rattle.run_laws.specs.steps.Breaking.{broke-after-err, broke-between}
-use Rattle.run_laws.specs.steps.Going.{draws-are-run}
+use Rattle.run_stage.specs.Below.{IsActor, IsUp, NoDraw, broke-after-err, broke-between, draws-are-run, goes-none, served-then}
 use Rattle.std.specs.Prelude.{length}
 use Rattle.model_laws.specs.Lists.{at-index}
 use Rattle.run_loop.specs.Loops.{draw-more, draws-over, from_draw, holds-of-one, none-in, one-of, some-pick}
-use Rattle.run_laws.specs.shows.Due.{IsActor, IsUp}
-use Rattle.run_laws.specs.shows.Serving.{served-then}
 use Rattle.run_stage.specs.Now.{stage_now}
-use Rattle.run_laws.specs.steps.Going.{goes-none}
-use Rattle.run_laws.specs.turns.Orders.{NoDraw}
 use Rattle.run_loop.proofs.order.go_drawn.Goals as goal
 
 pub heard_by-requires-clause-actor : goal.heard_by-requires-clause-actor

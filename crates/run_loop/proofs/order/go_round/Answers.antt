@@ -1,11 +1,7 @@
 use Rattle.std.proofs.Common.{refl}
-use Rattle.run_laws.specs.steps.Breaking.{broke-after-err, broke-between}
-use Rattle.run_laws.specs.steps.Going.{rounds-are-run}
+use Rattle.run_stage.specs.Below.{NoRound, Rounds, broke-after-err, broke-between, goes-none, rounds-are-run, served-then}
 use Rattle.run_loop.specs.Loops.{none-in, round-more, rounds-over, some-in}
-use Rattle.run_laws.specs.shows.Serving.{served-then}
 use Rattle.run_stage.specs.Now.{stage_now}
-use Rattle.run_laws.specs.steps.Going.{goes-none}
-use Rattle.run_laws.specs.turns.Orders.{NoRound, Rounds}
 use Rattle.run_loop.proofs.order.go_round.Goals as goal
 
 pub loop-init : goal.loop-init

@@ -1,6 +1,5 @@
 use Rattle.run_stage.specs.Now.{stage_now}
-use Rattle.run_laws.specs.steps.Going.{GoesOn}
-use Rattle.run_laws.specs.turns.Orders.{Rounds}
+use Rattle.run_stage.specs.Below.{GoesOn, Rounds}
 use Rattle.run_loop.proofs.order.go_round.Given as goal
 
 -- there were some rounds

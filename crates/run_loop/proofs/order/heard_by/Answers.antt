@@ -1,6 +1,6 @@
 use Rattle.std.specs.Prelude.{◌<◌, length}
 use Rattle.std.proofs.Common.{subst, sym}
-use Rattle.run_laws.specs.shows.Shown.{client-heard-shown, client-hears-few, target-heard-shown, target-hears-few}
+use Rattle.run_stage.specs.Below.{client-heard-shown, client-hears-few, target-heard-shown, target-hears-few}
 use Rattle.run_stage.specs.Now.{stage_now}
 use Rattle.run_loop.proofs.order.heard_by.Goals as goal
 

@@ -1,16 +1,9 @@
-use Rattle.run_laws.specs.steps.Breaking.{broke-after-err, broke-between, target-turn-breaks}
-use Rattle.run_laws.specs.steps.Going.{turns-are-run}
+use Rattle.run_stage.specs.Below.{AreServed, GoesOn, Nobody, broke-after-err, broke-between, can-turn, client-turn-goes, first_targets, goes-none, served-then, target-turn-breaks, target-turn-goes, turns-are-run}
 use Rattle.std.specs.Prelude.{[], length}
 use Rattle.std.proofs.Common.{◌∙◌, add-one, ap, subst, suc, sym}
 use Rattle.run_base.specs.Picks.{numbered}
 use Rattle.run_loop.specs.Loops.{at-end, client-had-none, client-had-turn, round-whole, target-had-none, target-had-turn, turned, within-now}
-use Rattle.run_laws.specs.shows.Accounts.{AreServed}
-use Rattle.run_laws.specs.shows.Due.{first_targets}
-use Rattle.run_laws.specs.shows.Serving.{served-then}
 use Rattle.run_stage.specs.Now.{stage_now}
-use Rattle.run_laws.specs.steps.Going.{GoesOn, goes-none}
-use Rattle.run_laws.specs.steps.Steps.{can-turn, client-turn-goes, target-turn-goes}
-use Rattle.run_laws.specs.turns.Orders.{Nobody}
 use Rattle.world_base.specs.Letters.{client}
 use Rattle.run_loop.proofs.order.round.Goals as goal
 use Rattle.run_loop.proofs.order.round.Goals.{then-is_client_due+in_ok-client_turn, else-is_client_due, then-is_target_due+in_ok-target_turn, else-is_target_due}

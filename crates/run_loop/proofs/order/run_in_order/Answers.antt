@@ -1,11 +1,7 @@
 use Rattle.std.proofs.Common.{arith, subst, sym}
 use Rattle.run_loop.proofs.Turns.{few-targets}
-use Rattle.run_laws.specs.shows.Accounts.{AreAccounted}
-use Rattle.run_laws.specs.shows.Asked.{AllTellInOrder}
-use Rattle.run_laws.specs.shows.InTurn.{AllBeginInTurn}
-use Rattle.run_laws.specs.shows.InTurnLaws.{all-begin}
+use Rattle.run_stage.specs.Below.{AllBeginInTurn, AllTellInOrder, AreAccounted, HasRunWith, all-begin, can-reopen, has-run, left-accounted, left_of}
 use Rattle.run_stage.specs.Now.{stage_now}
-use Rattle.run_laws.specs.steps.Ended.{HasRunWith, can-reopen, has-run, left-accounted, left_of}
 use Rattle.world_ended.specs.Clients.{AllEndWell}
 use Rattle.world_letters.specs.kinds.Fitting.{AllAnswersFit}
 use Rattle.run_loop.proofs.order.run_in_order.Goals as goal

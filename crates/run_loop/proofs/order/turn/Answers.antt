@@ -1,11 +1,8 @@
-use Rattle.run_laws.specs.steps.Breaking.{broke-between-err, target-turn-breaks-err}
+use Rattle.run_stage.specs.Below.{AreServed, broke-between-err, can-turn, served-first, target-turn-breaks-err}
 use Rattle.std.specs.Prelude.{◌≡◌, Some, slice_get}
 use Rattle.std.proofs.Common.{ap, subst, sym}
 use Rattle.run_loop.proofs.Turns.{client-goes-on, client-number, target-goes-on, target-number}
-use Rattle.run_laws.specs.shows.Accounts.{AreServed}
-use Rattle.run_laws.specs.shows.Serving.{served-first}
 use Rattle.run_stage.specs.Now.{stage_now}
-use Rattle.run_laws.specs.steps.Steps.{can-turn}
 use Rattle.world_base.specs.declared.target.Life.TheVariants.{Down}
 use Rattle.run_loop.proofs.order.turn.Goals as goal
 

@@ -1,7 +1,7 @@
 use Rattle.std.specs.Prelude.{◌<◌}
 use Rattle.std.proofs.Common.{get_or, subst, sym}
 use Rattle.model_laws.specs.Lists.{at-index}
-use Rattle.run_laws.specs.shows.Openings.{HasFuse}
+use Rattle.run_loop.specs.Below.{HasFuse}
 use Rattle.run_targets.proofs.Setting.{all-armed, armed-there}
 use Rattle.run_targets.proofs.fuses.arm.Goals as goal
 

@@ -1,7 +1,7 @@
 use Rattle.std.specs.Prelude.{◌<◌}
 use Rattle.std.proofs.Common.{get_or, subst, sym}
 use Rattle.model_laws.specs.Lists.{at-index}
-use Rattle.run_laws.specs.shows.Openings.{HasFuse}
+use Rattle.run_loop.specs.Below.{HasFuse}
 use Rattle.run_targets.proofs.Setting.{all-unfused, unfused-there}
 use Rattle.run_targets.proofs.fuses.disarm.Goals as goal
 

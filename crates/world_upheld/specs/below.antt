@@ -1,0 +1,6 @@
+-- What crates above name of the crates below, passed on to them.
+pub mod Legal
+pub mod Readers
+pub mod Standing
+pub mod Owners
+pub mod Plain

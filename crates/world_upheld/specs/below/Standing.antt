@@ -1,0 +1,12 @@
+-- What crates above name of what stands at each moment and of the order of transactions, passed on to them.
+pub use Rattle.world_standing.specs.external.Behind.{BeganAfter, IsBehind, IsFar, IsFarOfFirst, IsLater, WasAnswered, WritesAt}
+pub use Rattle.world_standing.specs.external.Cells.{IsAskedAs, MeetsAt, asked-own, group-is_asked, meets, members-under, some-own}
+pub use Rattle.world_standing.specs.external.Kept.{AreInOrder, IsStoredBehind, ReadsAt}
+pub use Rattle.world_standing.specs.external.Order.{AreExternallyConsistent, Conflict, HasSmallerEpoch, IsAnsweredBefore, IsCommitted, KeepsTheBound, WritesWhere}
+pub use Rattle.world_standing.specs.external.Told.{IsServedAt, line-served, none-has}
+pub use Rattle.world_standing.specs.hearable.Covered.{IsCovered}
+pub use Rattle.world_standing.specs.hearable.Sent.{AreSentSo}
+pub use Rattle.world_standing.specs.standing.Clients.{ClientsSpeak}
+pub use Rattle.world_standing.specs.standing.Covering.{AreAll, all-put, epochs-puts, epochs-settled}
+pub use Rattle.world_standing.specs.standing.Events.{decided-issued, no-collections}
+pub use Rattle.world_standing.specs.standing.Telling.{sweeping-tells}
