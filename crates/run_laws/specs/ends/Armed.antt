@@ -18,7 +18,6 @@ use Rattle.target_core.specs.Targets.{TargetOf}
 use Rattle.target_parts.specs.Readings.{IsReadOn, not-read_on}
 use Rattle.vos_store.specs.Calls.{State}
 use Rattle.world_base.specs.declared.target.Life.TheVariants.{Running}
-use Rattle.world_plain.specs.whole.Begins.{StartsWith}
 use Rattle.run_laws.specs.ends.Arming.{AreArmed, HaveFuses, lines_left}
 use Rattle.run_laws.specs.ends.Begun.{IsFirstWatch, first_stage, told-there}
 use Rattle.run_laws.specs.ends.FuseLaws.{taken-left}

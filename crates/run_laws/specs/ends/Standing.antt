@@ -1,5 +1,5 @@
 -- What targets stand for while a run goes on, and where it broke off.
-use Rattle.std.specs.Prelude.{ℕ, ◌≡◌, ◌⊎◌, ◌<◌, ◌^◌, true, All, List, Contains, map}
+use Rattle.std.specs.Prelude.{◌≡◌, ◌⊎◌, ◌<◌, ◌^◌, true, All, List, Contains, map}
 use Rattle.std.proofs.lemmas.List.Elements.{All-weaker}
 use Rattle.std.proofs.Common.{inl, inr}
 use Rattle.base_types.specs.declared.epoch.Epoch.{Epoch}

@@ -15,7 +15,6 @@ use Rattle.model_laws.specs.EntryLaws.{found-has, found-passes}
 use Rattle.model_laws.specs.Lists.{at-within}
 use Rattle.model_laws.specs.Members.{Has, any-has, has-filter, has-from_contains, has-from_filter, has-from_map}
 use Rattle.model_laws.specs.TargetLaws.{number_same}
-use Rattle.daos_model.specs.declared.durable.Version.{Version}
 use Rattle.daos_model.specs.BoolLaws.{both, clash}
 use Rattle.daos_model.specs.Durables.{entry_of, is_entry_of}
 use Rattle.daos_model.specs.Opening.{Given, Opening}
@@ -50,7 +49,6 @@ use Rattle.world_commit.specs.fates.Facts.{IsSaidSo, down_in}
 use Rattle.world_letters.specs.lives.Lives.{standing_of}
 use Rattle.world_commit.specs.questions.Facts.{IsAsked, IsNamed, IsOnNaming, IsOnQuery, IsTold, IsToldOrStopped, LeaderStopped}
 use Rattle.world_commit.specs.questions.Facts as fact
-use Rattle.world_plain.specs.whole.Begins.{held_at}
 use Rattle.world_closing.specs.asked.Runs.{ended-all_over, runs-have_all, still-all_over}
 use Rattle.world_plain.specs.ends.Ends.{rules_of}
 use Rattle.run_laws.specs.reports.Legal as legal

@@ -33,7 +33,6 @@ use Rattle.world_base.specs.Idle.{has_idle}
 use Rattle.world_base.specs.Letters.{client, target}
 use Rattle.world_base.specs.Roles.{leader_at, member_at}
 use Rattle.world_base.specs.Stops.{Begins, Draws as NumbersAreDrawn, Fails, Further, GivenUp, Goes, Happening, IsCut, Opens, Plainly, WorldEvent, WorldRun}
-use Rattle.world_plain.specs.whole.Begins.{held_at}
 use Rattle.run_laws.specs.reports.Inquiries.{AnswersOne, AsksNow, InquiriesCome, InquiryComes, IsAnswered, IsAsked, IsSettling, LetterComes, Stays, WasFlying, inquiries-come, swept-come}
 
 -- ---- idle work has asked nothing

@@ -1,30 +1,26 @@
 -- How often targets stopped, and why, is accounted for after a turn.
-use Rattle.std.specs.Prelude.{ℕ, zero, suc, ◌≡◌, ◌≤◌, ◌<◌, ◌+◌, ◌-◌, ◌*◌, ◌^◌, ◌==◌, ◌⊎◌, ◌&&◌, ◌++◌, List, [], ◌∷◌, filter, length, min, nat_lt, slice_get, slice_set, Bool, true, false, Contains, Option, Some, None, is_some, refl, if◌then◌else◌}
-use Rattle.std.proofs.Common.{append-nil, get_or, inl, inr, sym, ◌∙◌, ap, subst, arith}
-use Rattle.std.proofs.lemmas.Bool.{cases_eq}
+use Rattle.std.specs.Prelude.{ℕ, ◌≡◌, ◌≤◌, ◌<◌, ◌+◌, ◌-◌, ◌^◌, ◌⊎◌, ◌&&◌, ◌++◌, List, ◌∷◌, filter, length, min, nat_lt, slice_get, Bool, true, false, Option, Some, None, is_some, refl, if◌then◌else◌}
+use Rattle.std.proofs.Common.{append-nil, get_or, inl, inr, sym, ◌∙◌, ap, arith}
 use Rattle.std.proofs.lemmas.Bool.Decides.{nat_tests}
 use Rattle.std.specs.List.{after_first, before_first, position_or_len}
 use Rattle.std.proofs.lemmas.List.{length-append, drop_all, take_all}
 use Rattle.std.proofs.lemmas.List.Sums.{passes_at_first, split_at_first}
 use Rattle.std.proofs.lemmas.Option.{slice_get_cases}
 use Rattle.base_messages.specs.declared.actor.ActorId.{ActorId}
-use Rattle.base_outside.specs.Causes.{Rose, one_more}
-use Rattle.base_types.specs.declared.report.Line.{Line}
+use Rattle.base_outside.specs.Causes.{Rose}
 use Rattle.base_types.specs.declared.script.StopDecl.{StopDecl}
 use Rattle.daos_model.specs.Stops.{down_targets, is_stop_at}
 use Rattle.daos_model.specs.declared.durable.Durable.{Durable}
-use Rattle.model_laws.specs.Members.{Has, contains-from_has, has-cases, has-from_contains}
 use Rattle.run_laws.specs.shows.Going.{AreFindable, found-some, some-found, was}
 use Rattle.run_laws.specs.shows.Parts.{IsTurnSo, filter-both}
-use Rattle.run_laws.specs.shows.Accounts.{AtMostRises, IsAccounted, one_if, stop_lines_of, stops_told_in}
+use Rattle.run_laws.specs.shows.Accounts.{AtMostRises, one_if, stop_lines_of, stops_told_in}
 use Rattle.run_laws.specs.shows.Shows.{IsGoing, Leads}
 use Rattle.run_laws.specs.shows.Stages.{StageNow}
 use Rattle.run_laws.specs.turns.StopLines.{one_or_none, turns-tell_stops}
 use Rattle.run_watch.specs.Watches.{next_fuse, write_of}
 use Rattle.target_core.specs.Targets.{TargetOf}
-use Rattle.vos_store.specs.Calls.{Ailed, Fires, IsFuseGone, SetsFuse, State}
+use Rattle.vos_store.specs.Calls.{Fires, State}
 use Rattle.world_base.specs.Letters.{without_first}
-use Rattle.world_base.specs.StepLaws.{set-is, set-there}
 use Rattle.world_letters.specs.lives.Adding.{stops_of}
 
 -- ---- what the lines tell

@@ -37,7 +37,7 @@ use Rattle.world_base.specs.declared.did.Did.{Did}
 use Rattle.world_base.specs.ClientTurns.{Ended_by, GoesOn, HearTurn, Heard_on, Move, Moves, NextTurn, None_yet, One_more, Skipped, Went_on, about, answered, asks_again, asks_or_goes, at_present, attempt_id, attempt_moves, begins_at, begun, command_at, command_moves, commits, condition_told, ends, first_epoch, goes, group_count, group_told, heard, heard_at, hears_epochs, is_about, is_yes, joined, knows, listed, moved, moves_at, next_stage, op_moves, op_of, op_told, question, read_told, replied, reset, reset_by, rests, run_moves, snaps_known, told_at, waits}
 use Rattle.world_letters.specs.clients.AnswerLaws.{Tells, ops-here}
 use Rattle.world_letters.specs.clients.Answered.{IsAnswered, IsAnsweredHere, IsAnsweredWhole, conditions_due, ops_here, ops_numbered}
-use Rattle.world_letters.specs.clients.AnsweredLaws.{condition_number, conditions-next}
+use Rattle.world_letters.specs.clients.AnsweredLaws.{conditions-next}
 use Rattle.world_letters.specs.clients.MoveLaws.{IsAt, is-at, tells-end, tells-nothing, told_end}
 use Rattle.world_letters.specs.clients.Standing.{tells}
 

@@ -6,13 +6,11 @@ use Rattle.std.specs.Prelude.{ℕ, ◌≡◌, false, Bool, List, [], length, sli
 use Rattle.std.proofs.Common.{inl, inr, sym, ◌∙◌, ap, subst}
 use Rattle.std.proofs.Math.ListN.{set}
 use Rattle.std.proofs.lemmas.Bool.{cases_eq}
-use Rattle.base_messages.specs.declared.message.Message.{Message}
 use Rattle.daos_model.specs.declared.durable.Durable.{Durable}
-use Rattle.run_base.specs.Letters.{BetweenNow, IsPicked}
+use Rattle.run_base.specs.Letters.{BetweenNow}
 use Rattle.target_core.specs.Targets.{TargetOf}
 use Rattle.target_parts.specs.declared.stop.TargetStop.TheVariants as stop
 use Rattle.vos_store.specs.Calls.{State}
-use Rattle.world_base.specs.declared.letter.Letter.{Letter}
 use Rattle.world_base.specs.declared.target.Life.{Life}
 use Rattle.world_base.specs.declared.target.Life.TheVariants.{Down, Running, Stopped}
 use Rattle.world_base.specs.declared.target.TargetState.{TargetState}
@@ -21,7 +19,7 @@ use Rattle.world_base.specs.CutTurns.{Cutting}
 use Rattle.world_base.specs.Events.{Rules, target_plan}
 use Rattle.world_base.specs.Letters.{Takes, target}
 use Rattle.world_base.specs.StepLaws.{set-is, set-there}
-use Rattle.world_base.specs.Stops.{AtWork, CutOf, Goes, Hearing, IdleWork, IsCut, IsInHand, WorldEvent, WorldRun, after_cut, stopped_at, swept}
+use Rattle.world_base.specs.Stops.{AtWork, CutOf, Goes, Hearing, IdleWork, IsCut, IsInHand, WorldRun, after_cut, stopped_at, swept}
 use Rattle.run_laws.specs.shows.Going.{AreSteady}
 use Rattle.run_laws.specs.shows.ListLaws.{length-set}
 use Rattle.run_laws.specs.shows.Parts.{IsThere, at-both, is-set, picked-takes, place-of, target-there}

@@ -11,7 +11,6 @@ use Rattle.target_core.specs.Targets.{CanHear, TargetOf}
 use Rattle.target_parts.specs.Knowing.{IsHeard}
 use Rattle.vos_store.specs.Calls.{State}
 use Rattle.world_base.specs.declared.letter.Letter.{Letter}
-use Rattle.world_base.specs.declared.target.Life.{Life}
 use Rattle.world_base.specs.declared.target.Life.TheVariants.{Running, Stopped}
 use Rattle.world_base.specs.Events.{Rules, client_plan, target_plan}
 use Rattle.world_base.specs.Letters.{target}

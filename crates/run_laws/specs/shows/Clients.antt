@@ -1,5 +1,5 @@
 -- A client's turn leads from a world that the actors show to one that they show then.
-use Rattle.std.specs.Prelude.{ℕ, ◌≡◌, ◌++◌, List, length, map, slice_get, slice_set, Bool, Option, Some, None, refl}
+use Rattle.std.specs.Prelude.{ℕ, ◌≡◌, List, slice_get, Bool, Option, Some, None, refl}
 use Rattle.std.proofs.Common.{sym, ◌∙◌, ap, subst}
 use Rattle.std.proofs.Math.ListN.{set}
 use Rattle.client_core.specs.Clients.{ClientNow}

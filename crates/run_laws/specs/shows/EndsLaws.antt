@@ -1,13 +1,12 @@
 -- Attempts end well, whatever turns follow one another.
 use Rattle.target_snaps.specs.Following.{TellsNoAttempt}
-use Rattle.std.specs.Prelude.{ℕ, ◌≡◌, ◌≤◌, ◌+◌, ◌++◌, ◌==◌, Bool, true, false, All, List, [], ◌∷◌, filter, map, slice_get, slice_set, Option, Some, None, Result, Ok, Err, IfOk, is_ok, refl, if◌then◌else◌}
-use Rattle.std.proofs.Common.{append-nil, inl, inr, sym, ◌∙◌, ap, subst, arith}
+use Rattle.std.specs.Prelude.{ℕ, ◌≡◌, ◌++◌, Bool, true, false, All, List, [], ◌∷◌, filter, map, slice_get, slice_set, Option, Some, None, Result, Err, IfOk, refl}
+use Rattle.std.proofs.Common.{inl, inr, sym, ◌∙◌, ap, subst, arith}
 use Rattle.std.proofs.lemmas.Bool.{cases_eq}
 use Rattle.std.proofs.lemmas.List.Elements.{All-append, All-map, All-nil, All-weaker}
 use Rattle.base_types.specs.declared.epoch.Epoch.{Epoch}
 use Rattle.base_types.specs.declared.id.AttemptId.{AttemptId}
 use Rattle.base_types.specs.declared.operation.Op.{Op}
-use Rattle.base_types.specs.declared.operation.Read.{Read}
 use Rattle.base_types.specs.declared.outcome.Outcome.{Outcome}
 use Rattle.base_types.specs.declared.outcome.Outcome.TheVariants as outcome
 use Rattle.base_types.specs.declared.report.Attempt.{Attempt}
@@ -15,7 +14,6 @@ use Rattle.base_types.specs.declared.report.Line.{Line}
 use Rattle.base_types.specs.declared.report.Line.TheVariants as line
 use Rattle.base_types.specs.declared.script.Script.{Script}
 use Rattle.base_messages.specs.declared.actor.ActorId.{ActorId}
-use Rattle.base_messages.specs.declared.message.Message.{Message}
 use Rattle.base_messages.specs.declared.message.Post.{Post}
 use Rattle.client_core.specs.Clients.{ClientNow}
 use Rattle.daos_model.specs.declared.durable.Durable.{Durable}
@@ -29,15 +27,13 @@ use Rattle.run_base.specs.Sweeps.{is_left_by, is_lost_by}
 use Rattle.run_laws.specs.shows.Asked.{AllTellInOrder, CameInOrder, TellsInOrder}
 use Rattle.run_laws.specs.shows.AskedLaws.{IsWholeOrInOrder, hear-turn-so, next-turn-so, whole-in-order}
 use Rattle.run_laws.specs.shows.Ends.{AllGoWith, AllWaitWith, BetweenGoes, EndsGoOn, IsEndingClient, LettersGoWith, TellsOn}
-use Rattle.run_laws.specs.shows.InTurn.{TellInTurn}
 use Rattle.run_laws.specs.shows.InTurnLaws.{client-tells, line-alone, none-tried, one-line, target-tells, turned-lines}
 use Rattle.run_laws.specs.shows.Kinds.{AnswersGoOn, loads_of}
 use Rattle.run_laws.specs.shows.KindsLaws.{client-goes-on, fault-lives, picked-load, script-ops, target-goes-on}
 use Rattle.run_laws.specs.shows.Lettered.{has-asked}
-use Rattle.run_laws.specs.shows.Openings.{AfterOpening}
 use Rattle.run_laws.specs.shows.Stages.{IsPlace, StageNow}
 use Rattle.run_laws.specs.shows.Steps.{ClientTurned, ClientWorks, Cut, HeardOne, NotOpened, Opened, OpeningEnds, Reopened, TargetTurned, WentOn, Whole, WorkEnds, Worked}
-use Rattle.run_laws.specs.shows.Turned.{AfterFailure, AfterStop, ByForeign, ByHearing, ByIdling, ByStop, Failed, IsTurned, LastTime, NotFailed, failed_stage, followed, given_up_stage, stopped_stage, swept_between, swept_stage, with_between, with_client_at, with_target_at}
+use Rattle.run_laws.specs.shows.Turned.{AfterFailure, AfterStop, ByForeign, ByHearing, ByIdling, ByStop, Failed, IsTurned, LastTime, NotFailed, followed, given_up_stage, stopped_stage, swept_between, swept_stage, with_between, with_client_at, with_target_at}
 use Rattle.run_watch.specs.Watches.{fuse_set, opened_again, opening_tried}
 use Rattle.target_core.specs.Targets.{TargetOf}
 use Rattle.target_parts.specs.declared.stop.TargetStop.{TargetStop}
@@ -61,7 +57,6 @@ use Rattle.world_letters.specs.clients.Standing.{number_of}
 use Rattle.world_ended.specs.Asking.{Asked, GoesWith, PostsGoWith, RemembersWith, TurnLeavesWith, TurnsEndAsked}
 use Rattle.world_ended.specs.Clients.{AllEndWell, AreMore, HasEndedWell, LeavesWell}
 use Rattle.world_ended.specs.ClientLaws.{asking-others, clients-begin-asking, goes-more, hear-turn-well, next-turn-well, reset-goes}
-use Rattle.world_letters.specs.kinds.Loads.{load}
 use Rattle.world_letters.specs.lines.FilledLaws.{stands-of, tries-filled}
 use Rattle.world_letters.specs.lines.Lines.{filled}
 

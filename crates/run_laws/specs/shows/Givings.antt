@@ -6,19 +6,17 @@ use Rattle.base_types.specs.declared.report.Line.TheVariants as line
 use Rattle.daos_model.specs.declared.durable.Durable.{Durable}
 use Rattle.run_laws.specs.shows.Parts.{IsThere, IsTurnSo, is-set, set-same, swept-shown, target-shown, target-there}
 use Rattle.run_laws.specs.shows.ListLaws.{length-set}
-use Rattle.run_laws.specs.shows.Shows.{IsLed, IsTargetOf, Leads, Shows, WasReached}
+use Rattle.run_laws.specs.shows.Shows.{IsTargetOf, Leads, Shows}
 use Rattle.run_laws.specs.shows.Stages.{AreFound, IsPlace, StageNow}
-use Rattle.run_laws.specs.shows.Turned.{AfterStop, Failed, LastTime, NotFailed, failed_stage, given_up_between, given_up_stage, swept_stage}
+use Rattle.run_laws.specs.shows.Turned.{AfterStop, Failed, LastTime, NotFailed, failed_stage, given_up_stage, swept_stage}
 use Rattle.run_laws.specs.turns.Raising.{raised_by}
-use Rattle.run_laws.specs.turns.Turns.{Acts, Doing, GivesUp, GivingUp, IsFault, IsNoOpening}
+use Rattle.run_laws.specs.turns.Turns.{Acts, Doing, GivingUp, IsFault, IsNoOpening}
 use Rattle.world_letters.specs.lives.Events.{stops_in}
 use Rattle.run_watch.specs.Watches.{WatchNow, after_fault, with_life}
 use Rattle.target_core.specs.Targets.{TargetOf}
 use Rattle.vos_store.specs.Calls.{State}
-use Rattle.base_messages.specs.declared.actor.ActorId.{ActorId}
 use Rattle.world_base.specs.declared.letter.Letter.{Letter}
-use Rattle.world_base.specs.declared.target.Life.{Life}
-use Rattle.world_base.specs.declared.target.Life.TheVariants.{Down, Running, Stopped}
+use Rattle.world_base.specs.declared.target.Life.TheVariants.{Down, Stopped}
 use Rattle.world_base.specs.declared.target.TargetState.{TargetState}
 use Rattle.world_base.specs.declared.world.World.{World}
 use Rattle.world_base.specs.Events.{Rules, target_plan, with_target}

@@ -1,6 +1,6 @@
 -- What goes on once turns led from one stage to another.
 use Rattle.run_laws.specs.turns.Drawn.{turn-runs-on}
-use Rattle.std.specs.Prelude.{ℕ, ◌≡◌, ◌≤◌, ◌<◌, ◌+◌, ◌*◌, ◌^◌, List, slice_get, Bool, true, false, Option, Some, None, is_some, refl}
+use Rattle.std.specs.Prelude.{ℕ, ◌≡◌, ◌≤◌, ◌+◌, ◌^◌, slice_get, Bool, true, false, Option, Some, None, is_some}
 use Rattle.std.proofs.Common.{inl, inr, sym, ◌∙◌, ap, subst, arith}
 use Rattle.std.proofs.lemmas.Bool.{cases_eq}
 use Rattle.base_messages.specs.declared.actor.ActorId.{ActorId}
@@ -8,7 +8,7 @@ use Rattle.daos_model.specs.Durables.{empty_durable}
 use Rattle.daos_model.specs.declared.durable.Durable.{Durable}
 use Rattle.run_laws.specs.shows.Reopening.{choosing, chosen, others}
 use Rattle.run_laws.specs.shows.Parts.{IsTurnSo, at-both, place-of, target-there}
-use Rattle.run_laws.specs.shows.Shows.{IsCounted, IsGoing, IsReached, IsTargetOf, Leads, Shows, WasReached}
+use Rattle.run_laws.specs.shows.Shows.{IsCounted, IsGoing, IsReached, IsTargetOf, Leads, WasReached}
 use Rattle.run_laws.specs.shows.Stages.{AreFound, IsPlace, StageNow}
 use Rattle.run_laws.specs.turns.Raising.{turns-raise}
 use Rattle.target_core.specs.Targets.{TargetOf}
@@ -16,8 +16,7 @@ use Rattle.vos_store.specs.Calls.{State}
 use Rattle.world_base.specs.declared.target.Life.{Life}
 use Rattle.world_base.specs.declared.target.Life.TheVariants.{Down, Running, Stopped}
 use Rattle.world_base.specs.declared.target.TargetState.{TargetState}
-use Rattle.world_base.specs.declared.world.World.{World}
-use Rattle.world_base.specs.Events.{Rules, target_plan}
+use Rattle.world_base.specs.Events.{target_plan}
 
 -- something may be found of each store that tells what it keeps
 abbrev pub AreFindable : {S : Type 0} → (S → Option Durable) → (S → Durable → Type 0) → Type 0

@@ -1,6 +1,6 @@
 -- What the lines tell of each client's commands begins in turn, whatever turns follow one another.
 use Rattle.target_snaps.specs.Following.{TellsNoAttempt}
-use Rattle.std.specs.Prelude.{ℕ, ◌≡◌, ◌<◌, ◌+◌, ◌++◌, Bool, List, [], ◌∷◌, filter, length, map, slice_get, slice_set, Option, Some, None, Result, Ok, Err, IfOk, refl}
+use Rattle.std.specs.Prelude.{ℕ, ◌≡◌, ◌<◌, ◌++◌, Bool, List, [], ◌∷◌, filter, length, map, slice_get, slice_set, Option, Some, None, Result, Err, IfOk, refl}
 use Rattle.std.proofs.Common.{append-nil, inl, inr, sym, ◌∙◌, ap, subst}
 use Rattle.std.proofs.lemmas.Bool.{cases_eq}
 use Rattle.base_types.specs.declared.epoch.Epoch.{Epoch}
@@ -17,7 +17,7 @@ use Rattle.run_base.specs.Letters.{BetweenNow}
 use Rattle.run_laws.specs.shows.InTurn.{AllBeginInTurn, BeginsInTurn, HasItsLines, TellInTurn}
 use Rattle.run_laws.specs.shows.ListLaws.{length-set}
 use Rattle.run_laws.specs.shows.Stages.{StageNow}
-use Rattle.run_laws.specs.shows.Steps.{ClientTurned, ClientWorks, Cut, HeardOne, NotOpened, Opened, OpeningEnds, Reopened, TargetReopened, TargetTurned, TargetWorked, WentOn, Whole, WorkEnds, Worked}
+use Rattle.run_laws.specs.shows.Steps.{ClientTurned, ClientWorks, Cut, HeardOne, NotOpened, Opened, OpeningEnds, Reopened, TargetTurned, WentOn, Whole, WorkEnds, Worked}
 use Rattle.run_laws.specs.shows.Turned.{AfterFailure, AfterStop, ByForeign, ByHearing, ByIdling, ByStop, Failed, IsTurned, LastTime, NotFailed, followed, swept_stage, with_between, with_client_at}
 use Rattle.run_watch.specs.Watches.{opening_tried}
 use Rattle.target_core.specs.Targets.{TargetOf}

@@ -1,7 +1,7 @@
 -- What lines tell of answers and conditions fits, whatever turns follow one another.
 use Rattle.target_snaps.specs.Following.{TellsNoAttempt}
-use Rattle.std.specs.Prelude.{ℕ, zero, suc, ◌≡◌, ◌≤◌, ◌<◌, ◌+◌, ◌++◌, not, Bool, true, false, All, List, [], ◌∷◌, filter, map, slice_get, slice_set, Option, Some, None, Result, Ok, Err, IfOk, is_ok, ◌==◌, refl, if◌then◌else◌}
-use Rattle.std.proofs.Common.{append-nil, inl, inr, sym, ◌∙◌, ap, subst, arith}
+use Rattle.std.specs.Prelude.{ℕ, zero, suc, ◌≡◌, ◌≤◌, ◌+◌, ◌++◌, Bool, true, false, All, List, [], ◌∷◌, filter, map, slice_get, slice_set, Option, Some, None, Result, Ok, Err, IfOk, is_ok, ◌==◌, refl, if◌then◌else◌}
+use Rattle.std.proofs.Common.{inl, inr, sym, ◌∙◌, ap, subst, arith}
 use Rattle.std.proofs.lemmas.Bool.{cases_eq}
 use Rattle.std.proofs.lemmas.List.Elements.{All-append, All-map, All-nil, All-weaker}
 use Rattle.base_types.specs.declared.epoch.Epoch.{Epoch}
@@ -13,7 +13,6 @@ use Rattle.base_types.specs.declared.report.Line.TheVariants as line
 use Rattle.base_types.specs.declared.script.Command.{Command}
 use Rattle.base_types.specs.declared.script.Script.{Script}
 use Rattle.base_messages.specs.declared.actor.ActorId.{ActorId}
-use Rattle.base_messages.specs.declared.message.Message.{Message, more_of-Message}
 use Rattle.base_messages.specs.declared.message.Post.{Post}
 use Rattle.client_core.specs.Clients.{ClientNow}
 use Rattle.daos_model.specs.declared.durable.Durable.{Durable}
@@ -35,7 +34,6 @@ use Rattle.target_parts.specs.declared.stop.TargetStop.{TargetStop}
 use Rattle.target_resync.specs.Openings.{TellsRestart}
 use Rattle.vos_store.specs.Calls.{State}
 use Rattle.world_letters.specs.kinds.PostLaws.{CarryNone}
-use Rattle.world_base.specs.declared.client.ClientPlan.{ClientPlan}
 use Rattle.world_base.specs.declared.did.Did.{Did}
 use Rattle.world_base.specs.declared.letter.Letter.{Letter}
 use Rattle.world_base.specs.declared.target.Life.{Life}
@@ -43,7 +41,7 @@ use Rattle.world_base.specs.declared.target.Life.TheVariants.{Down, Running, Sto
 use Rattle.world_base.specs.ClientTurns.{HearTurn, NextTurn}
 use Rattle.world_base.specs.Events.{Rules, client_plan, commands_or_none, with_epoch}
 use Rattle.world_base.specs.Letters.{client, letter_of, letters_of, target}
-use Rattle.world_base.specs.StepLaws.{set-here, set-is, set-there}
+use Rattle.world_base.specs.StepLaws.{set-is, set-there}
 use Rattle.world_base.specs.Stops.{is_not_to, is_to, reset_letter, resets, stops_so_far}
 use Rattle.world_letters.specs.clients.Answered.{ops_numbered}
 use Rattle.world_letters.specs.clients.Standing.{HasTold}

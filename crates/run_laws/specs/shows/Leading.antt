@@ -2,16 +2,15 @@
 use Rattle.run_laws.specs.turns.Turns.{IsNumberNext}
 use Rattle.run_laws.specs.turns.Drawn.{AreDrawn, next-fresh}
 use Rattle.run_base.specs.Numbers.{next_aggregate}
-use Rattle.std.specs.Prelude.{ℕ, ◌≡◌, List, slice_get, slice_set, Bool, true, false, Option, Some, None, Ok, refl}
+use Rattle.std.specs.Prelude.{ℕ, ◌≡◌, List, slice_get, Bool, true, false, Option, Some, None, Ok, refl}
 use Rattle.std.proofs.Common.{inl, inr, sym, ◌∙◌, ap, subst}
 use Rattle.std.proofs.lemmas.Bool.{cases_eq}
-use Rattle.base_messages.specs.declared.message.Message.{Message}
 use Rattle.daos_model.specs.declared.durable.Durable.{Durable}
 use Rattle.run_base.specs.Letters.{BetweenNow, IsPicked}
 use Rattle.run_base.specs.Picks.{count_to}
 use Rattle.run_laws.specs.shows.Parts.{IsTurnSo, follow-shown, picked-takes, set-same, swept-shown, target-shown, target-there, IsThere}
 use Rattle.run_laws.specs.shows.Shows.{IsLed, IsTargetOf, Leads, Shows}
-use Rattle.run_laws.specs.shows.Stages.{AreFound, IsPlace, StageNow}
+use Rattle.run_laws.specs.shows.Stages.{IsPlace, StageNow}
 use Rattle.run_laws.specs.shows.Turned.{ByHearing, ByIdling, IsTurned, followed, swept_stage, with_between, with_target_at}
 use Rattle.run_laws.specs.turns.Turns.{Doing}
 use Rattle.target_core.specs.Targets as heard

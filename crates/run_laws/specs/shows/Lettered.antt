@@ -1,15 +1,15 @@
 -- Letters stay in form, whatever becomes of them.
-use Rattle.std.specs.Prelude.{ℕ, ◌≡◌, ◌⊎◌, ◌≤◌, ◌<◌, ◌+◌, ◌++◌, ◌==◌, ◌&&◌, not, true, false, Bool, List, [], ◌∷◌, filter, length, map, slice_get, Contains, Option, Some, None, refl, if◌then◌else◌}
-use Rattle.std.proofs.Common.{drop, inl, inr, suc, take, zero, sym, ◌∙◌, ap, subst, arith}
+use Rattle.std.specs.Prelude.{ℕ, ◌≡◌, ◌⊎◌, ◌≤◌, ◌<◌, ◌+◌, ◌++◌, ◌==◌, not, true, false, Bool, List, [], ◌∷◌, filter, length, map, slice_get, Option, Some, None, refl, if◌then◌else◌}
+use Rattle.std.proofs.Common.{drop, inl, inr, suc, take, zero, sym, subst, arith}
 use Rattle.std.proofs.lemmas.Bool.Decides.{nat_tests}
 use Rattle.std.proofs.lemmas.Option.{slice_get_within}
 use Rattle.base_messages.specs.declared.actor.ActorId.{ActorId}
 use Rattle.base_messages.specs.declared.message.Post.{Post}
 use Rattle.daos_model.specs.BoolLaws.{and_left, and_right}
-use Rattle.model_laws.specs.Members.{Has, contains-from_has, has-cases, has-from_contains, has-from_filter, has-from_map, has-left, has-right}
+use Rattle.model_laws.specs.Members.{Has, has-cases, has-from_filter, has-from_map}
 use Rattle.run_base.specs.Letters.{BetweenNow}
 use Rattle.run_base.specs.Sweeps.{is_down_in, is_given_up_there, is_left_by, is_lost_by}
-use Rattle.run_laws.specs.shows.Turned.{cut_between, followed, given_up_between, swept_between}
+use Rattle.run_laws.specs.shows.Turned.{followed, swept_between}
 use Rattle.world_base.specs.declared.did.Did.{Did}
 use Rattle.world_base.specs.declared.letter.Letter.{Letter}
 use Rattle.world_base.specs.declared.target.Life.{Life}

@@ -1,5 +1,5 @@
 -- A target that is stopped opens again, or fails to.
-use Rattle.std.specs.Prelude.{ℕ, ◌≡◌, ◌≤◌, ◌<◌, ◌+◌, ◌⊎◌, ◌==◌, ◌++◌, All, List, [], ◌∷◌, filter, map, slice_get, slice_set, Bool, true, false, Option, Some, None, Ok, refl, if◌then◌else◌}
+use Rattle.std.specs.Prelude.{ℕ, ◌≡◌, ◌≤◌, ◌+◌, ◌⊎◌, ◌==◌, ◌++◌, All, List, [], ◌∷◌, filter, map, slice_get, slice_set, Bool, true, false, Option, Some, None, refl, if◌then◌else◌}
 use Rattle.std.proofs.Common.{append-nil, zero, suc, inl, inr, sym, ◌∙◌, ap, subst, arith}
 use Rattle.std.proofs.lemmas.Bool.{cases_eq}
 use Rattle.std.proofs.lemmas.Bool.Decides.{nat_tests}
@@ -10,20 +10,18 @@ use Rattle.daos_model.specs.Changes.{reopened}
 use Rattle.model_laws.specs.Members.{Has}
 use Rattle.model_laws.specs.TargetLaws.{same_number}
 use Rattle.daos_model.specs.declared.durable.Durable.{Durable}
-use Rattle.run_base.specs.Letters.{BetweenNow}
 use Rattle.run_laws.specs.shows.Parts.{IsThere, IsTurnSo, is-set, set-same, swept-shown, target-shown, target-there}
 use Rattle.run_laws.specs.shows.Givings.{FaultBy}
 use Rattle.run_laws.specs.shows.Openings.{HasFuse}
-use Rattle.run_laws.specs.shows.Shows.{IsFoundFrom, IsLed, IsTargetOf, Leads, Shows, WasReached}
+use Rattle.run_laws.specs.shows.Shows.{IsFoundFrom, IsTargetOf, Leads, Shows, WasReached}
 use Rattle.run_laws.specs.shows.Stages.{AreFound, IsPlace, StageNow}
-use Rattle.run_laws.specs.shows.Turned.{followed, swept_stage, with_between}
+use Rattle.run_laws.specs.shows.Turned.{followed, swept_stage}
 use Rattle.run_laws.specs.turns.Turns.{Acts, Opening}
 use Rattle.run_watch.specs.Watches.{WatchNow}
 use Rattle.target_core.specs.Targets.{OpensAs, TargetOf}
 use Rattle.target_resync.specs.Openings.{Left, opening_did, opening_floor}
 use Rattle.vos_store.specs.Calls.{State}
 use Rattle.world_base.specs.declared.did.Did.{Did}
-use Rattle.world_base.specs.declared.target.Life.{Life}
 use Rattle.world_base.specs.declared.target.Life.TheVariants.{Running, Stopped}
 use Rattle.world_base.specs.declared.target.TargetState.{TargetState}
 use Rattle.world_base.specs.declared.world.World.{World}

@@ -162,7 +162,6 @@ module _ {S C : Type 0} (a : StageNow S C) (actor : ActorId) where
 -- ---- those that have something to do, one by one
 
 module _ {S C : Type 0} (durable : S → Option Durable) (state : S → State) (settling : Bool) (stage : StageNow S C) where
-
   module _ (some due : List ActorId) (a : ActorId) (k : AreDue durable state settling stage some due) where
     one-due : (r : Rules) (w : World) (is : Bool) → is_due settling r w a ≡ is → due ≡ filter (is_due settling r w) some → due ++ (if is then a ∷ [] else []) ≡ filter (is_due settling r w) (some ++ a ∷ [])
     one-due r w is due-is shown =

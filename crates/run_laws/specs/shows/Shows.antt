@@ -4,7 +4,7 @@
 -- of what such stores would be found with; and a turn leads, whatever is found after it, from one of the choices before it.
 use Rattle.run_laws.specs.turns.Drawn.{AreDrawn}
 use Rattle.run_laws.specs.shows.Beginning.{RunBegins}
-use Rattle.std.specs.Prelude.{ℕ, ◌≡◌, ◌≤◌, ◌<◌, ◌+◌, ◌^◌, false, true, List, length, map, slice_get, Option, Some}
+use Rattle.std.specs.Prelude.{ℕ, ◌≡◌, ◌≤◌, ◌+◌, ◌^◌, false, true, length, map, slice_get, Option, Some}
 use Rattle.client_core.specs.Clients.{ClientNow}
 use Rattle.daos_model.specs.declared.durable.Durable.{Durable}
 use Rattle.daos_model.specs.Opening.{Opening}

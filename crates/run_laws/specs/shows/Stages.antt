@@ -1,5 +1,5 @@
 -- The actors of a run in which targets may stop, and what lies between them.
-use Rattle.std.specs.Prelude.{ℕ, ◌≡◌, List, map, slice_get, Option, Some}
+use Rattle.std.specs.Prelude.{ℕ, ◌≡◌, List, slice_get, Some}
 use Rattle.client_core.specs.Clients.{ClientNow}
 use Rattle.daos_model.specs.declared.durable.Durable.{Durable}
 use Rattle.run_base.specs.Letters.{BetweenNow}

@@ -1,7 +1,7 @@
 -- A target's turn that is cut leads to a world in which it is stopped, whatever it would be found with; and it may be given up then.
 use Rattle.run_laws.specs.turns.Drawn.{AreDrawn, next-fresh}
 use Rattle.run_base.specs.Numbers.{next_aggregate}
-use Rattle.std.specs.Prelude.{ℕ, ◌≡◌, ◌++◌, List, [], ◌∷◌, filter, slice_get, slice_set, not, Bool, true, false, Option, Some, Err, refl, if◌then◌else◌}
+use Rattle.std.specs.Prelude.{ℕ, ◌≡◌, ◌++◌, List, ◌∷◌, filter, slice_get, slice_set, not, Bool, false, Option, Some, Err, refl, if◌then◌else◌}
 use Rattle.std.proofs.Common.{inl, inr, sym, ◌∙◌, ap, subst}
 use Rattle.std.proofs.lemmas.Bool.{cases_eq}
 use Rattle.base_types.specs.declared.epoch.Epoch.{Epoch}
@@ -14,8 +14,8 @@ use Rattle.run_base.specs.Picks.{count_to}
 use Rattle.run_laws.specs.shows.Givings.{FaultBy}
 use Rattle.run_laws.specs.shows.Parts.{IsThere, filter-both, is-set, picked-takes, swept-shown, target-shown, target-there}
 use Rattle.run_laws.specs.shows.Shows.{IsLed, IsTargetOf, Leads, Shows}
-use Rattle.run_laws.specs.shows.Stages.{AreFound, IsPlace, StageNow}
-use Rattle.run_laws.specs.shows.Turned.{ByHearing, ByIdling, IsTurned, cut_between, given_up_between, given_up_stage, stopped_stage, swept_stage, with_between}
+use Rattle.run_laws.specs.shows.Stages.{IsPlace, StageNow}
+use Rattle.run_laws.specs.shows.Turned.{ByHearing, ByIdling, IsTurned, cut_between, stopped_stage, swept_stage}
 use Rattle.run_laws.specs.turns.Turns.{IsAtWork}
 use Rattle.run_watch.specs.Watches.{with_life}
 use Rattle.target_core.specs.Targets.{TargetOf, cutting}
@@ -23,7 +23,7 @@ use Rattle.target_parts.specs.declared.stop.TargetStop.TheVariants as stop
 use Rattle.vos_store.specs.Calls.{State}
 use Rattle.world_base.specs.declared.letter.Letter.{Letter}
 use Rattle.world_base.specs.declared.target.Life.{Life}
-use Rattle.world_base.specs.declared.target.Life.TheVariants.{Down, Running, Stopped}
+use Rattle.world_base.specs.declared.target.Life.TheVariants.{Running, Stopped}
 use Rattle.world_base.specs.declared.target.TargetState.{TargetState}
 use Rattle.world_base.specs.declared.world.World.{World}
 use Rattle.world_base.specs.Changes.{Kept}
@@ -31,8 +31,8 @@ use Rattle.world_base.specs.CutTurns.{Cutting, HearingIsCut, IdleWorkIsCut, list
 use Rattle.world_base.specs.Events.{Rules, kept, target_plan, with_target}
 use Rattle.world_base.specs.Letters.{Takes, target}
 use Rattle.world_base.specs.Roles.{is_prepared}
-use Rattle.world_base.specs.StepLaws.{set-is, set-there}
-use Rattle.world_base.specs.Stops.{AtWork, CutOf, GivenUp, Hearing, IdleWork, IsCut, IsInHand, TargetCut, WorldEvent, after_cut, is_not_to, is_to, no_memory, resets, stopped_at, swept, with_lost}
+use Rattle.world_base.specs.StepLaws.{set-there}
+use Rattle.world_base.specs.Stops.{AtWork, CutOf, Hearing, IdleWork, IsCut, IsInHand, after_cut, is_not_to, is_to, resets, stopped_at, swept}
 
 -- ---- letters
 

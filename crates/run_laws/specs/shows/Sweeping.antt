@@ -1,9 +1,8 @@
 -- Where no target is given up, nothing is lost.
 use Rattle.std.specs.Prelude.{ℕ, zero, suc, ◌≡◌, ◌++◌, ◌||◌, ◌&&◌, not, Bool, true, false, List, [], ◌∷◌, filter, map, refl, if◌then◌else◌}
-use Rattle.std.proofs.Common.{append-nil, inl, inr, sym, ◌∙◌, ap}
+use Rattle.std.proofs.Common.{append-nil, ◌∙◌, ap}
 use Rattle.std.specs.List.{list_any}
 use Rattle.model_laws.specs.Lists.{filter-all}
-use Rattle.model_laws.specs.Members.{Has}
 use Rattle.run_base.specs.Letters.{BetweenNow}
 use Rattle.run_base.specs.Sweeps.{is_down_in, is_left_by, is_lost_by}
 use Rattle.run_laws.specs.shows.Turned.{swept_between}

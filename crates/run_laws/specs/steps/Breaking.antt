@@ -29,7 +29,6 @@ use Rattle.world_base.specs.declared.did.Did.{Did}
 use Rattle.world_base.specs.declared.world.World.{World}
 use Rattle.world_base.specs.Events.{Rules}
 use Rattle.world_base.specs.Letters.{target}
-use Rattle.world_base.specs.Stops.{Goes}
 
 -- A run broke off and left these targets, where stores tell what they keep.
 abbrev pub Breaks : {S C : Type 0} → (S → Option Durable) → (S → State) → (S → Durable → Type 0) → StageNow S C → List (TargetOf S C) → Type 0

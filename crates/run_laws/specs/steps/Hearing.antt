@@ -1,6 +1,6 @@
 -- What goes to a target that runs it can hear.
 use Rattle.world_closing.specs.Below.{CanHearLetter, CanHearOfMaking, begins-well, runs-can_hear_all}
-use Rattle.std.specs.Prelude.{ℕ, ◌≡◌, ◌∷◌, All, true, false, List, Option, Some, None, refl}
+use Rattle.std.specs.Prelude.{ℕ, ◌≡◌, ◌∷◌, All, true, List, Option, Some, None, refl}
 use Rattle.std.proofs.Common.{inl, inr, sym, ◌∙◌, ap, subst}
 use Rattle.base_messages.specs.declared.message.Message.{Message}
 use Rattle.base_messages.specs.declared.message.Message.TheVariants as message
@@ -21,7 +21,6 @@ use Rattle.target_writes.specs.Checks.{AreNewAt}
 use Rattle.vos_store.specs.Calls.{State}
 use Rattle.world_base.specs.declared.letter.Letter.{Letter}
 use Rattle.world_base.specs.declared.target.Life.TheVariants.{Running}
-use Rattle.world_base.specs.declared.target.TargetPlan.{TargetPlan}
 use Rattle.world_base.specs.Commits.{own_writes}
 use Rattle.world_base.specs.Events.{Rules, target_plan}
 use Rattle.world_base.specs.Letters.{target}

@@ -1,5 +1,5 @@
 -- What an actor does adds at most one line of an aggregation, of the next number.
-use Rattle.std.specs.Prelude.{ℕ, ◌≡◌, ◌⊎◌, ◌++◌, Bool, true, List, [], ◌∷◌, map, refl}
+use Rattle.std.specs.Prelude.{ℕ, ◌≡◌, ◌⊎◌, ◌++◌, Bool, List, [], ◌∷◌, map, refl}
 use Rattle.std.proofs.Common.{append-nil, append_assoc, inl, inr, sym, ◌∙◌, ap, subst}
 use Rattle.base_messages.specs.declared.actor.ActorId.{ActorId}
 use Rattle.base_messages.specs.declared.message.Message.{Message}

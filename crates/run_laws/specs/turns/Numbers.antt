@@ -1,5 +1,5 @@
 -- Where turns are taken in an order, restarts and aggregations are counted by the lines.
-use Rattle.std.specs.Prelude.{ℕ, ◌≡◌, ◌<◌, ◌+◌, ◌++◌, Bool, false, nat_eq, List, [], ◌∷◌, length, Option, refl}
+use Rattle.std.specs.Prelude.{ℕ, ◌≡◌, ◌<◌, ◌+◌, ◌++◌, Bool, false, nat_eq, List, [], ◌∷◌, length, Option}
 use Rattle.std.proofs.Common.{append-nil, inl, inr, sym, ◌∙◌, ap, subst, arith}
 use Rattle.std.proofs.lemmas.Bool.Decides.{nat_tests}
 use Rattle.std.proofs.lemmas.List.{length-append}
@@ -7,13 +7,12 @@ use Rattle.base_messages.specs.declared.actor.ActorId.{ActorId}
 use Rattle.base_types.specs.declared.report.Line.{Line}
 use Rattle.daos_model.specs.Stops.{AreCounted, aggregate_numbers, restart_numbers}
 use Rattle.model_laws.specs.Members.{Has}
-use Rattle.run_base.specs.Numbers.{next_aggregate}
 use Rattle.run_laws.specs.turns.Aggregates.{AddsNext, done-new, done-numbers, given_up-new, given_up-numbers, next-counted}
 use Rattle.run_laws.specs.turns.Keeping.{order-keeps}
 use Rattle.run_laws.specs.turns.Orders.{InOrder}
-use Rattle.run_laws.specs.turns.Turns.{Doing, GivesUp, GivingUp, IsDoneBy, IsDraw, Opening, OpensBy, TurnOf}
+use Rattle.run_laws.specs.turns.Turns.{Doing, GivingUp, IsDraw, Opening, OpensBy, TurnOf}
 use Rattle.world_base.specs.declared.world.World.{World}
-use Rattle.world_base.specs.Events.{ByClient, ByTarget, Event, Rules, ToClient, ToTarget}
+use Rattle.world_base.specs.Events.{Rules}
 use Rattle.world_base.specs.Stops.{Draws, Fails, Further, GivenUp, Happening, IsCut, IsFreeRestart, NumbersDrawn, Opens, Plainly, TargetOpens, WorldEvent, restart_line}
 use Rattle.world_letters.specs.lives.Adding.{Adds, HasNew, NoNumber, OneNumber, aggregates-append, restart-apart, restarts-append}
 use Rattle.world_letters.specs.lives.Counting.{AreCountedSo}

@@ -1,5 +1,4 @@
 -- What a safe run gives: letters can be heard, lines are in order, and the report is in form.
-use Rattle.world_upheld.specs.below.Legal.{report_over}
 use Rattle.world_upheld.specs.below.Readers.{lines-begin_in_turn, lines-end_well}
 use Rattle.world_upheld.specs.hearing.Hearable.{all-heard_in_form, all-letters_can_be_heard}
 use Rattle.world_closing.specs.forming.Runs.{report-form}
