@@ -18,7 +18,8 @@ pub record IsUnasked (w : World) : Type 0 where
   pub clients : (n : ℕ) (c : ClientState) → slice_get w.clients n ≡ Some c → c.present ≡ None
   pub untold : tries w.lines ≡ []
 
--- From there answers have form, and reads that are asked have, at each moment, where what targets keep lies on paths with keys at each until then.
+-- From there answers have form, and reads that are asked have, at each moment, where what targets keep lies on paths with keys at each moment of runs
+-- from there.
 abbrev pub AllRunsAnswerInForm : Type 0
 AllRunsAnswerInForm =
     (r : Rules) (w v : World) → IsInForm r.script.targets r.script → IsUnasked w → ((u : World) → WorldRun r w u → TargetsHaveKeys u) → WorldRun r w v → AnswersInForm v × AsksAreInForm v

@@ -3,3 +3,4 @@ pub mod Safe
 pub mod Keyed
 pub mod Events
 pub mod Told
+pub mod Raising

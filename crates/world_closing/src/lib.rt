@@ -1,4 +1,5 @@
-// What a run comes to where it has ended, also where snapshots are made and read, and containers aggregated.
+// What any run comes to, also where snapshots are made and read, and containers aggregated: what goes on at each moment, and the legal report
+// where it has ended.
 #![tactic(auto)]
 
 pub mod asked;

@@ -1,24 +1,33 @@
 // What holds of any run, whatever its targets' versions stood for when it began.
-ghost use Rattle.world_closing.specs.safety.Safe.{AllEventsKeepKeys, AllEventsKeepSafety, AllRunsAreSafe, KeysBegin, SafeLettersCanBeHeard, SafeLinesAreInOrder, SafeReportsHaveForm, SafetyBegins};
+ghost use Rattle.world_closing.specs.safety.Raising.{AllEventsRaise};
+ghost use Rattle.world_closing.specs.safety.Safe.{AllEventsKeepKeys, AllEventsKeepSafety, AllRunsAreKeyed, AllRunsAreSafe, KeysBegin, SafeLettersCanBeHeard, SafeLinesAreInOrder, SafeReportsHaveForm, SafetyBegins, SafetyGoesOn};
 
-/// Says what goes on in any run of a script in form that rests on nothing that its targets' versions stood for when it
-/// began: replicas may have differed then, versions lain anywhere, and snapshots stood for whatever they like. All that
-/// is asked is that each target for itself left nothing to settle and kept no epoch above its lease, and that what target
-/// 0 holds as created is frozen at every target. A run begins so, and each event keeps it, whatever it is.
+/// Says what goes on in any run of a script in form, whatever its targets' versions stood for when it began: replicas may
+/// have differed then, versions lain anywhere, and snapshots stood for anything. A run begins so where each target left
+/// nothing to settle, keeps no version and no snapshot above its lease, and no epoch above the opening's top, and knows the
+/// script's containers; where what target 0 holds as created is frozen at every target, and the opening keeps some map for
+/// it; where clients know just such snapshots; and where no target holds more snapshots than the opening keeps maps of, by
+/// which places that are wanting are accounted for. Each event keeps it, whatever it is, of what was decided by then.
 ///
 /// Then each letter in flight to a running target has the form that the target asks for, and can be heard there by a
-/// store that tells what it keeps: containers are there, and of what is stored the attempt has no entry there, and no
-/// version the attempt's epoch. Leases cover what targets keep, also where they are stopped. The lines tell of each
-/// client's commands in turn; each attempt ended as its answers and conditions say; answers are of their reads' kinds;
-/// and each outcome shows its cause. Where names and keys of the script, and of what targets kept, are keys, those of
-/// answers are, and the report is at each moment in the form in which its text determines it.
+/// store that tells what it keeps: containers are there, and where it brings writes the target has no entry of their
+/// attempt and no version at its epoch. What answers for a snapshot or an aggregation comes from one of at most 64
+/// targets. Leases cover the versions and snapshots that targets keep, also where they are stopped; and a target's
+/// incarnation rises by one in an event in which it is opened, and in no other. The lines tell of each client's commands
+/// in turn; each attempt ended as its answers and conditions say; answers are of their reads' kinds; and each outcome
+/// shows its cause over dates. Where names and keys of the script, and of what targets kept, are keys, those of answers
+/// are at each moment; and where numbers of lines, attempts and incarnations fit their types too, the report is in the
+/// form in which its text determines it.
 pub fn laws_of_safety()
     ensures begin { SafetyBegins }
     ensures events { AllEventsKeepSafety }
+    ensures later { SafetyGoesOn }
     ensures runs { AllRunsAreSafe }
     ensures keys_begin { KeysBegin }
     ensures keys { AllEventsKeepKeys }
+    ensures keyed_runs { AllRunsAreKeyed }
     ensures heard { SafeLettersCanBeHeard }
+    ensures raised { AllEventsRaise }
     ensures lines { SafeLinesAreInOrder }
     ensures form { SafeReportsHaveForm }
 {}

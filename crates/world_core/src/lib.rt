@@ -1,7 +1,7 @@
 // The world of a run under one name: its types, whether a list of events is a run, and the laws of all facts together, whatever crate holds them. Those of
 // world_upheld, world_order and world_closing are of any run: each event, whatever it is, keeps all facts, a run begins with them, lines are in the order of
-// real time where they keep the bound, and where it has ended its report is legal. `laws_of_safety` says which of them rest on nothing that targets' versions
-// stood for when the run began. Those of world_plain are of runs without stops and snapshots, as the lists of `check_list` are.
+// real time where they keep the bound, and where it has ended its report is legal. `laws_of_safety` says what holds whatever targets' versions stood for when the
+// run began. Those of world_plain are of runs without stops and snapshots, as the lists of `check_list` are.
 #![tactic(auto)]
 
 pub use world_base::did::{Did, Issues};

@@ -21,9 +21,9 @@ use Rattle.world_making.specs.dates.Happening.{cut-dated, hears-dated, more-date
 use Rattle.world_making.specs.dates.Turning.{idles-dated}
 use Rattle.world_making.specs.freezings.Freezings.{IsOfSnap}
 use Rattle.world_upheld.specs.order.Serving.{FrozenAreMade}
-use Rattle.world_upheld.specs.upheld.Heard.{HeardUpheld}
+use Rattle.world_upheld.specs.upheld.Heard.{HeardGrounds}
 
-module _ (r : Rules) (o : Opening) (h : History) (w u : World) (k : HeardUpheld r o h w) where
+module _ (r : Rules) (o : Opening) (h : History) (w u : World) (k : HeardGrounds r o h w) where
   -- what was issued stays so
   issued-stays : (e : Happening r w u) → IsOfTarget e → (x : AttemptId) (f : Epoch) → Contains w.issued (x, f) → Contains u.issued (x, f)
   issued-stays (Plainly (ByClient g) up) ours x f i = absurd ours

@@ -10,7 +10,7 @@ ghost use Rattle.world_owners.specs.Versions.{AllEventsBringVersions, AllEventsK
 /// that a target keeps then it kept before, and it may be done since; or it is one of those writes. The entry's epoch is
 /// then issued, or the Commit bore it; and its attempt counts as stored, if the target had no entry of it. Where each
 /// version that isn't settled was of a prepared entry, and what is brought is new, it is so still. No lease falls, or
-/// rises above a clock's ticks. It is asked of nothing how it began, so it holds whatever targets kept at the opening.
+/// rises above a clock's ticks. Nothing is asked of how the run began, so it holds whatever targets kept at the opening.
 pub fn laws_of_kept_versions()
     ensures events { AllEventsLeaveOrStore }
     ensures versions { AllEventsBringVersions }

@@ -48,7 +48,7 @@ use Rattle.world_refusals.specs.Reads.{IsAskFit, IsAskedFitly}
 use Rattle.world_refusals.specs.Telling.{AllTellFitly, TellsFitly}
 use Rattle.world_refusals.specs.Turns.{IsHeardFitly, hears-fit, idle-fits}
 use Rattle.world_upheld.specs.upheld.Events.{given-before, nothing_held}
-use Rattle.world_upheld.specs.upheld.Heard.{HeardUpheld}
+use Rattle.world_upheld.specs.upheld.Heard.{HeardGrounds}
 
 -- ---- the statements
 
@@ -59,7 +59,7 @@ FitTellingBegins = (r : Rules) (w : World) → w.messages ≡ [] → AllTellFitl
 -- every event of a run of a script in form keeps it, where what is heard is upheld
 abbrev pub AllEventsKeepFitTelling : Type 0
 AllEventsKeepFitTelling =
-    (r : Rules) (o : Opening) (h : History) (w v : World) → HeardUpheld r o h w → WorldEvent r w v → AllTellFitly r w → AllTellFitly r v
+    (r : Rules) (o : Opening) (h : History) (w v : World) → HeardGrounds r o h w → WorldEvent r w v → AllTellFitly r w → AllTellFitly r v
 
 -- ---- what is sent beside what was in flight
 
@@ -117,7 +117,7 @@ module _ (r : Rules) where
 
 -- ---- targets
 
-module _ (r : Rules) (o : Opening) (h : History) (w : World) (H : HeardUpheld r o h w) (k : AllTellFitly r w) where
+module _ (r : Rules) (o : Opening) (h : History) (w : World) (H : HeardGrounds r o h w) (k : AllTellFitly r w) where
   given : Given r o nothing_held w
   given = given-before r o h w H
 
@@ -227,7 +227,7 @@ sweep-keeps r w k l i = elim (has-cases w.messages told l (has-from_filter (is_n
 
 -- ---- every event
 
-module _ (r : Rules) (o : Opening) (h : History) (w v : World) (H : HeardUpheld r o h w) (k : AllTellFitly r w) where
+module _ (r : Rules) (o : Opening) (h : History) (w v : World) (H : HeardGrounds r o h w) (k : AllTellFitly r w) where
   happening-keeps : Happening r w v → AllTellFitly r v
   happening-keeps (Plainly e up) = plain-keeps r o h w H k v e
   happening-keeps (Further f) = more-keeps r o h w H k f.number v f.hears

@@ -7,8 +7,8 @@ ghost use Rattle.world_upheld.specs.hearing.Runs.{AllRunsSendSo, RunsCanHearAll,
 ghost use Rattle.world_upheld.specs.hearing.Sent.{AllEventsKeepSent};
 
 /// Says that each event of a run, whatever it is, keeps it so that a Reset tells of one of the targets, and that a
-/// tracker is told to a client; and that what target 0 asks of the others for a snapshot or an aggregation, and what
-/// they answer, comes from a target and goes to another one. So it is at each moment of a run.
+/// tracker is told to a client; and that what one target asks of another for a snapshot or an aggregation, and what
+/// that answers, comes from a target and goes to another one. So it is at each moment of a run.
 pub fn laws_of_sending()
     ensures sent { AllEventsKeepSent }
     ensures across { AllEventsGoAcross }
@@ -19,7 +19,7 @@ pub fn laws_of_sending()
 /// Says that at each moment of any run of a script in form each letter in flight to a running target has the form
 /// that a target asks for, and can be heard there. That is what goes about where no snapshot is made and nothing is
 /// aggregated, also what comes of stops. Or a client asks to make a snapshot of a container that the target knows,
-/// or to aggregate it; target 0 asks another one to freeze such a container, or to prune it, at an epoch of 64 bits;
+/// or to aggregate it; another target asks it to freeze such a container, or to prune it, at an epoch of 64 bits;
 /// another target answers; what asked another one to freeze or to prune, at such an epoch, got no answer; or a client
 /// asks for a read at a snapshot, in form, in a container that the target knows, which is frozen there. Nothing else
 /// goes to a target.

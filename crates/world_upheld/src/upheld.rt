@@ -1,9 +1,9 @@
-// All that holds between any two events of any run, in which targets may stop, snapshots are made and read, and containers aggregated.
+// What goes on together between any two events of any run, in which targets may stop, snapshots are made and read, and containers aggregated.
 
 ghost use Rattle.world_upheld.specs.upheld.Containers.{AllEventsKeepContainers, RunsKnowDeclared};
 ghost use Rattle.world_upheld.specs.upheld.Heard.{AllHeardIsRight};
 ghost use Rattle.world_upheld.specs.upheld.PlainRuns.{PlainRunsBeginSo};
-ghost use Rattle.world_upheld.specs.upheld.Runs.{RunsAreUpheld, RunsBeginUpheld, RunsBeginWell, RunsBeginWithGrounds, RunsHaveGrounds, RunsHearAllRightly, RunsReadFrozen};
+ghost use Rattle.world_upheld.specs.upheld.Runs.{RunsAreUpheld, RunsBeginUpheld, StandingRunsBeginWell, RunsBeginWithGrounds, RunsHaveGrounds, RunsHearAllRightly, RunsReadFrozen};
 ghost use Rattle.world_upheld.specs.upheld.Upheld.{AllEventsKeepGrounds, AllEventsUphold, GroundsGoOn};
 
 /// Says that what the targets of a run hear is right, whatever clients ask: a read is what the present attempt
@@ -23,21 +23,22 @@ pub fn laws_of_requests()
 /// attempts snapshots and aggregations come, that targets know their containers, and what is frozen where; who sends and answers, how
 /// attempts end and what lines and ends tell of it; floors, first epochs, and the lines of targets. No event is excluded: clients make
 /// snapshots, read at them and aggregate, targets stop in any turn, open again, fail to, or are given up. A run of a script in form begins
-/// with it where nothing is left to settle, no target keeps an epoch above its lease, what target 0 holds as created is frozen at every
-/// target, and clients know just such snapshots; and so it holds at each moment. One whose targets stand for the opening begins so. Then each
+/// with it where nothing is left to settle, no target keeps a version or a snapshot above its lease, all know the script's containers, what
+/// target 0 holds as created is frozen at every target and the opening keeps a map for it, and clients know just such snapshots; and so it
+/// holds at each moment. One whose targets stand for the opening begins so. Then each
 /// attempt that reads at a snapshot reads at one that is frozen at every target.
 pub fn laws_of_grounds()
     ensures events { AllEventsKeepGrounds }
     ensures later { GroundsGoOn }
-    ensures well { RunsBeginWell }
+    ensures well { StandingRunsBeginWell }
     ensures begin { RunsBeginWithGrounds }
     ensures runs { RunsHaveGrounds }
     ensures seen { RunsReadFrozen }
 {}
 
-/// Says that all that holds between two events of a run goes on together, whatever happens, of what was decided,
-/// aborted and served by then, which only grows: what any run stands on, and with it what targets keep, what they
-/// answered and what clients were told. A run of a script in form begins with it over stores that stand for what the
+/// Says that what any run stands on goes on together with what targets keep, what they answered and what clients were
+/// told of that, whatever happens, of what was decided and aborted by then, and of what was served, which only grows.
+/// What is stored once, losses, doubts and causes stand beside it (`laws_of_explanations`). A run of a script in form begins with it over stores that stand for what the
 /// opening does, where what target 0 holds as created is frozen at every target, where its cells below its epoch give
 /// the map that the opening keeps of it, and where clients know just such snapshots; and so it holds at each moment.
 /// Then what targets hear is right. Runs of scripts without snapshots and aggregation, over stores without snapshots,

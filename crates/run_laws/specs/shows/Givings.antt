@@ -9,7 +9,7 @@ use Rattle.run_laws.specs.shows.ListLaws.{length-set}
 use Rattle.run_laws.specs.shows.Shows.{IsTargetOf, Leads, Shows}
 use Rattle.run_laws.specs.shows.Stages.{AreFound, IsPlace, StageNow}
 use Rattle.run_laws.specs.shows.Turned.{AfterStop, Failed, LastTime, NotFailed, failed_stage, given_up_stage, swept_stage}
-use Rattle.run_laws.specs.turns.Raising.{raised_by}
+use Rattle.world_closing.specs.safety.Raising.{raised_by}
 use Rattle.run_laws.specs.turns.Turns.{Acts, Doing, GivingUp, IsFault, IsNoOpening}
 use Rattle.world_letters.specs.lives.Events.{stops_in}
 use Rattle.run_watch.specs.Watches.{WatchNow, after_fault, with_life}

@@ -13,7 +13,7 @@ use Rattle.world_upheld.specs.hearing.Sent.{all-events-keep_sent}
 use Rattle.world_upheld.specs.upheld.Containers.{all-events-keep_containers}
 use Rattle.world_upheld.specs.upheld.Events.{given-before, grows-with, later-with, nothing_held}
 use Rattle.world_upheld.specs.upheld.Runs.{idle, no-tries}
-use Rattle.world_closing.specs.safety.Safe.{AllEventsKeepSafety, AllRunsAreSafe, SafetyBegins}
+use Rattle.world_closing.specs.safety.Safe.{AllEventsKeepSafety, AllRunsAreSafe, SafetyBegins, SafetyGoesOn}
 
 pub safety-begins : SafetyBegins
 safety-begins r o w A B few = record {
@@ -44,6 +44,11 @@ all-events-keep_safety r o h later stored w v A k e grows =
       forms = all-events-keep_form r o nothing_held w v given (attempts-prepare_own r h w g.heard.attempts) e k.forms;
       fitting = all-events-keep_fitting r o nothing_held w v A.some_attempt given g.lines k.forms e k.fitting;
     }
+
+pub safety-goes_on : SafetyGoesOn
+safety-goes_on r o h stored w v A k e =
+    let grows = grows-with h (told_by e.happens) in
+    record { later = later-with h (told_by e.happens); grows = grows; safe = all-events-keep_safety r o h (later-with h (told_by e.happens)) stored w v A k e grows }
 
 pub all-runs-are_safe : AllRunsAreSafe
 all-runs-are_safe r o w v A B few Begins = (_, safety-begins r o w A B few)

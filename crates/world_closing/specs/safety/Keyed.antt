@@ -20,18 +20,20 @@ use Rattle.world_answers.specs.Forms.{TargetsHaveKeys}
 use Rattle.world_base.specs.declared.world.World.{World}
 use Rattle.world_base.specs.Commits.{is_own}
 use Rattle.world_base.specs.Events.{Rules, target_plan}
-use Rattle.world_base.specs.Stops.{WorldEvent}
+use Rattle.world_base.specs.Stops.{Begins, Goes, WorldEvent}
 use Rattle.world_commit.specs.attempts.Attempts.{writes_of}
 use Rattle.world_commit.specs.attempts.History.{History}
 use Rattle.world_commit.specs.fates.Asked.{AskedRight}
 use Rattle.world_commit.specs.fates.Facts.{Attempts}
+use Rattle.world_upheld.specs.below.Legal.{stored_over}
 use Rattle.world_upheld.specs.below.Owners.{Brings, EventBrings, all-events-keep_versions}
 use Rattle.world_upheld.specs.below.Plain.{attempt-keys}
 use Rattle.world_upheld.specs.below.Readers.{PreparesCarryOwn, attempts-prepare_own}
 use Rattle.world_upheld.specs.upheld.Events.{asked-so}
 use Rattle.world_upheld.specs.upheld.Runs.{idle, no-tries}
 use Rattle.world_closing.specs.forming.Keys.{minors-keys}
-use Rattle.world_closing.specs.safety.Safe.{AllEventsKeepKeys, KeysBegin}
+use Rattle.world_closing.specs.safety.Events.{all-runs-are_safe}
+use Rattle.world_closing.specs.safety.Safe.{AllEventsKeepKeys, AllRunsAreKeyed, KeysBegin}
 
 -- ---- what is brought
 
@@ -72,3 +74,9 @@ all-events-keep_keys r o h stored w v A keys k e n =
       answers = all-events-keep_answers_in_form r w v A.form (asks-are_reads w n.asks) n.targets n.answers e;
       asks = all-events-keep_asks_in_form r w v A.form n.asks e;
     }
+
+pub all-runs-are_keyed : AllRunsAreKeyed
+all-runs-are_keyed r o w v A keys B few kept Begins = keys-begin r o w A B kept
+all-runs-are_keyed r o w v A keys B few kept (Goes u x run e) =
+    let k = all-runs-are_safe r o w u A B few run in
+    all-events-keep_keys r o k.0 (stored_over r run) u v A keys k.1 e (all-runs-are_keyed r o w u A keys B few kept run)

@@ -1,6 +1,10 @@
 -- What holds between any two events of any run, whatever its targets' versions stood for when it began: by this what targets are asked can be
 -- heard, leases cover what they keep, the report is in form and tells of commands in turn, and answers are of their reads' kinds. The statements.
-use Rattle.std.specs.Prelude.{ℕ, ◌≡◌, ◌++◌, [], slice_get, Contains, Some}
+use Rattle.std.specs.Prelude.{ℕ, ◌≡◌, ◌<◌, ◌++◌, [], slice_get, Contains, Some, List}
+use Rattle.base_messages.specs.declared.actor.ActorId.{ActorId}
+use Rattle.base_messages.specs.declared.message.Message.{Message}
+use Rattle.base_messages.specs.declared.message.Message.TheVariants as message
+use Rattle.base_messages.specs.declared.message.Post.{Post}
 use Rattle.daos_model.specs.declared.durable.Durable.{Durable}
 use Rattle.daos_model.specs.Opening.{Given, Opening}
 use Rattle.report_writer.specs.Forms.{IsReportOf}
@@ -33,7 +37,7 @@ use Rattle.world_closing.specs.forming.Forming.{IsSmallRun}
 
 -- ---- the facts
 
--- Each outcome shows its cause, by all that is accounted for; letters go between whom such go; leases cover what targets keep, which know the
+-- Each outcome shows its cause over dates, by all that is accounted for; letters go between whom such go; leases cover what targets keep, which know the
 -- script's containers, and whose versions are in form; and what goes about of reads and what lines tell of answers fits the script.
 pub record IsSafe (r : Rules) (o : Opening) (h : History) (stored : Stored) (w : World) : Type 0 where
   pub explanations : Explanations r o h stored w
@@ -52,7 +56,8 @@ pub record IsKeyed (w : World) : Type 0 where
 
 -- ---- each event keeps them
 
--- a run of a script in form begins so, whatever its targets' versions stand for, of nothing decided, aborted or stored
+-- a run of a script in form begins so, whatever its targets' versions stand for, where they hold no more snapshots than the opening keeps maps of, of
+-- nothing decided, aborted or stored
 abbrev pub SafetyBegins : Type 0
 SafetyBegins = (r : Rules) (o : Opening) (w : World) → AreRulesInForm r → RunBeginsWell r o w → HoldNoMoreSnapshots o w → IsSafe r o no_history [] w
 
@@ -62,25 +67,49 @@ AllEventsKeepSafety =
     (r : Rules) (o : Opening) (h later : History) (stored : Stored) (w v : World) → AreRulesInForm r → IsSafe r o h stored w → (e : WorldEvent r w v) → GrowsBy h (told_by e.happens) later
     → IsSafe r o later (stored_in r e.happens ++ stored) v
 
+-- it holds of what was decided and aborted before, and what was told since
+pub record IsSafeStill (r : Rules) (o : Opening) (h : History) (told : List Post) (stored : Stored) (v : World) : Type 0 where
+  pub later : History
+  pub grows : GrowsBy h told later
+  pub safe : IsSafe r o later stored v
+
+-- there is always such a later history
+abbrev pub SafetyGoesOn : Type 0
+SafetyGoesOn =
+    (r : Rules) (o : Opening) (h : History) (stored : Stored) (w v : World) → AreRulesInForm r → IsSafe r o h stored w → (e : WorldEvent r w v)
+    → IsSafeStill r o h (told_by e.happens) (stored_in r e.happens ++ stored) v
+
 -- so it is at each moment of a run
 abbrev pub AllRunsAreSafe : Type 0
 AllRunsAreSafe =
     (r : Rules) (o : Opening) (w v : World) → AreRulesInForm r → RunBeginsWell r o w → HoldNoMoreSnapshots o w → (run : WorldRun r w v) → (h : History) × IsSafe r o h (stored_over r run) v
 
--- keys are keys where they are those of the script and of what targets kept at the beginning
+-- keys are keys at the beginning, where those are of what targets keep
 abbrev pub KeysBegin : Type 0
 KeysBegin = (r : Rules) (o : Opening) (w : World) → AreRulesInForm r → RunBeginsWell r o w → TargetsHaveKeys w → IsKeyed w
 
--- and each event keeps it
+-- each event keeps it, where names and keys of the script are keys
 abbrev pub AllEventsKeepKeys : Type 0
 AllEventsKeepKeys =
     (r : Rules) (o : Opening) (h : History) (stored : Stored) (w v : World) → AreRulesInForm r → ScriptHasKeys r.script → IsSafe r o h stored w → WorldEvent r w v → IsKeyed w → IsKeyed v
 
+-- so it is at each moment of a run
+abbrev pub AllRunsAreKeyed : Type 0
+AllRunsAreKeyed =
+    (r : Rules) (o : Opening) (w v : World) → AreRulesInForm r → ScriptHasKeys r.script → RunBeginsWell r o w → HoldNoMoreSnapshots o w → TargetsHaveKeys w → WorldRun r w v → IsKeyed v
+
 -- ---- what they give
 
--- each letter in flight to a running target has the form that the target asks for, and can be heard there, by a store that tells what it keeps
+-- what answers a Freeze or a Prune comes from one of at most 64 targets
+abbrev pub SenderFits : ActorId → Message → Type 0
+SenderFits from (message.Held x refusal) = from.number < 64
+SenderFits from m = Unit {0}
+
+-- each letter in flight to a running target has the form that the target asks for, and a sender that fits, and can be heard there, by a store that
+-- tells what it keeps
 pub record IsHeardSafely (r : Rules) (t : ℕ) (d : Durable) (l : Letter) : Type 0 where
   pub form : IsInForm (target_plan r t) l.message
+  pub sender : SenderFits l.from l.message
   pub can : CanHearLetter r t d l
 
 abbrev pub SafeLettersCanBeHeard : Type 0

@@ -1,13 +1,28 @@
 -- What a safe run gives: letters can be heard, lines are in order, and the report is in form.
+use Rattle.std.specs.Prelude.{ℕ, ◌≤◌, ◌⊎◌}
+use Rattle.std.proofs.Common.{inl, inr, arith}
+use Rattle.base_messages.specs.declared.actor.ActorId.{ActorId}
+use Rattle.base_messages.specs.declared.message.Message.{Message}
+use Rattle.base_messages.specs.declared.message.Message.TheVariants as message
+use Rattle.daos_model.specs.declared.durable.Durable.{Durable}
+use Rattle.world_base.specs.Events.{Rules}
 use Rattle.world_upheld.specs.below.Readers.{lines-begin_in_turn, lines-end_well}
-use Rattle.world_upheld.specs.hearing.Hearable.{all-heard_in_form, all-letters_can_be_heard}
+use Rattle.world_upheld.specs.below.Standing.{CanHearOn}
+use Rattle.world_upheld.specs.hearing.Hearable.{IsMakingHeard, all-heard_in_form, all-letters_can_be_heard}
 use Rattle.world_closing.specs.forming.Runs.{report-form}
-use Rattle.world_closing.specs.safety.Safe.{SafeLettersCanBeHeard, SafeLinesAreInOrder, SafeReportsHaveForm}
+use Rattle.world_closing.specs.safety.Safe.{SafeLettersCanBeHeard, SafeLinesAreInOrder, SafeReportsHaveForm, SenderFits}
+
+-- what can be heard has a sender that fits
+sender-fits : (r : Rules) (t : ℕ) (d : Durable) (from to : ActorId) (m : Message) → r.script.targets ≤ 64 → CanHearOn r t d m ⊎ IsMakingHeard r.script.targets d from to m → SenderFits from m
+sender-fits r t d from to (message.Held x refusal) few (inl (inl k)) = absurd k
+sender-fits r t d from to (message.Held x refusal) few (inl (inr k)) = absurd k
+sender-fits r t d from to (message.Held x refusal) few (inr k) = let low = k.form.within in omega (arith, few, low)
+sender-fits r t d from to m few k = tt
 
 pub safe-letters_can_be_heard : SafeLettersCanBeHeard
 safe-letters_can_be_heard r o h stored w A k l t s among to here runs =
     let can = all-letters_can_be_heard r o h stored w l t s A.some_target k.explanations.reasons.accounted k.sent k.across (k.enlisted t s here) among to here runs in
-    record { form = all-heard_in_form r t s.durable l A.few_targets can; can = can }
+    record { form = all-heard_in_form r t s.durable l A.few_targets can; sender = sender-fits r t s.durable l.from l.to l.message A.few_targets can; can = can }
 
 pub safe-lines_are_in_order : SafeLinesAreInOrder
 safe-lines_are_in_order r o h stored w A k =

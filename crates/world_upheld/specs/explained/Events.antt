@@ -15,7 +15,7 @@ use Rattle.world_making.specs.freezings.Freezings.{HaveOneEpoch}
 use Rattle.world_causes.specs.handing.Begun.{losses-asked}
 use Rattle.world_causes.specs.showing.Happening.{stored_in}
 use Rattle.world_upheld.specs.upheld.Begins.{AreRulesInForm}
-use Rattle.world_upheld.specs.upheld.Heard.{HeardUpheld}
+use Rattle.world_upheld.specs.upheld.Heard.{HeardGrounds}
 use Rattle.world_upheld.specs.reasons.Reasons.{Reasons, all-events-keep_reasons}
 use Rattle.world_upheld.specs.upheld.Events as stands
 use Rattle.world_upheld.specs.explained.Explanations.{AllEventsExplain, AllEventsKeepExplanations, Explanations, IsHeardKnown}
@@ -26,7 +26,7 @@ module _ (r : Rules) (o : Opening) (h later : History) (stored : Stored) (w v : 
   abbrev k : Explanations r o h stored w
   k = x.explanations
 
-  u : HeardUpheld r o h w
+  u : HeardGrounds r o h w
   u = k.reasons.accounted.grounds.heard
 
   reasons-then : Reasons r o later (stored_in r e.happens ++ stored) v
@@ -60,6 +60,7 @@ all-events-explain r o held h stored w v A before k e =
     let go = stands.go r o held h w v A.some_attempt before g k.contents e in
     record {
       later = go.later;
+      grows = go.grows;
       grew = stands.grew r o held h w v A.some_attempt before g k.contents e;
       explained = record {
         explanations = all-events-keep_explanations r o h go.later stored w v A k.explanations e go.grows;

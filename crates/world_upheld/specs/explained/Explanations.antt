@@ -1,5 +1,6 @@
 -- All that is accounted for in any run, where leaders' stops show, and beside it the causes that outcomes show.
 use Rattle.std.specs.Prelude.{ℕ, ◌≡◌, ◌≤◌, ◌++◌, true, is_some, List, [], ◌∷◌, length, slice_get, Contains, Some}
+use Rattle.base_messages.specs.declared.message.Post.{Post}
 use Rattle.base_types.specs.declared.epoch.Epoch.{Epoch}
 use Rattle.base_types.specs.declared.id.AttemptId.{AttemptId}
 use Rattle.base_types.specs.declared.outcome.Cause.TheVariants as cause
@@ -49,7 +50,7 @@ abbrev pub HoldKeptSnapshots : Opening → World → Type 0
 HoldKeptSnapshots o w =
     (t : ℕ) (s : TargetState) → slice_get w.targets t ≡ Some s → (x : Snap) → Contains s.durable.snaps x → is_some (kept_map x.cont x.epoch.0 o.stand.snaps) ≡ true
 
--- the explanations, and what targets keep and answer: all that holds of a run that stands for the opening
+-- the explanations, and what targets keep and answer, of a run that stands for the opening
 pub record Explained (r : Rules) (o : Opening) (held : ℕ → List Version) (h : History) (stored : Stored) (w : World) : Type 0 where
   pub explanations : Explanations r o h stored w
   pub contents : Contents r o held h w
@@ -81,16 +82,18 @@ AllEventsKeepExplanations =
     (r : Rules) (o : Opening) (h later : History) (stored : Stored) (w v : World) → AreRulesInForm r → Explanations r o h stored w → (e : WorldEvent r w v)
     → GrowsBy h (told_by e.happens) later → Explanations r o later (stored_in r e.happens ++ stored) v
 
--- and beside it what targets keep and answer, of what is decided, aborted and served by then, which is all that was before, and perhaps more
-pub record IsExplainedStill (r : Rules) (o : Opening) (held : ℕ → List Version) (h : History) (stored : Stored) (v : World) : Type 0 where
+-- and beside it what targets keep and answer, of what was decided and aborted before, and what was told since, and of all that was served before,
+-- and perhaps more
+pub record IsExplainedStill (r : Rules) (o : Opening) (held : ℕ → List Version) (h : History) (told : List Post) (stored : Stored) (v : World) : Type 0 where
   pub later : History
+  pub grows : GrowsBy h told later
   pub grew : Grew h later
   pub explained : Explained r o held later stored v
 
 abbrev pub AllEventsExplain : Type 0
 AllEventsExplain =
     (r : Rules) (o : Opening) (held : ℕ → List Version) (h : History) (stored : Stored) (w v : World) → AreRulesInForm r → AreBefore o held
-    → Explained r o held h stored w → (e : WorldEvent r w v) → IsExplainedStill r o held h (stored_in r e.happens ++ stored) v
+    → Explained r o held h stored w → (e : WorldEvent r w v) → IsExplainedStill r o held h (told_by e.happens) (stored_in r e.happens ++ stored) v
 
 -- where targets hold only snapshots of which the opening keeps maps, they hold no more than those
 abbrev pub KeptAreNoMore : Type 0

@@ -54,7 +54,7 @@ use Rattle.world_causes.specs.losses.ClientHears.{TellsLoss}
 use Rattle.world_causes.specs.showing.Further.{IsResetKnown, TellsReset}
 use Rattle.world_letters.specs.snapshots.Makings.{IsSnapIn, asks-more, collects-more, comes-more, so-more}
 use Rattle.world_upheld.specs.upheld.Begins.{AreRulesInForm}
-use Rattle.world_upheld.specs.upheld.Heard.{HeardUpheld}
+use Rattle.world_upheld.specs.upheld.Heard.{HeardGrounds}
 use Rattle.world_upheld.specs.reasons.Accounted.{AccountedFor}
 use Rattle.world_upheld.specs.reasons.Counting.{CountAsDates}
 use Rattle.world_upheld.specs.reasons.Hearing.{all-hear-of_stops}
@@ -435,7 +435,7 @@ making-known r o h stored w A k late low = record {
     a : AccountedFor r o h stored w
     a = k.reasons.accounted
 
-    u : HeardUpheld r o h w
+    u : HeardGrounds r o h w
     u = a.grounds.heard
 
     E : Epochs r (top o) w

@@ -46,7 +46,7 @@ use Rattle.world_legal.specs.shown.Parked.{IsHeldFor, held-for, read-sent}
 use Rattle.world_letters.specs.talks.AskLaws.{asked-read}
 use Rattle.world_letters.specs.talks.Asked.{Asked, AsksRead}
 use Rattle.world_upheld.specs.upheld.Begins.{AreRulesInForm}
-use Rattle.world_upheld.specs.upheld.Heard.{HeardUpheld}
+use Rattle.world_upheld.specs.upheld.Heard.{HeardGrounds}
 use Rattle.world_upheld.specs.reasons.Accounted.{AccountedFor}
 use Rattle.world_upheld.specs.reasons.Counting.{first-counts}
 use Rattle.world_upheld.specs.reasons.Events.{places-of_rules}
@@ -68,7 +68,7 @@ module _ (r : Rules) (o : Opening) (h : History) (stored : Stored) (w : World) (
   C : Causes r o stored (with_dates X.dated w)
   C = X.causes
 
-  heard : HeardUpheld r o h w
+  heard : HeardGrounds r o h w
   heard = k.grounds.heard
 
   epochs : Epochs r (top o) w

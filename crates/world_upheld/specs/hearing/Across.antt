@@ -1,4 +1,4 @@
--- What target 0 asks of the others for a snapshot or an aggregation, and what they answer, goes from one target to another.
+-- What one target asks of another for a snapshot or an aggregation, and what that answers, goes from one target to another.
 use Rattle.std.specs.Prelude.{ℕ, ◌≡◌, ◌<◌, ◌++◌, ◌==◌, Bool, true, false, not, nat_lt, List, [], ◌∷◌, filter, length, map, Option, Some, None, refl}
 use Rattle.std.proofs.Common.{sym, ◌∙◌, ap, subst, inl, inr, arith}
 use Rattle.std.proofs.lemmas.Bool.Decides.{nat_tests}
@@ -49,7 +49,7 @@ pub record ComesFromAnother (n : ℕ) (from to : ActorId) : Type 0 where
   pub within : from.number < n
   pub another : (from ≡ to) → ⊥
 
--- so do a Freeze, target 0's Prune, and the answer to them
+-- so do a Freeze, a Prune up to an epoch, and the answer to them
 abbrev pub IsAskedAcross : ℕ → ActorId → ActorId → Message → Type 0
 IsAskedAcross n from to (message.Freeze x c s) = ComesFromAnother n from to
 IsAskedAcross n from to (message.Prune x c None (Some g)) = ComesFromAnother n from to

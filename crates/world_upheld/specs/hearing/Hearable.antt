@@ -77,7 +77,7 @@ pub record IsReadFrozen (d : Durable) (e : Epoch) (read : Read) : Type 0 where
 abbrev pub IsEpochInForm : Epoch → Type 0
 IsEpochInForm e = e.0 < 2 ^ 64
 
--- what target 0 asked of another one of so many, at an epoch, got no answer
+-- what was asked of another one of so many, at an epoch, got no answer
 pub record IsCollectionLost (n by : ℕ) (to : ActorId) (e : Epoch) : Type 0 where
   pub within : by < n
   pub another : (to ≡ target by) → ⊥
@@ -90,7 +90,7 @@ IsLostInForm n by to (message.Prune x c None (Some g)) = IsCollectionLost n by t
 IsLostInForm n by to m = ⊥
 
 -- The form of what a target of so many hears for snapshots and aggregations, from whom. A client asks to make a snapshot, to aggregate, or to
--- read at a snapshot, whose epoch it tells; target 0 asks another one to freeze, or to prune, at an epoch; another target answers; or what
+-- read at a snapshot, whose epoch it tells; another target asks it to freeze, or to prune, at an epoch; another target answers; or what
 -- asked a target to freeze or to prune got no answer.
 abbrev pub GoesForMaking : ℕ → ActorId → ActorId → Message → Type 0
 GoesForMaking n from to (message.Snap x c name tracker) = Unit {0}

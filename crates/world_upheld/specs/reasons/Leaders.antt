@@ -53,7 +53,7 @@ use Rattle.world_causes.specs.handing.Targets.{member-is_target, other-is_target
 use Rattle.world_causes.specs.losses.Losses.{tells_stop}
 use Rattle.world_causes.specs.outcomes.Premises.{hands}
 use Rattle.world_causes.specs.showing.Further.{AsksAfter, IsAskKnown, IsGone, TellsReset}
-use Rattle.world_upheld.specs.upheld.Heard.{HeardUpheld}
+use Rattle.world_upheld.specs.upheld.Heard.{HeardGrounds}
 use Rattle.world_commit.specs.statuses.Senders.{IsSentRightly}
 use Rattle.world_letters.specs.talks.Asked.{commit_of}
 use Rattle.world_upheld.specs.upheld.Begins.{AreRulesInForm}
@@ -219,7 +219,7 @@ all-commits_meet r o h stored w A k t s here l q e down i says first = (
   contains-from_has w.lines (line.Down down) (k.knows t down s here is.1),
 )
   where
-    z : HeardUpheld r o h w
+    z : HeardGrounds r o h w
     z = k.grounds.heard
 
     new : IsCommitNew r h w l.to q.attempt q.ep q.writes

@@ -59,7 +59,7 @@ use Rattle.world_letters.specs.talks.Asked.{AsksCommit, AsksRead, commit_of}
 use Rattle.world_letters.specs.talks.InFlight.{HearsRequest}
 use Rattle.world_letters.specs.talks.TalkLaws.{taken-from}
 use Rattle.world_upheld.specs.upheld.Begins.{AreRulesInForm}
-use Rattle.world_upheld.specs.upheld.Heard.{HeardUpheld}
+use Rattle.world_upheld.specs.upheld.Heard.{HeardGrounds}
 use Rattle.world_letters.specs.waits.ClientLaws.{question-about}
 use Rattle.world_letters.specs.waits.Requests.{is_request}
 use Rattle.world_upheld.specs.reasons.Accounted.{AccountedFor}
@@ -128,7 +128,7 @@ own-epoch r w x e off (IsSeen named) = clash (is_at_snapshot r x) (ap is_some na
 module _ (r : Rules) (o : Opening) (h : History) (stored : Stored) (w : World) (A : AreRulesInForm r) (k : AccountedFor r o h stored w) (t : ℕ)
     (s : TargetState)
     (here : slice_get w.targets t ≡ Some s) (l : Letter) (i : Has l w.messages) (to : l.to ≡ target t) where
-  heard : HeardUpheld r o h w
+  heard : HeardGrounds r o h w
   heard = k.grounds.heard
 
   epochs : Epochs r (top o) w

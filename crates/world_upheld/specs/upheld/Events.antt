@@ -52,7 +52,7 @@ use Rattle.world_letters.specs.waits.Premises.{LeadersKnow, RequestsAreOfClients
 use Rattle.world_letters.specs.waits.Waits.{Conversation}
 use Rattle.world_plain.specs.whole.Everything.{AreBefore}
 use Rattle.world_upheld.specs.upheld.Clients.{client-goes, client-hears}
-use Rattle.world_upheld.specs.upheld.Heard.{HeardUpheld, all-heard_right}
+use Rattle.world_upheld.specs.upheld.Heard.{HeardGrounds, all-heard_right}
 use Rattle.world_upheld.specs.upheld.Telling.{all-targets_tell}
 use Rattle.world_contents.specs.reads.Given.{Given}
 use Rattle.world_contents.specs.reads.Growing.{committed_in, grown}
@@ -99,7 +99,7 @@ none-before : (o : Opening) → AreBefore o nothing_held
 unfolding nothing_held
 none-before o t z i = absurd (has-from_contains [] z i)
 
-pub given-before : (r : Rules) (o : Opening) (h : History) (w : World) → HeardUpheld r o h w → Given r o nothing_held w
+pub given-before : (r : Rules) (o : Opening) (h : History) (w : World) → HeardGrounds r o h w → Given r o nothing_held w
 given-before r o h w k = all-heard_right r o nothing_held h w (none-before o) k
 
 -- what is asked of targets is right, and no attempt has two epochs
@@ -176,7 +176,7 @@ module _ (r : Rules) (o : Opening) (h later : History) (w v : World) (some : 0 <
 
   -- ---- once what goes to targets that are given up is lost
 
-  heard-then : HeardUpheld r o later v
+  heard-then : HeardGrounds r o later v
   heard-then = record {
     form = k.heard.form;
     few = k.heard.few;
@@ -257,8 +257,8 @@ module _ (r : Rules) (o : Opening) (held : ℕ → List Version) (h : History) (
   pub grew : Grew h go.later
   grew = record { decided = λ i j. go.grows.decided i.0 i.1 j; aborted = λ x j. go.grows.aborted x j; served = go.served }
 
-  pub upholds : IsUpheldStill r o held h v
-  upholds = record { later = go.later; grew = grew; upheld = record { grounds = grounds-then r o h go.later w v some k e go.grows; contents = contents-then } }
+  pub upholds : IsUpheldStill r o held h (told_by e.happens) v
+  upholds = record { later = go.later; grows = go.grows; grew = grew; upheld = record { grounds = grounds-then r o h go.later w v some k e go.grows; contents = contents-then } }
 
 pub all-events-uphold : AllEventsUphold
 all-events-uphold r o held h w v some before k e = upholds r o held h w v some before k.grounds k.contents e

@@ -69,7 +69,7 @@ use Rattle.world_upheld.specs.upheld.Reading.{read-right}
 -- Of a script in form, with its targets, which are as many as a set of members holds: conversations, from whom requests come, where clients
 -- stand, that they ask within the groups of their paths, epochs, what became of attempts, what targets ask one another, of what snapshots and aggregations come, and
 -- what is frozen where.
-pub record HeardUpheld (r : Rules) (o : Opening) (h : History) (w : World) : Type 0 where
+pub record HeardGrounds (r : Rules) (o : Opening) (h : History) (w : World) : Type 0 where
   pub form : IsInForm r.script.targets r.script
   pub few : r.script.targets ≤ 64
   pub many : length w.targets ≡ r.script.targets
@@ -85,11 +85,11 @@ pub record HeardUpheld (r : Rules) (o : Opening) (h : History) (w : World) : Typ
 
 -- then what targets hear is right
 abbrev pub AllHeardIsRight : Type 0
-AllHeardIsRight = (r : Rules) (o : Opening) (held : ℕ → List Version) (h : History) (w : World) → AreBefore o held → HeardUpheld r o h w → Given r o held w
+AllHeardIsRight = (r : Rules) (o : Opening) (held : ℕ → List Version) (h : History) (w : World) → AreBefore o held → HeardGrounds r o h w → Given r o held w
 
 -- ---- epochs of attempts
 
-module _ (r : Rules) (o : Opening) (h : History) (w : World) (k : HeardUpheld r o h w) where
+module _ (r : Rules) (o : Opening) (h : History) (w : World) (k : HeardGrounds r o h w) where
   -- one that reads at no snapshot has its own
   own-epoch : (x : AttemptId) (e : Epoch) → is_at_snapshot r x ≡ false → IsEpochOf r w x e → IsIssued w x e
   own-epoch x e off (IsOwn i) = i

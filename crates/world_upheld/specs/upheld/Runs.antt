@@ -57,7 +57,7 @@ use Rattle.world_upheld.specs.upheld.BeginKnown.{known-first}
 use Rattle.world_upheld.specs.upheld.Begins.{AreRulesInForm, RunBeginsWell, RunBeginsWith, StartsWell, client_begins}
 use Rattle.world_upheld.specs.upheld.BeginVersions.{begins-well, frozen-before, versions-stand_first}
 use Rattle.world_upheld.specs.upheld.Events.{all-events-uphold, grounds-go_on}
-use Rattle.world_upheld.specs.upheld.Heard.{HeardUpheld, all-heard_right}
+use Rattle.world_upheld.specs.upheld.Heard.{HeardGrounds, all-heard_right}
 use Rattle.world_upheld.specs.upheld.Upheld.{Contents, Grounds, Upheld}
 
 -- ---- the statements
@@ -71,8 +71,8 @@ abbrev pub RunsHaveGrounds : Type 0
 RunsHaveGrounds = (r : Rules) (o : Opening) (w v : World) → AreRulesInForm r → RunBeginsWell r o w → WorldRun r w v → (h : History) × Grounds r o h v
 
 -- one that stands for the opening begins well
-abbrev pub RunsBeginWell : Type 0
-RunsBeginWell = (r : Rules) (o : Opening) (w : World) → RunBeginsWith r o w → RunBeginsWell r o w
+abbrev pub StandingRunsBeginWell : Type 0
+StandingRunsBeginWell = (r : Rules) (o : Opening) (w : World) → RunBeginsWith r o w → RunBeginsWell r o w
 
 -- a run that stands for the opening begins with all, of nothing decided, aborted or served
 abbrev pub RunsBeginUpheld : Type 0
@@ -163,7 +163,7 @@ module _ (r : Rules) (o : Opening) (w : World) (A : AreRulesInForm r) (B : RunBe
   within-begins : ClientsAskWithin r w
   within-begins n c here = subst (IsWithin (client_plan r n) c) (sym (idle n c here)) tt
 
-  heard-begins : HeardUpheld r o no_history w
+  heard-begins : HeardGrounds r o no_history w
   heard-begins = record {
     form = A.form;
     few = A.few_targets;

@@ -1,4 +1,5 @@
--- All that holds between any two events of any run: targets may stop and open again, snapshots are made and read, and containers aggregated.
+-- What any run stands on between any two events, and what targets keep and answer: targets may stop and open again, snapshots are made and read,
+-- and containers aggregated.
 use Rattle.std.specs.Prelude.{ℕ, ◌<◌, List}
 use Rattle.base_messages.specs.declared.message.Post.{Post}
 use Rattle.daos_model.specs.declared.durable.Version.{Version}
@@ -22,7 +23,7 @@ use Rattle.world_commit.specs.requests.Rows.{RowsStandOnce}
 use Rattle.world_commit.specs.statuses.Events.{told_by}
 use Rattle.world_commit.specs.statuses.Senders.{SendersAreRight}
 use Rattle.world_plain.specs.whole.Everything.{AreBefore}
-use Rattle.world_upheld.specs.upheld.Heard.{HeardUpheld}
+use Rattle.world_upheld.specs.upheld.Heard.{HeardGrounds}
 
 -- ---- whatever targets kept when the run began
 
@@ -31,7 +32,7 @@ use Rattle.world_upheld.specs.upheld.Heard.{HeardUpheld}
 -- their containers; who sends and answers, and in which order leaders remember attempts; how attempts end, and what lines tell of it; which
 -- attempts have entries; floors, first epochs, and lines of targets. Nothing is said of what targets' versions and answers stand for.
 pub record Grounds (r : Rules) (o : Opening) (h : History) (w : World) : Type 0 where
-  pub heard : HeardUpheld r o h w
+  pub heard : HeardGrounds r o h w
   pub makers : MakersTell r w
   pub known : MakersAreKnown r w
   pub senders : SendersAreRight w
@@ -49,7 +50,7 @@ abbrev pub AllEventsKeepGrounds : Type 0
 AllEventsKeepGrounds =
     (r : Rules) (o : Opening) (h later : History) (w v : World) → 0 < r.attempts → Grounds r o h w → (e : WorldEvent r w v) → GrowsBy h (told_by e.happens) later → Grounds r o later v
 
--- it holds of what was decided and aborted by now; served is what was
+-- it holds of what was decided and aborted by now
 pub record HasGroundsStill (r : Rules) (o : Opening) (h : History) (told : List Post) (v : World) : Type 0 where
   pub later : History
   pub grows : GrowsBy h told later
@@ -67,19 +68,20 @@ pub record Contents (r : Rules) (o : Opening) (held : ℕ → List Version) (h :
   pub versions : Versions r o held h w
   pub reads : Reads r o h w
 
--- all of it
+-- both
 pub record Upheld (r : Rules) (o : Opening) (held : ℕ → List Version) (h : History) (w : World) : Type 0 where
   pub grounds : Grounds r o h w
   pub contents : Contents r o held h w
 
--- it holds of what was decided, aborted and served by now, which is all that was before, and perhaps more
-pub record IsUpheldStill (r : Rules) (o : Opening) (held : ℕ → List Version) (h : History) (v : World) : Type 0 where
+-- it holds of what was decided and aborted before, and what was told since, and of all that was served before, and perhaps more
+pub record IsUpheldStill (r : Rules) (o : Opening) (held : ℕ → List Version) (h : History) (told : List Post) (v : World) : Type 0 where
   pub later : History
+  pub grows : GrowsBy h told later
   pub grew : Grew h later
   pub upheld : Upheld r o held later v
 
 -- each event of a run keeps it
 abbrev pub AllEventsUphold : Type 0
 AllEventsUphold =
-    (r : Rules) (o : Opening) (held : ℕ → List Version) (h : History) (w v : World) → 0 < r.attempts → AreBefore o held → Upheld r o held h w → WorldEvent r w v
-    → IsUpheldStill r o held h v
+    (r : Rules) (o : Opening) (held : ℕ → List Version) (h : History) (w v : World) → 0 < r.attempts → AreBefore o held → Upheld r o held h w → (e : WorldEvent r w v)
+    → IsUpheldStill r o held h (told_by e.happens) v
