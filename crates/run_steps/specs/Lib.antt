@@ -1,0 +1,3 @@
+-- What turns of actors lead to from their beginning.
+pub mod Froms
+pub mod Laws
