@@ -1,20 +1,12 @@
 -- How often targets were opened: a turn raises no incarnation, but for one in which a target opens again, or fails to.
-use Rattle.std.specs.Prelude.{ℕ, ◌≡◌, ◌≤◌, ◌+◌, Bool, slice_get, Some, refl}
-use Rattle.std.proofs.Common.{inl, inr, sym, ◌∙◌, ap, subst, arith}
-use Rattle.std.proofs.Math.ListN.{set}
+use Rattle.std.specs.Prelude.{ℕ, ◌≡◌, ◌≤◌, Bool, refl}
+use Rattle.std.proofs.Common.{arith}
 use Rattle.base_messages.specs.declared.actor.ActorId.{ActorId}
-use Rattle.daos_model.specs.Changes.{reopened}
-use Rattle.daos_model.specs.declared.durable.Durable.{Durable}
 use Rattle.world_closing.specs.safety.Raising.{RaisesAtMost, event-raises, raised_by, raises-then}
 use Rattle.run_laws.specs.turns.Turns.{Doing, GivingUp, IsDraw, GivesUp, Opening, TurnOf}
-use Rattle.world_base.specs.declared.target.TargetState.{TargetState}
 use Rattle.world_base.specs.declared.world.World.{World}
-use Rattle.world_base.specs.Events.{ByClient, ByTarget, Rules, ToClient, ToTarget, kept, target_plan}
-use Rattle.world_base.specs.Stops.{Draws, Fails, Further, GivenUp, Happening, IsCut, Opens, Plainly, WorldEvent}
-use Rattle.world_base.specs.TurnLaws.{hears-keeps, idles-keeps}
-use Rattle.world_letters.specs.lives.Events.{cut-lasts_so}
-use Rattle.world_letters.specs.lives.Leases.{further-lasts}
-use Rattle.world_contents.specs.reads.EventLaws.{at-or-there}
+use Rattle.world_base.specs.Events.{Rules}
+use Rattle.world_base.specs.Stops.{Draws, Fails, Further, GivenUp, Happening, IsCut, Opens, Plainly}
 
 -- ---- the statements
 
