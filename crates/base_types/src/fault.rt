@@ -33,7 +33,7 @@ pub enum Why {
     TooLong(u32),
 }
 
-/// The first line with a fault, counted from 1, or 0 where no line is told.
+/// The first line with a fault, counted from 1.
 #[derive(Clone, Copy, Debug)]
 pub struct ScriptFault {
     pub line: u32,

@@ -7,7 +7,7 @@ pub use daos::run_daos;
 pub use daos_run::parts::Parts;
 pub use daos_run::run::run_script;
 pub use daos_run::run_on::run_on;
-pub use daos_run::stop::RunStop;
+pub use daos_run::stop::{Part, RunStop};
 pub use daos_status::status;
 pub use daos_status::status::{Status, status_text};
 

@@ -20,10 +20,11 @@ use base_outside::clock::Clock;
 use vos_store::store::Store;
 
 /// Says of actors which run they are of, from a beginning that the caller names: its rules, its opening and its
-/// first world. Whoever gives actors their turns, one thread or many, can hold this (`IsFrom`) as an invariant over
-/// his own beginning. It is so before the first turn, where the actors show the first world; and each whole turn of
-/// a client or of a target keeps it, by what `Stage::client_turn` and `Stage::target_turn` of `run_stage` say of a
-/// turn, whatever turns came before. So at any moment between turns a run of events from the first world has reached
+/// first world. Whoever gives actors whole turns, one after another, in an order of his own, can hold this (`IsFrom`)
+/// as an invariant over his own beginning. It is so before the first turn, where the actors show the first world; and
+/// each whole turn of a client or of a target keeps it, by what `Stage::client_turn` and `Stage::target_turn` of
+/// `run_stage` say of a turn, whatever turns came before. Turns that overlap, as those of threads do, aren't such: a
+/// whole turn finds the letters, the lines and the numbers that it leaves. So at any moment between turns a run of events from the first world has reached
 /// one that the actors show, whatever stores of targets that don't run would be found with; and there is something
 /// that they would be found with. Where no actor has anything to do in the settling phase, that run has ended.
 pub fn laws_of_steps<S: Store, C: Clock>()

@@ -27,7 +27,7 @@ use Rattle.world_base.specs.Roles.{is_prepared, told_by, told_of_all}
 use Rattle.world_base.specs.Turns.{Whole}
 use Rattle.world_base.specs.Verdicts as verdict
 
--- a message that a target hears so far
+-- a message that a target hears where nothing stops and nothing is made with other targets
 abbrev pub is_heard : Message → Bool
 is_heard (Fetch x op group ep first tracker r snapshot) = true
 is_heard (Commit x ep first tracker ws) = true

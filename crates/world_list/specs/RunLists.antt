@@ -41,8 +41,8 @@ pub record IdlesAs (r : Rules) (w : World) (a : ActorId) (v : World) : Type 0 wh
   pub placed : event.t < r.script.targets
 
 -- From a world to the one after an event. A letter is heard exactly in a turn that hears. Turns that are cut, openings and
--- targets given up come with stops: so far none of these is an event of a run. The numbers of restarts and aggregations
--- are drawn between events; since so far no event draws one, they stay.
+-- targets given up come with stops, and what makes snapshots and aggregations goes between targets: lists don't have such
+-- events yet. Numbers of restarts and aggregations are drawn for these alone, so they stay.
 abbrev pub LeadsTo : Rules → World → EventKind → ActorId → Option Letter → World → Type 0
 LeadsTo r w Hear a None v = ⊥
 LeadsTo r w Hear a (Some l) v = ClientHearsAs r w a l v ⊎ TargetHearsAs r w a l v
