@@ -26,7 +26,7 @@ use Rattle.world_base.specs.declared.client.Stage.{Stage}
 use Rattle.world_base.specs.declared.client.Stage.TheVariants as stage
 use Rattle.world_base.specs.ClientTurns.{after_end, asks_or_goes, at_present, attempt_moves, begins_at, command_at, command_moves, commits, ends, first_epoch, moved, next_command, next_place, op_moves, question, run_moves}
 use Rattle.client_core.specs.Clients.{IsInPlace, has_number}
-use Rattle.client_core.proofs.Places.{count_numbered, count_other, moved_begins, moved_done, moved_on, moved_waits, numbered_at}
+use Rattle.client_moves.specs.Places.{count_numbered, count_other, moved_begins, moved_done, moved_on, moved_waits, numbered_at}
 use Rattle.world_base.specs.ClientTurns.{about, answered, attempt_id, condition_told, goes, group_count, group_told, heard, heard_at, hears_epochs, is_about, is_yes, joined, knows, next_stage, op_of, op_told, replied, reset, reset_by, snaps_known, told_at, waits}
 
 -- at the same command, or behind it

@@ -16,7 +16,7 @@ use Rattle.world_base.specs.declared.client.Stage.{Stage}
 use Rattle.world_base.specs.declared.client.Stage.TheVariants as stage
 use Rattle.world_base.specs.ClientTurns.{Move, after_end, asks_or_goes, attempt_moves, begins_at, command_at, command_moves, commits, ends, first_epoch, moved, next_stage, op_moves, question, run_moves, waits}
 use Rattle.client_core.specs.Clients.{CommandFits, OpsFit, PlanFits}
-use Rattle.client_core.proofs.Places.{command_fits, moved_begins, moved_done, moved_on, moved_waits, op_within}
+use Rattle.client_moves.specs.Places.{command_fits, moved_begins, moved_done, moved_on, moved_waits, op_within}
 
 -- how much is left of an operation
 abbrev stage_weight : Stage → ℕ

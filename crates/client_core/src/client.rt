@@ -4,14 +4,14 @@ ghost use Rattle.client_core.specs.Clients.{IsInPlace, PlanFits};
 ghost use Rattle.base_types.specs.Scripts.{IsInForm};
 ghost use Rattle.world_base.specs.ClientTurns.{HearTurn, NextTurn, at_first, is_created_old, is_done, known_at_opening, plan_of, waits};
 
-use crate::copies::copy_state;
-use crate::moves::waits;
 use crate::turns::{Turn, hears, next};
 use base_messages::message::Message;
 use base_types::epoch::Epoch;
 use base_types::items::{Items, Memory};
 use base_types::script::{OldDecl, Olds, Script};
 use base_types::snapshot::Snaps;
+use client_moves::copies::copy_state;
+use client_moves::moves::waits;
 use std::alloc::Global;
 use std::marker::Model;
 use world_base::client::{ClientPlan, ClientState, KnownSnap, KnownSnaps};

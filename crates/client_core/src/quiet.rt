@@ -5,9 +5,9 @@ ghost use Rattle.world_base.specs.ClientTurns.{at_present, goes, moved, next_sta
 ghost use Rattle.world_base.specs.declared.client.ClientPlan.{ClientPlan};
 ghost use Rattle.world_base.specs.declared.client.ClientState.{ClientState};
 
-use crate::moves::{command_at, op_at, skip_at};
 use base_types::operation::{Act, Cond, Op, Ops};
 use base_types::script::{Command, Skips};
+use client_moves::moves::{command_at, op_at, skip_at};
 use world_base::client::{ClientPlan, ClientState, Present, Stage};
 
 // Whether an operation isn't asked anything at a stage.

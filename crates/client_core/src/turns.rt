@@ -4,12 +4,12 @@ ghost use Rattle.client_core.specs.Clients.{GoesOnFrom, IsInPlace, PlanFits};
 ghost use Rattle.world_base.specs.ClientTurns.{HearTurn, NextTurn, listed};
 
 use crate::hears::heard;
-use crate::moves::moved;
 use crate::quiet::{is_quiet, stage_on};
-use crate::step::Move;
 use base_messages::message::{Message, Post};
 use base_types::items::{Items, Memory};
 use base_types::report::Line;
+use client_moves::moves::moved;
+use client_moves::step::Move;
 use std::alloc::Global;
 use world_base::client::{ClientPlan, ClientState};
 use world_base::did::Did;

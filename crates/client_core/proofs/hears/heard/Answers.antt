@@ -2,7 +2,7 @@ use Rattle.std.proofs.Common.{◌≡◌, sym, ◌∙◌, ap, subst, None, Some, 
 use Rattle.std.specs.Option.{option_copied}
 use Rattle.client_core.specs.Clients.{move_of}
 use Rattle.client_core.proofs.Hearing.{heard_done, heard_on, place_heard}
-use Rattle.client_core.proofs.Places.{command_fits, is_at, numbered_at}
+use Rattle.client_moves.specs.Places.{command_fits, is_at, numbered_at}
 use Rattle.client_core.proofs.hears.heard.Goals as goal
 
 pub returns-in_default : goal.returns-in_default

@@ -3,7 +3,7 @@ use Rattle.std.specs.Option.{option_copied}
 use Rattle.world_base.specs.ClientTurns.{command_at, goes, is_waiting}
 use Rattle.base_types.specs.declared.script.Command.TheVariants.{Run}
 use Rattle.client_core.specs.Clients.{staged_attempt}
-use Rattle.client_core.proofs.Places.{moved_on}
+use Rattle.client_moves.specs.Places.{moved_on}
 use Rattle.client_core.proofs.quiet.is_quiet.Goals as goal
 
 pub returns-clause-quiet : goal.returns-clause-quiet

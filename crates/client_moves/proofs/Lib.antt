@@ -1,0 +1,3 @@
+pub mod NameSteps
+pub mod Writes
+pub mod Taken
