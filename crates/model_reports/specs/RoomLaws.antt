@@ -1,4 +1,4 @@
--- Where there is room, no attempt is refused for want of space.
+-- Where there is room, no attempt is refused for want of space, and where there are places, no snapshot for want of one.
 use Rattle.std.specs.Prelude.{ℕ, ◌+◌, ◌*◌, ◌≡◌, ◌≤◌, ◌<◌, Bool, true, false, ◌||◌, ◌&&◌, not, List, [], ◌∷◌, length, Option, Some, None, refl, if◌then◌else◌}
 use Rattle.std.proofs.Common.{sym, ◌∙◌, ap, subst, arith, inl, inr}
 use Rattle.base_types.specs.declared.id.AttemptId.{AttemptId}
@@ -24,7 +24,7 @@ use Rattle.daos_model.specs.Order.{AllInTurn}
 use Rattle.daos_model.specs.Transactions.{attempt_ops, command_of, ops_of, ops_or_none}
 use Rattle.model_reports.specs.Counts.{all-within}
 use Rattle.model_reports.specs.Lines.{line-of}
-use Rattle.model_reports.specs.Rooms.{FindsRoom, HasPlaces, HasRoom, OnlyTransactions, RoomIsFound, TransactionsFindRoom, blocks_of_command, is_transaction, lacks_space, snaps_of_command, sum_of, sum_over}
+use Rattle.model_reports.specs.Rooms.{FindsRoom, HasPlaces, HasRoom, OnlyTransactions, PlacesAreFound, RoomIsFound, SnapshotsFindPlaces, TransactionsFindRoom, blocks_of_command, is_transaction, lacks_space, snaps_of_command, sum_of, sum_over}
 
 -- ---- blocks at one target
 
@@ -139,25 +139,25 @@ not-snap s plain x = by (command_of s x) refl
     by None e = refl
     by (Some c) e = one c (plain x c e)
 
-module _ (g : Given) (o : Outside) (resolved : AttemptId → Bool) (q : Report) (some : 0 < g.script.targets) (least : 0 < g.job.attempts) (h : Headline g o resolved q) where
+-- an outcome that isn't for want of space
+shows-other : (g : Given) (q : Report) (a : Attempt) (before : List Line) (how : Outcome) → ((t need free : ℕ) → LacksSpace (is_snap (command_of g.script a.id)) g q.lines a t need free → ⊥) → ShowsWhy g q.lines before a how
+    → lacks_space how ≡ false
+shows-other g q a before outcome.Committed none k = refl
+shows-other g q a before (outcome.CondFailed op) none k = refl
+shows-other g q a before (outcome.Restart why) none k = refl
+shows-other g q a before (outcome.NoSpace t need free) none k = absurd (none t need free k)
+shows-other g q a before outcome.EpochsSpent none k = refl
+shows-other g q a before outcome.NoSnapshot none k = refl
+shows-other g q a before (outcome.Unknown target) none k = refl
+
+module _ (g : Given) (o : Outside) (resolved : AttemptId → Bool) (q : Report) (least : 0 < g.job.attempts) (h : Headline g o resolved q) where
   abbrev s : Script
   s = g.script
 
   in_turn : AllInTurn g.job.attempts s q.lines
   in_turn = h.outcomes.in_turn
 
-  -- blocks aren't wanting
-  no-lack : HasRoom s g.job.attempts g.opening.free → (a : Attempt) (t need free : ℕ) → Has a (tries q.lines) → LacksBlocks g q.lines a t need free → ⊥
-  no-lack room a t need free i k =
-      let all : sum_of (held s t) (tries q.lines) ≤ sum_over blocks_of_command s * g.job.attempts = all-within (held s t) blocks_of_command g.job.attempts s q.lines least (λ b c at. attempt-blocks s t b.id c at) in_turn in
-      let own : blocks_of_others s t a.id (tries q.lines) + blocks_at s t a.id ≤ sum_of (held s t) (tries q.lines) = own-and-others s t a (tries q.lines) i in
-      let wanting : free < need = k.wanting in
-      let is : need ≡ blocks_at s t a.id = k.need_is in
-      let given : g.opening.free t ≤ free + blocks_of_others s t a.id (tries q.lines) = k.accounted in
-      let enough : sum_over blocks_of_command s * g.job.attempts ≤ g.opening.free t = room t (holder-within s.targets t (minor_writes 0 (attempt_ops s a.id)) some (let more : 0 < blocks_at s t a.id = omega (arith, wanting, is) in more)) in
-      omega (arith, all, own, wanting, is, given, enough)
-
-  -- nor places
+  -- places aren't wanting
   no-place : HasPlaces s g.job.attempts (length g.opening.stand.snaps) → (a : Attempt) (t need free : ℕ) → Has a (tries q.lines) → is_snap (command_of s a.id) ≡ true → LacksPlace g q.lines a t need free → ⊥
   no-place places a t need free i snap k =
       let all : sum_of (snaps s) (tries q.lines) ≤ sum_over snaps_of_command s * g.job.attempts = all-within (snaps s) snaps_of_command g.job.attempts s q.lines least (λ b c at. attempt-snaps s b c at) in_turn in
@@ -167,26 +167,39 @@ module _ (g : Given) (o : Outside) (resolved : AttemptId → Bool) (q : Report) 
       let enough : length g.opening.stand.snaps + sum_over snaps_of_command s * g.job.attempts ≤ 256 = places in
       omega (arith, all, own, one, full, enough)
 
+  -- so no attempt to make a snapshot shows a want of one
+  snaps-find : HasPlaces s g.job.attempts (length g.opening.stand.snaps) → SnapshotsFindPlaces s q
+  snaps-find places =
+      all-from_has (λ a. is_snap (command_of s a.id) ≡ true → lacks_space a.outcome ≡ false) (tries q.lines)
+      (λ a i snap. let z = line-of q.lines a i in shows-other g q a z.before a.outcome (λ t need free k. no-place places a t need free i snap (subst (λ b. LacksSpace b g q.lines a t need free) snap k)) (h.causes z.before a z.after z.among))
+
+  -- blocks aren't wanting
+  no-lack : 0 < s.targets → HasRoom s g.job.attempts g.opening.free → (a : Attempt) (t need free : ℕ) → Has a (tries q.lines) → LacksBlocks g q.lines a t need free → ⊥
+  no-lack some room a t need free i k =
+      let all : sum_of (held s t) (tries q.lines) ≤ sum_over blocks_of_command s * g.job.attempts = all-within (held s t) blocks_of_command g.job.attempts s q.lines least (λ b c at. attempt-blocks s t b.id c at) in_turn in
+      let own : blocks_of_others s t a.id (tries q.lines) + blocks_at s t a.id ≤ sum_of (held s t) (tries q.lines) = own-and-others s t a (tries q.lines) i in
+      let wanting : free < need = k.wanting in
+      let is : need ≡ blocks_at s t a.id = k.need_is in
+      let given : g.opening.free t ≤ free + blocks_of_others s t a.id (tries q.lines) = k.accounted in
+      let enough : sum_over blocks_of_command s * g.job.attempts ≤ g.opening.free t = room t (holder-within s.targets t (minor_writes 0 (attempt_ops s a.id)) some (let more : 0 < blocks_at s t a.id = omega (arith, wanting, is) in more)) in
+      omega (arith, all, own, wanting, is, given, enough)
+
   -- so no attempt shows a want of space
-  finds : HasRoom s g.job.attempts g.opening.free → ((a : Attempt) (t need free : ℕ) → Has a (tries q.lines) → is_snap (command_of s a.id) ≡ true → LacksPlace g q.lines a t need free → ⊥) → FindsRoom q
-  finds room places = all-from_has (λ a. lacks_space a.outcome ≡ false) (tries q.lines) (λ a i. let z = line-of q.lines a i in by a i z.before a.outcome (h.causes z.before a z.after z.among))
+  finds : 0 < s.targets → HasRoom s g.job.attempts g.opening.free → ((a : Attempt) (t need free : ℕ) → Has a (tries q.lines) → is_snap (command_of s a.id) ≡ true → LacksPlace g q.lines a t need free → ⊥) → FindsRoom q
+  finds some room places =
+      all-from_has (λ a. lacks_space a.outcome ≡ false) (tries q.lines)
+      (λ a i. let z = line-of q.lines a i in shows-other g q a z.before a.outcome (λ t need free k. lacking a t need free i (is_snap (command_of s a.id)) refl k) (h.causes z.before a z.after z.among))
     where
       lacking : (a : Attempt) (t need free : ℕ) → Has a (tries q.lines) → (b : Bool) → is_snap (command_of s a.id) ≡ b → LacksSpace b g q.lines a t need free → ⊥
       lacking a t need free i true e k = places a t need free i e k
-      lacking a t need free i false e k = no-lack room a t need free i k
+      lacking a t need free i false e k = no-lack some room a t need free i k
 
-      by : (a : Attempt) → Has a (tries q.lines) → (before : List Line) (how : Outcome) → ShowsWhy g q.lines before a how → lacks_space how ≡ false
-      by a i before outcome.Committed k = refl
-      by a i before (outcome.CondFailed op) k = refl
-      by a i before (outcome.Restart why) k = refl
-      by a i before (outcome.NoSpace t need free) k = absurd (lacking a t need free i (is_snap (command_of s a.id)) refl k)
-      by a i before outcome.EpochsSpent k = refl
-      by a i before outcome.NoSnapshot k = refl
-      by a i before (outcome.Unknown target) k = refl
+pub places-are-found : PlacesAreFound
+places-are-found g o resolved q least places h = snaps-find g o resolved q least h places
 
 pub room-is-found : RoomIsFound
-room-is-found g o resolved q some least room places h = finds g o resolved q some least h room (no-place g o resolved q some least h places)
+room-is-found g o resolved q some least room places h = finds g o resolved q least h some room (no-place g o resolved q least h places)
 
 pub transactions-find-room : TransactionsFindRoom
 transactions-find-room g o resolved q some least room plain h =
-    finds g o resolved q some least h room (λ a t need free i snap k. let no : false ≡ true = sym (not-snap g.script plain a.id) ∙ snap in let bad : ⊥ = cc in bad)
+    finds g o resolved q least h some room (λ a t need free i snap k. let no : false ≡ true = sym (not-snap g.script plain a.id) ∙ snap in let bad : ⊥ = cc in bad)

@@ -1,4 +1,4 @@
--- Room for all that a script may write: then no attempt of a legal report is refused for want of space.
+-- Room for all that a script may write, and places for its snapshots: then no attempt of a legal report is refused for want of these.
 use Rattle.std.specs.Prelude.{ℕ, ◌+◌, ◌*◌, ◌≡◌, ◌≤◌, ◌<◌, Bool, true, false, is_none, List, [], ◌∷◌, length, All, Some}
 use Rattle.std.specs.List.{list_all}
 use Rattle.base_types.specs.declared.id.AttemptId.{AttemptId}
@@ -11,7 +11,7 @@ use Rattle.base_types.specs.declared.script.Script.{Script}
 use Rattle.base_types.specs.Scripts.{is_numbered}
 use Rattle.daos_model.specs.Accesses.{minor_writes}
 use Rattle.daos_model.specs.Attempts.{tries}
-use Rattle.daos_model.specs.CausesShown.{blocks_of_some}
+use Rattle.daos_model.specs.CausesShown.{blocks_of_some, is_snap}
 use Rattle.daos_model.specs.Headline.{Headline}
 use Rattle.daos_model.specs.Opening.{Given, Outside}
 use Rattle.daos_model.specs.Transactions.{command_of, ops_of}
@@ -80,7 +80,17 @@ lacks_space (outcome.Unknown target) = false
 abbrev pub FindsRoom : Report → Type 0
 FindsRoom q = All (λ a. lacks_space a.outcome ≡ false) (tries q.lines)
 
+-- no attempt to make a snapshot is refused for want of a place
+abbrev pub SnapshotsFindPlaces : Script → Report → Type 0
+SnapshotsFindPlaces s q = All (λ a. is_snap (command_of s a.id) ≡ true → lacks_space a.outcome ≡ false) (tries q.lines)
+
 -- ---- the statements
+
+-- where there are places, no attempt of a legal report to make a snapshot is refused one, whatever blocks there are
+abbrev pub PlacesAreFound : Type 0
+PlacesAreFound =
+    (g : Given) (o : Outside) (resolved : AttemptId → Bool) (q : Report) → 0 < g.job.attempts → HasPlaces g.script g.job.attempts (length g.opening.stand.snaps) → Headline g o resolved q
+    → SnapshotsFindPlaces g.script q
 
 -- where there is room and there are places, no attempt of a legal report is refused for want of space
 abbrev pub RoomIsFound : Type 0
