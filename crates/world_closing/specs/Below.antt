@@ -11,7 +11,7 @@ pub use Rattle.world_upheld.specs.reasons.Accounted.{AccountedFor}
 pub use Rattle.world_upheld.specs.reasons.Events.{all-events-keep_accounts}
 pub use Rattle.world_upheld.specs.reasons.Runs.{runs-are_accounted}
 pub use Rattle.world_upheld.specs.upheld.BeginVersions.{begins-well}
-pub use Rattle.world_upheld.specs.upheld.Begins.{AreRulesInForm, KeepsSnapshots, RunBeginsWith, client_begins, snaps_held, without_snaps}
+pub use Rattle.world_upheld.specs.upheld.Begins.{AreRulesInForm, KeepsSnapshots, RunBeginsWell, RunBeginsWith, client_begins, snaps_held, without_snaps}
 pub use Rattle.world_upheld.specs.upheld.Events.{attempts-happened, grows-with, later-with}
 pub use Rattle.world_upheld.specs.upheld.PlainRuns.{none-held}
 pub use Rattle.world_upheld.specs.upheld.Runs.{runs-have_grounds}

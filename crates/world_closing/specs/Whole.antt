@@ -19,7 +19,8 @@ use Rattle.world_making.specs.making.Snapshots.{holds_created}
 use Rattle.world_upheld.specs.below.Plain.{durables_of, held_at, rules_of}
 use Rattle.world_upheld.specs.explained.Explanations.{HoldNoMoreSnapshots}
 use Rattle.world_upheld.specs.explained.Runs.{runs-are_explained}
-use Rattle.world_upheld.specs.upheld.Begins.{AreRulesInForm, RunBeginsWith}
+use Rattle.world_upheld.specs.upheld.Begins.{AreRulesInForm, RunBeginsWell, RunBeginsWith}
+use Rattle.world_upheld.specs.upheld.BeginVersions.{begins-well}
 use Rattle.world_upheld.specs.upheld.Runs.{held-first}
 use Rattle.world_closing.specs.asked.Runs.{ended-all_over, explained-conclude}
 use Rattle.world_closing.specs.legal.Ended.{BeginsWhole, EndIsKnown, ends-have_lines, history_of, known-ends_legal}
@@ -59,6 +60,9 @@ module _ (g : Given) (w v : World) (A : AreRulesInForm (rules_of g)) (B : RunBeg
     abbrev r : Rules
     r = rules_of g
 
+    well : RunBeginsWell r g.opening w
+    well = begins-well r g.opening w B
+
     abbrev whole : BeginsWhole g w
     whole = record { form = A; begins = B; few = few; held = holds-kept g.opening w first; dkeys = opens-with_dkeys g.opening w first }
 
@@ -66,13 +70,13 @@ module _ (g : Given) (w v : World) (A : AreRulesInForm (rules_of g)) (B : RunBeg
     h = history_of g w v whole run
 
     over : IsOver r v
-    over = (ended-all_over r g.opening w v A B few run ended).over
+    over = (ended-all_over r g.opening w v A well run ended).over
 
     concluded : Concluded r g.opening (held_at w) h v
     concluded = explained-conclude r g.opening (held_at w) h (stored_over r run) v A (held-first r g.opening w A B) (runs-are_explained r g.opening w v A B few run).1 over.done
 
     end-known : EndIsKnown g w v h
-    end-known = record { over = over; concluded = concluded; stands = all-ends-stand g w v h A B first run ended concluded (ends-have_lines g w v A B run over).apart }
+    end-known = record { over = over; concluded = concluded; stands = all-ends-stand g w v h A B first run ended concluded (ends-have_lines g w v A well run over).apart }
 
 -- Of a run of any script that began so and has ended, with whatever snapshots its targets held of the opening: where stops and given up targets
 -- were caused from outside, and the numbers of restarts and aggregations are counted by the lines if turns are taken in a stated order, the report

@@ -1,10 +1,11 @@
-// In any run who is waited for is asked; where it has ended it is over, and what became of attempts is known.
+// In any run who is waited for is asked, and where it has ended it is over; where it stands for the opening, what became of attempts is known.
 ghost use Rattle.world_closing.specs.asked.Asked.{AllEndedRunsAreOver, AllEndedRunsConclude, AllRunsAskForCollections, AllRunsAskForWaiters, AllRunsHaveAll, AllRunsSendNone, AllStillRunsAreOver, ExplainedConclude, ExplainedResolve};
 ghost use Rattle.world_closing.specs.asked.Collections.{AllEventsAskOthers};
 ghost use Rattle.world_closing.specs.asked.Waiters.{AllEventsAsk};
 
-/// Says who is asked in a run of any script in form, at each moment: there is a target for each number, a client for
-/// each list of the script, and nothing goes to a target that was given up. Of an attempt for whose end a client waits
+/// Says who is asked in a run of any script in form, at each moment, whatever its targets' versions stood for when it
+/// began: there is a target for each number, a client for each list of the script, and nothing goes to a target that was
+/// given up. Of an attempt for whose end a client waits
 /// each other member that isn't counted is asked, or is about to answer. So is each other target that isn't counted of
 /// what a target collects, for a snapshot or for an aggregation; and what it collects first for an attempt lacks one.
 /// Every event keeps that, what is heard of snapshots and aggregation, and turns that are cut, among them.
@@ -30,7 +31,7 @@ pub fn laws_of_last_turns()
 /// attempts are decided that the targets' durables resolve, those of targets that are stopped or were given up among
 /// them. Where all clients are done each of them has its line, which says that it is committed or that it is unknown
 /// what became of it; what is told as committed was decided at that epoch, and no attempt that failed is resolved. So
-/// it is where a run has ended.
+/// it is where a run that stands for the opening has ended.
 pub fn laws_of_last_attempts()
     ensures resolve { ExplainedResolve }
     ensures conclude { ExplainedConclude }

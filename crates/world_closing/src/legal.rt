@@ -26,9 +26,9 @@ pub fn laws_of_named_reads()
 /// script: reads, where it is known what became of attempts and no map has a cell without a dkey; snapshots and
 /// aggregations, which come from attempts; outcomes and stops, where these were caused from outside, and restarts
 /// and aggregations are counted if turns are taken in a stated order. Each attempt of which an epoch counts has
-/// its line, with that, so that lines show their causes. So the report is legal; and of a run from its beginning
-/// to where it is over, where it is known what became of attempts and what the targets stand for, the headline
-/// holds.
+/// its line, with that, so that lines show their causes. So the report is legal. Of a run from its beginning to
+/// where it is over the lines of clients stand in turn, one of each attempt, whatever its targets' versions stood for
+/// when it began; and where it is known what became of attempts and what the targets stand for, the headline holds.
 pub fn laws_of_legal_reports()
     ensures reads { AllReadsAreLegal }
     ensures snapshots { AllSnapshotsAreLegal }

@@ -1,5 +1,5 @@
 -- What is left where a run has ended in which targets may stop.
-use Rattle.world_closing.specs.Below.{AccountedFor, AreAll, AreRulesInForm, IsOver, RunBeginsWith, begins-well, leader-there, other-there, runs-are_accounted, stored_over, told-down}
+use Rattle.world_closing.specs.Below.{AccountedFor, AreAll, AreRulesInForm, IsOver, RunBeginsWell, RunBeginsWith, begins-well, leader-there, other-there, runs-are_accounted, stored_over, told-down}
 use Rattle.std.specs.Prelude.{ℕ, ◌≡◌, ◌<◌, ◌==◌, ◌&&◌, Bool, true, false, not, filter, is_none, List, [], ◌∷◌, Contains, length, slice_get, Option, Some, None, refl}
 use Rattle.std.specs.List.{list_any}
 use Rattle.std.proofs.Common.{inl, inr, sym, ◌∙◌, ap, subst, arith}
@@ -366,6 +366,9 @@ module _ (g : Given) (w v : World) (k : GoesInOrder g w v) where
   begins : RunBeginsWith r g.opening w
   begins = k.begins.begins
 
+  well : RunBeginsWell r g.opening w
+  well = begins-well r g.opening w begins
+
   run : WorldRun r w v
   run = legal.events g w v k
 
@@ -374,13 +377,13 @@ module _ (g : Given) (w v : World) (k : GoesInOrder g w v) where
   mid = orders-have-middle r g.opening w form begins g.job.order v k.run
 
   there : AreAll r mid.middle
-  there = runs-have_all r g.opening w mid.middle begins mid.run
+  there = runs-have_all r g.opening w mid.middle well mid.run
 
   mid-over : IsOver r mid.middle
-  mid-over = (still-all_over r g.opening w mid.middle form begins k.begins.few mid.run (middle-still r mid.middle there.clients mid.quiet)).over
+  mid-over = (still-all_over r g.opening w mid.middle form well mid.run (middle-still r mid.middle there.clients mid.quiet)).over
 
   so-far : (h : History) × AccountedFor r g.opening h (stored_over r mid.run) mid.middle
-  so-far = runs-are_accounted r g.opening w mid.middle form (begins-well r g.opening w begins) mid.run
+  so-far = runs-are_accounted r g.opening w mid.middle form well mid.run
 
   settles : Settles r g.opening (stored_over r mid.run) so-far.0 mid.middle
   settles = record {
@@ -396,10 +399,10 @@ module _ (g : Given) (w v : World) (k : GoesInOrder g w v) where
   ended = legal.ended g w v k
 
   end-over : IsOver r v
-  end-over = (ended-all_over r g.opening w v form begins k.begins.few run ended).over
+  end-over = (ended-all_over r g.opening w v form well run ended).over
 
   many : length v.targets ≡ r.script.targets
-  many = (runs-have_all r g.opening w v begins run).targets
+  many = (runs-have_all r g.opening w v well run).targets
 
   left-so : LeavesInTheEnd r v
   left-so =
@@ -409,7 +412,7 @@ module _ (g : Given) (w v : World) (k : GoesInOrder g w v) where
   -- each target that was given up has its line
   pub downs-have_lines : (t : ℕ) (s : TargetState) → slice_get v.targets t ≡ Some s → s.life ≡ Down → Has (line.Down t) v.lines
   downs-have_lines t s here down =
-      let a = runs-are_accounted r g.opening w v form (begins-well r g.opening w begins) run in
+      let a = runs-are_accounted r g.opening w v form well run in
       gone r g.opening a.0 (stored_over r run) v form a.1 ended.settled end-over many t s here down
 
 pub orders-leave : OrdersLeaveInTheEnd

@@ -19,14 +19,14 @@ use Rattle.world_commit.specs.requests.Rows.{commits-find}
 use Rattle.world_letters.specs.lives.Lives.{Lives}
 use Rattle.world_upheld.specs.below.Legal.{AreAsking, DownsAreKnown, IsStill, NoneGoesToGivenUp, WaitersAreAsked, events-go_on, runs-as_many, stored_over}
 use Rattle.world_upheld.specs.below.Plain.{held_at}
-use Rattle.world_upheld.specs.explained.Explanations.{HoldNoMoreSnapshots, upheld_of}
+use Rattle.world_upheld.specs.explained.Explanations.{upheld_of}
 use Rattle.world_upheld.specs.explained.Runs.{runs-are_explained}
 use Rattle.world_upheld.specs.reasons.Runs.{runs-are_accounted}
 use Rattle.world_upheld.specs.upheld.BeginVersions.{begins-well}
 use Rattle.world_commit.specs.statuses.Events.{told_by}
 use Rattle.world_upheld.specs.reasons.Accounted.{AccountedFor}
 use Rattle.world_upheld.specs.reasons.Events.{accounted-then}
-use Rattle.world_upheld.specs.upheld.Begins.{AreRulesInForm, RunBeginsWith, client_begins}
+use Rattle.world_upheld.specs.upheld.Begins.{AreRulesInForm, RunBeginsWell, client_begins}
 use Rattle.world_upheld.specs.upheld.Events as stands
 use Rattle.world_upheld.specs.upheld.Events.{event-many}
 use Rattle.world_upheld.specs.upheld.Runs.{held-first}
@@ -49,7 +49,7 @@ runs-send_none r o w v B Begins = λ l t s i to here down. subst (Has l) B.messa
 runs-send_none r o w v B (Goes u x run e) = events-go_on r u v e
 
 -- nothing is undecided when a run begins
-none-waited : (r : Rules) (o : Opening) (w : World) → RunBeginsWith r o w → WaitersAreAsked r w
+none-waited : (r : Rules) (o : Opening) (w : World) → RunBeginsWell r o w → WaitersAreAsked r w
 none-waited r o w B x m u c other row client off = by (slice_get w.targets (leader_of r x)) refl row
   where
     by : (y : Option TargetState) → slice_get w.targets (leader_of r x) ≡ y → row_in y x ≡ Some u → 1 ≤ talking r (inc_at w (leader_of r x)) w x m
@@ -97,30 +97,30 @@ module _ (r : Rules) (o : Opening) (h later : History) (stored : Stored) (w v : 
     collections = all-events-ask_others r h later w v k.grounds.heard.attempts e asking.attempts_then asked.collections;
   }
 
-runs-ask : (r : Rules) (o : Opening) (w v : World) → AreRulesInForm r → RunBeginsWith r o w → HoldNoMoreSnapshots o w → WorldRun r w v → AreAllAsked r v
-runs-ask r o w v A B few Begins = record { waiters = none-waited r o w B; collections = nothing-collected r w (λ t s here. (B.starts t s here).collecting) }
-runs-ask r o w v A B few (Goes u x run e) =
-    let k = runs-are_accounted r o w u A (begins-well r o w B) run in
-    asked-on r o k.0 (stands.later-with k.0 (told_by e.happens)) (stored_over r run) u v A (runs-send_none r o w u B run) k.1 (runs-ask r o w u A B few run) e (stands.grows-with k.0 (told_by e.happens))
+runs-ask : (r : Rules) (o : Opening) (w v : World) → AreRulesInForm r → RunBeginsWell r o w → WorldRun r w v → AreAllAsked r v
+runs-ask r o w v A B Begins = record { waiters = none-waited r o w B; collections = nothing-collected r w (λ t s here. (B.starts t s here).collecting) }
+runs-ask r o w v A B (Goes u x run e) =
+    let k = runs-are_accounted r o w u A B run in
+    asked-on r o k.0 (stands.later-with k.0 (told_by e.happens)) (stored_over r run) u v A (runs-send_none r o w u B run) k.1 (runs-ask r o w u A B run) e (stands.grows-with k.0 (told_by e.happens))
 
 pub runs-ask_for_waiters : AllRunsAskForWaiters
-runs-ask_for_waiters r o w v A B few run = (runs-ask r o w v A B few run).waiters
+runs-ask_for_waiters r o w v A B run = (runs-ask r o w v A B run).waiters
 
 pub runs-ask_for_collections : AllRunsAskForCollections
-runs-ask_for_collections r o w v A B few run = (runs-ask r o w v A B few run).collections
+runs-ask_for_collections r o w v A B run = (runs-ask r o w v A B run).collections
 
 -- ---- in the end
 
 pub still-all_over : AllStillRunsAreOver
-still-all_over r o w v A B few run still = is-all_over r k.0 v under_way still
+still-all_over r o w v A B run still = is-all_over r k.0 v under_way still
   where
     k : (h : History) × AccountedFor r o h (stored_over r run) v
-    k = runs-are_accounted r o w v A (begins-well r o w B) run
+    k = runs-are_accounted r o w v A B run
 
     under_way : IsUnderWay r k.0 v
     under_way =
         let s = k.1 in
-        let asked = runs-ask r o w v A B few run in
+        let asked = runs-ask r o w v A B run in
         record {
           some = A.some_target;
           all = runs-have_all r o w v B run;
@@ -140,9 +140,9 @@ still-ended : (r : Rules) (v : World) → HasEnded r v → IsStill r v
 still-ended r v ended = record { to_clients = ended.to_clients; to_targets = ended.to_targets; clients = ended.clients; none_stopped = ended.none_stopped }
 
 pub ended-all_over : AllEndedRunsAreOver
-ended-all_over r o w v A B few run ended = still-all_over r o w v A B few run (still-ended r v ended)
+ended-all_over r o w v A B run ended = still-all_over r o w v A B run (still-ended r v ended)
 
--- ---- what became of attempts
+-- ---- what became of attempts, of a run that stands for the opening
 
 pub explained-resolve : ExplainedResolve
 explained-resolve r o held h stored v A before k = known-resolve r o held h v (upheld-known r o held h v A before (upheld_of k))
@@ -153,4 +153,4 @@ explained-conclude r o held h stored v A before k done = known-conclude r o held
 pub ended-conclude : AllEndedRunsConclude
 ended-conclude r o w v A B few run ended =
     let k = runs-are_explained r o w v A B few run in
-    (k.0, k.1, explained-conclude r o (held_at w) k.0 (stored_over r run) v A (held-first r o w A B) k.1 (ended-all_over r o w v A B few run ended).over.done)
+    (k.0, k.1, explained-conclude r o (held_at w) k.0 (stored_over r run) v A (held-first r o w A B) k.1 (ended-all_over r o w v A (begins-well r o w B) run ended).over.done)

@@ -18,9 +18,8 @@ use Rattle.world_letters.specs.lives.Legal.{AreCaused}
 use Rattle.world_upheld.specs.below.Plain.{durables_of, held_at, lines-apart, rules_of}
 use Rattle.world_upheld.specs.explained.Explanations.{HoldNoMoreSnapshots}
 use Rattle.world_upheld.specs.explained.Runs.{runs-are_explained}
-use Rattle.world_upheld.specs.upheld.Begins.{AreRulesInForm, RunBeginsWith}
+use Rattle.world_upheld.specs.upheld.Begins.{AreRulesInForm, RunBeginsWell, RunBeginsWith}
 use Rattle.world_upheld.specs.upheld.Runs.{runs-have_grounds}
-use Rattle.world_upheld.specs.upheld.BeginVersions.{begins-well}
 use Rattle.world_closing.specs.legal.Following.{HoldsKept}
 use Rattle.world_closing.specs.legal.Headline.{reports-are_legal}
 use Rattle.world_closing.specs.legal.Moments.{runs-issue_once, runs-name}
@@ -28,21 +27,21 @@ use Rattle.world_closing.specs.legal.Reads.{OpensWithDkeys}
 
 -- ---- lines
 
--- where a run is over the lines of clients stand in turn
+-- where a run is over the lines of clients stand in turn, whatever its targets' versions stood for when it began
 abbrev pub AllEndsAreInTurn : Type 0
-AllEndsAreInTurn = (g : Given) (w v : World) → AreRulesInForm (rules_of g) → RunBeginsWith (rules_of g) g.opening w → WorldRun (rules_of g) w v → IsOver (rules_of g) v → AllInTurn g.job.attempts g.script v.lines
+AllEndsAreInTurn = (g : Given) (w v : World) → AreRulesInForm (rules_of g) → RunBeginsWell (rules_of g) g.opening w → WorldRun (rules_of g) w v → IsOver (rules_of g) v → AllInTurn g.job.attempts g.script v.lines
 
 pub ends-in_turn : AllEndsAreInTurn
-ends-in_turn g w v A B run over = lines-in-turn (rules_of g) v (runs-have_grounds (rules_of g) g.opening w v A (begins-well (rules_of g) g.opening w B) run).1.lines over.done over.clients
+ends-in_turn g w v A B run over = lines-in-turn (rules_of g) v (runs-have_grounds (rules_of g) g.opening w v A B run).1.lines over.done over.clients
 
 -- and of each attempt there is one line
 abbrev pub AllEndsHaveLines : Type 0
-AllEndsHaveLines = (g : Given) (w v : World) → AreRulesInForm (rules_of g) → RunBeginsWith (rules_of g) g.opening w → WorldRun (rules_of g) w v → IsOver (rules_of g) v → AreLines g.script v
+AllEndsHaveLines = (g : Given) (w v : World) → AreRulesInForm (rules_of g) → RunBeginsWell (rules_of g) g.opening w → WorldRun (rules_of g) w v → IsOver (rules_of g) v → AreLines g.script v
 
 pub ends-have_lines : AllEndsHaveLines
 ends-have_lines g w v A B run over = record {
   reads = snapshots-read (rules_of g) g.script.targets A.form;
-  distinct = (runs-have_grounds (rules_of g) g.opening w v A (begins-well (rules_of g) g.opening w B) run).1.heard.epochs.distinct.distinct;
+  distinct = (runs-have_grounds (rules_of g) g.opening w v A B run).1.heard.epochs.distinct.distinct;
   apart = lines-apart g.job.attempts g.script v.lines (ends-in_turn g w v A B run over);
 }
 
