@@ -2,7 +2,7 @@
 use Rattle.std.specs.Prelude.{ℕ, ◌≡◌, ◌≤◌, Bool, refl}
 use Rattle.std.proofs.Common.{arith}
 use Rattle.base_messages.specs.declared.actor.ActorId.{ActorId}
-use Rattle.world_closing.specs.safety.Raising.{RaisesAtMost, event-raises, raised_by, raises-then}
+use Rattle.world_closing.specs.safety.Raising.{RaisesAtMost, event-raises_most, raised_by, raises-then}
 use Rattle.run_laws.specs.turns.Turns.{Doing, GivingUp, IsDraw, GivesUp, Opening, TurnOf}
 use Rattle.world_base.specs.declared.world.World.{World}
 use Rattle.world_base.specs.Events.{Rules}
@@ -50,8 +50,8 @@ once r w u (GivenUp g) = omega arith
 once r w u (Draws g) = omega arith
 
 pub turns-raise : TurnsRaise
-turns-raise settling r a k w v (Doing d plain) = event-raises r w v d.event
+turns-raise settling r a k w v (Doing d plain) = event-raises_most r w v d.event
 turns-raise settling r a k w v (Opening u n draw d by) =
-    raises-then (raised_by r n.happens) (raised_by r d.event.happens) 1 w u v (let p = draw-raises r w n.u n.happens draw in let q = once r u d.event.u d.event.happens in omega (arith, p, q)) (event-raises r w u n) (event-raises r u v d.event)
+    raises-then (raised_by r n.happens) (raised_by r d.event.happens) 1 w u v (let p = draw-raises r w n.u n.happens draw in let q = once r u d.event.u d.event.happens in omega (arith, p, q)) (event-raises_most r w u n) (event-raises_most r u v d.event)
 turns-raise settling r a k w v (GivingUp u d fault g gives) =
-    raises-then (raised_by r d.event.happens) (raised_by r g.happens) (raised_by r d.event.happens) w u v (let p = gives-raises r a u g.u g.happens gives in omega (arith, p)) (event-raises r w u d.event) (event-raises r u v g)
+    raises-then (raised_by r d.event.happens) (raised_by r g.happens) (raised_by r d.event.happens) w u v (let p = gives-raises r a u g.u g.happens gives in omega (arith, p)) (event-raises_most r w u d.event) (event-raises_most r u v g)

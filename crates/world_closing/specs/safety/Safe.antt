@@ -1,12 +1,14 @@
 -- What holds between any two events of any run, whatever its targets' versions stood for when it began: by this what targets are asked can be
--- heard, leases cover what they keep, the report is in form and tells of commands in turn, and answers are of their reads' kinds. The statements.
-use Rattle.std.specs.Prelude.{ℕ, ◌≡◌, ◌<◌, ◌++◌, [], slice_get, Contains, Some, List}
+-- heard, leases cover what they keep, the report is in form and tells of commands in turn, and answers are of their reads' kinds; and where the run has
+-- ended it is over. The statements.
+use Rattle.std.specs.Prelude.{ℕ, ◌≡◌, ◌≤◌, ◌<◌, ◌++◌, [], slice_get, Contains, Some, List}
 use Rattle.base_messages.specs.declared.actor.ActorId.{ActorId}
 use Rattle.base_messages.specs.declared.message.Message.{Message}
 use Rattle.base_messages.specs.declared.message.Message.TheVariants as message
 use Rattle.base_messages.specs.declared.message.Post.{Post}
 use Rattle.daos_model.specs.declared.durable.Durable.{Durable}
 use Rattle.daos_model.specs.Opening.{Given, Opening}
+use Rattle.daos_model.specs.Order.{AllInTurn}
 use Rattle.report_writer.specs.Forms.{IsReportOf}
 use Rattle.script_traits.specs.Keyed.{ScriptHasKeys}
 use Rattle.world_answers.specs.Forms.{AnswersInForm, AsksAreInForm, TargetsHaveKeys}
@@ -14,6 +16,7 @@ use Rattle.world_base.specs.declared.letter.Letter.{Letter}
 use Rattle.world_base.specs.declared.target.Life.TheVariants.{Running}
 use Rattle.world_base.specs.declared.target.TargetState.{TargetState}
 use Rattle.world_base.specs.declared.world.World.{World}
+use Rattle.world_base.specs.Ended.{HasEnded}
 use Rattle.world_base.specs.Events.{Rules, target_plan}
 use Rattle.world_base.specs.Letters.{target}
 use Rattle.world_base.specs.Stops.{WorldEvent, WorldRun}
@@ -28,11 +31,13 @@ use Rattle.world_letters.specs.kinds.Fitting.{AllAnswersFit}
 use Rattle.world_upheld.specs.below.Plain.{AreEnlisted, no_history, rules_of}
 use Rattle.world_upheld.specs.below.Readers.{AllBeginInTurn, AllKeepInForm, AnswersFitInWorld}
 use Rattle.world_upheld.specs.below.Standing.{AreSentSo}
+use Rattle.world_upheld.specs.causing.OverDates.{CausesOverDates}
 use Rattle.world_upheld.specs.explained.Explanations.{Explanations, HoldNoMoreSnapshots}
 use Rattle.world_upheld.specs.hearing.Across.{GoAcross}
 use Rattle.world_upheld.specs.hearing.Hearable.{CanHearLetter}
 use Rattle.world_upheld.specs.hearing.Leases.{AllKeepCovered}
 use Rattle.world_upheld.specs.upheld.Begins.{AreRulesInForm, RunBeginsWell}
+use Rattle.world_closing.specs.asked.Over.{IsAllOver}
 use Rattle.world_closing.specs.forming.Forming.{IsSmallRun}
 
 -- ---- the facts
@@ -126,6 +131,22 @@ pub record TellsSafely (r : Rules) (w : World) : Type 0 where
 
 abbrev pub SafeLinesAreInOrder : Type 0
 SafeLinesAreInOrder = (r : Rules) (o : Opening) (h : History) (stored : Stored) (w : World) → AreRulesInForm r → IsSafe r o h stored w → TellsSafely r w
+
+-- leases cover the versions and snapshots that targets keep, whether they run, are stopped, or are given up
+abbrev pub SafeLeasesCover : Type 0
+SafeLeasesCover = (r : Rules) (o : Opening) (h : History) (stored : Stored) (w : World) → IsSafe r o h stored w → AllKeepCovered w
+
+-- each outcome that goes about, or that a line tells of, shows its cause over dates
+abbrev pub SafeOutcomesShow : Type 0
+SafeOutcomesShow = (r : Rules) (o : Opening) (h : History) (stored : Stored) (w : World) → IsSafe r o h stored w → (late : ℕ) → late ≤ 1 → CausesOverDates r o late stored w
+
+-- where a run has ended it is over, with nothing being made, and its lines tell of each client's commands, all of them, in turn
+pub record EndsSafely (r : Rules) (v : World) : Type 0 where
+  pub over : IsAllOver r v
+  pub in_turn : AllInTurn r.attempts r.script v.lines
+
+abbrev pub AllRunsEndSafely : Type 0
+AllRunsEndSafely = (r : Rules) (o : Opening) (w v : World) → AreRulesInForm r → RunBeginsWell r o w → WorldRun r w v → HasEnded r v → EndsSafely r v
 
 -- the report of the lines so far is in the form in which its text determines it
 abbrev pub SafeReportsHaveForm : Type 0

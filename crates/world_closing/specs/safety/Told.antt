@@ -1,4 +1,4 @@
--- What a safe run gives: letters can be heard, lines are in order, and the report is in form.
+-- What a safe run gives: letters can be heard, lines are in order, and the report is in form; and where it has ended it is over.
 use Rattle.std.specs.Prelude.{ℕ, ◌≤◌, ◌⊎◌}
 use Rattle.std.proofs.Common.{inl, inr, arith}
 use Rattle.base_messages.specs.declared.actor.ActorId.{ActorId}
@@ -8,9 +8,13 @@ use Rattle.daos_model.specs.declared.durable.Durable.{Durable}
 use Rattle.world_base.specs.Events.{Rules}
 use Rattle.world_upheld.specs.below.Readers.{lines-begin_in_turn, lines-end_well}
 use Rattle.world_upheld.specs.below.Standing.{CanHearOn}
+use Rattle.world_letters.specs.lines.LastLines.{lines-in-turn}
 use Rattle.world_upheld.specs.hearing.Hearable.{IsMakingHeard, all-heard_in_form, all-letters_can_be_heard}
+use Rattle.world_upheld.specs.upheld.Runs.{runs-have_grounds}
+use Rattle.world_closing.specs.asked.Over.{IsAllOver}
+use Rattle.world_closing.specs.asked.Runs.{ended-all_over}
 use Rattle.world_closing.specs.forming.Runs.{report-form}
-use Rattle.world_closing.specs.safety.Safe.{SafeLettersCanBeHeard, SafeLinesAreInOrder, SafeReportsHaveForm, SenderFits}
+use Rattle.world_closing.specs.safety.Safe.{AllRunsEndSafely, SafeLeasesCover, SafeLettersCanBeHeard, SafeLinesAreInOrder, SafeOutcomesShow, SafeReportsHaveForm, SenderFits}
 
 -- what can be heard has a sender that fits
 sender-fits : (r : Rules) (t : ℕ) (d : Durable) (from to : ActorId) (m : Message) → r.script.targets ≤ 64 → CanHearOn r t d m ⊎ IsMakingHeard r.script.targets d from to m → SenderFits from m
@@ -31,3 +35,14 @@ safe-lines_are_in_order r o h stored w A k =
 
 pub safe-reports_have_form : SafeReportsHaveForm
 safe-reports_have_form g h stored v A k keyed small = report-form g stored h v A k.explanations k.covered small (λ a i. keyed.answers.lines a i)
+
+pub safe-leases_cover : SafeLeasesCover
+safe-leases_cover r o h stored w k = k.covered
+
+pub safe-outcomes_show : SafeOutcomesShow
+safe-outcomes_show r o h stored w k = k.explanations.causes
+
+pub all-runs-end_safely : AllRunsEndSafely
+all-runs-end_safely r o w v A B run ended =
+    let k : IsAllOver r v = ended-all_over r o w v A B run ended in
+    record { over = k; in_turn = lines-in-turn r v (runs-have_grounds r o w v A B run).1.lines k.over.done k.over.clients }
