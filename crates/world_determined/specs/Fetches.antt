@@ -21,7 +21,8 @@ use Rattle.world_base.specs.Reads.{Asked, AtSnapshot, ExtendsLease, FetchEnds, F
 use Rattle.world_base.specs.Requests.{is_other_attempt}
 use Rattle.world_base.specs.Roles.{other_leader}
 use Rattle.world_base.specs.Turns.{Whole}
-use Rattle.world_determined.specs.Paths.{FitsOn, HasOneEnd, HasOneStep, IsLast, OneTurn, whole-one}
+use Rattle.world_determined.specs.Paths.{FitsOn, HasOneStep}
+use Rattle.world_determined.specs.Wholes.{HasOneEnd, IsLast, OneTurn, whole-one}
 
 -- no other target leads one of these attempts
 abbrev pub AreLedHere : TargetPlan → List AttemptId → Durable → Type 0

@@ -21,8 +21,9 @@ use Rattle.world_base.specs.Requests.{with_ticks}
 use Rattle.world_base.specs.Snapshots as snap
 use Rattle.world_base.specs.Snapshots.{follows, freeze_cause, is_held_by_all, is_last, is_prune_due, prune_limit, to_actor}
 use Rattle.world_base.specs.Turns.{Whole}
-use Rattle.world_determined.specs.Paths.{HasOneEnd, HasOneStep, IsLast, OneTurn, whole-one}
+use Rattle.world_determined.specs.Paths.{HasOneStep}
 use Rattle.world_determined.specs.Settlings.{Always, always-on}
+use Rattle.world_determined.specs.Wholes.{HasOneEnd, IsLast, OneTurn, whole-one}
 
 -- ---- a freeze
 

@@ -1,11 +1,11 @@
 -- Where each stage of a turn has one step, turns go one way.
-use Rattle.std.specs.Prelude.{ℕ, zero, suc, ◌≡◌, ◌<◌, ◌⊎◌, ◌++◌, List, Option, Some, None, refl}
-use Rattle.std.proofs.Common.{inl, inr, sym, ◌∙◌, ap, subst, arith}
+use Rattle.std.specs.Prelude.{ℕ, zero, suc, ◌≡◌, ◌<◌, ◌⊎◌, ◌++◌, List, [], ◌∷◌, length, Option, Some, None, refl}
+use Rattle.std.proofs.Common.{append-nil, append_assoc, length-append, inl, inr, sym, ◌∙◌, ap, subst, arith}
 use Rattle.std.proofs.lemmas.Bool.{cases_order}
 use Rattle.daos_model.specs.declared.durable.Durable.{Durable}
 use Rattle.world_base.specs.Changes.{Change, Kept, Steps, made}
-use Rattle.world_base.specs.PathLaws.{path-keeps, reached-here, reached-more}
-use Rattle.world_base.specs.Turns.{Here, More, Path, Reached, Whole, listed}
+use Rattle.world_base.specs.PathLaws.{path-keeps}
+use Rattle.world_base.specs.Turns.{Here, More, Path, Reached, listed}
 
 -- ---- the definitions
 
@@ -71,25 +71,39 @@ module _ {S : Type 0} (Next : S → Kept → Option Change → S → Type 0) (Fi
 -- ---- a turn that goes further
 
 -- so many steps of a turn, the next one, and the rest
-record Split {S : Type 0} (Next : S → Kept → Option Change → S → Type 0) (s : S) (k : Kept) (n : ℕ) (t : S) (l : Kept) : Type 0 where
-  before : List Change
-  mid : S
-  had : Kept
-  path : Path Next s k before mid had
-  so_many : steps_in path ≡ n
-  change : Option Change
-  after : S
-  has : Kept
-  next : Next mid had change after
-  steps : Steps change had has
-  rest : Reached Next after has t l
+pub record Split {S : Type 0} (Next : S → Kept → Option Change → S → Type 0) (s : S) (k : Kept) (did : List Change) (t : S) (l : Kept) (n : ℕ) : Type 0 where
+  pub before : List Change
+  pub mid : S
+  pub had : Kept
+  pub path : Path Next s k before mid had
+  pub so_many : steps_in path ≡ n
+  pub change : Option Change
+  pub after : S
+  pub has : Kept
+  pub next : Next mid had change after
+  pub steps : Steps change had has
+  pub rest : Reached Next after has t l
+  pub did_all : did ≡ (before ++ listed change) ++ rest.did
 
-split-at : {S : Type 0} (Next : S → Kept → Option Change → S → Type 0) (s : S) (k : Kept) (did : List Change) (t : S) (l : Kept) (n : ℕ) (p : Path Next s k did t l) → n < steps_in p → Split Next s k n t l
+pub split-at : {S : Type 0} (Next : S → Kept → Option Change → S → Type 0) (s : S) (k : Kept) (did : List Change) (t : S) (l : Kept) (n : ℕ) (p : Path Next s k did t l) → n < steps_in p → Split Next s k did t l n
 split-at Next s k did t l n Here less = let no : ⊥ = omega arith in absurd no
 split-at Next s k _ _ _ n (More did t l o u m path next steps) less = by (split-at Next s k did t l n path) (cases_order n (steps_in path))
   where
-    by : (n < steps_in path → Split Next s k n t l) → (n ≡ steps_in path) ⊎ ((n < steps_in path) ⊎ (steps_in path < n)) → Split Next s k n u m
-    by earlier (inl here) = record { before = did; mid = t; had = l; path = path; so_many = sym here; change = o; after = u; has = m; next = next; steps = steps; rest = reached-here Next u m }
+    by : (n < steps_in path → Split Next s k did t l n) → (n ≡ steps_in path) ⊎ ((n < steps_in path) ⊎ (steps_in path < n)) → Split Next s k (did ++ listed o) u m n
+    by earlier (inl here) = record {
+      before = did;
+      mid = t;
+      had = l;
+      path = path;
+      so_many = sym here;
+      change = o;
+      after = u;
+      has = m;
+      next = next;
+      steps = steps;
+      rest = record { did = []; path = Here };
+      did_all = sym (append-nil (did ++ listed o));
+    }
     by earlier (inr (inl less)) =
         let x = earlier less in
         record {
@@ -103,93 +117,32 @@ split-at Next s k _ _ _ n (More did t l o u m path next steps) less = by (split-
           has = x.has;
           next = x.next;
           steps = x.steps;
-          rest = reached-more Next x.after x.has t l o u m x.rest next steps;
+          rest = record { did = x.rest.did ++ listed o; path = More x.rest.did t l o u m x.rest.path next steps };
+          did_all = ap (λ z. z ++ listed o) x.did_all ∙ append_assoc (x.before ++ listed x.change) x.rest.did (listed o);
         }
     by earlier (inr (inr later)) = let no : ⊥ = omega (arith, less, later) in absurd no
 
--- ---- whole turns
+-- ---- as many changes
 
--- How two whole turns from one beginning end: at one stage; or one ends at a stage from which the other goes on.
-pub data Beside {S R : Type 0} (Next : S → Kept → Option Change → S → Type 0) (Ends : S → Kept → R → Type 0) (Fits : S → Durable → Type 0) (new new' : Kept) (left left' : R) : Type 0 where
-  Together : (s : S) → Fits s new.durable → new.durable ≡ new'.durable → Ends s new left → Ends s new' left' → Beside Next Ends Fits new new' left left'
-  EndsFirst : (s : S) (k : Kept) (o : Option Change) (u : S) (l : Kept) → Fits s new.durable → new.durable ≡ k.durable → Ends s new left → Next s k o u → Steps o k l → Whole Next Ends u l new' left'
-      → Beside Next Ends Fits new new' left left'
-  GoesOn : (s : S) (k : Kept) (o : Option Change) (u : S) (l : Kept) → Fits s new'.durable → new'.durable ≡ k.durable → Ends s new' left' → Next s k o u → Steps o k l → Whole Next Ends u l new left
-      → Beside Next Ends Fits new new' left left'
+module _ {S : Type 0} (Next : S → Kept → Option Change → S → Type 0) (Fits : S → Durable → Type 0) (one : HasOneStep Next Fits) (on : FitsOn Next Fits) where
+  -- where one turn made fewer steps than another, and its next step is a change, it made fewer changes
+  fewer-changes :
+      (s : S) (k k' : Kept) (did did' : List Change) (t t' : S) (l l' : Kept) (c : Change) (u : S)
+      → Fits s k.durable → k.durable ≡ k'.durable → (p : Path Next s k did t l) (q : Path Next s k' did' t' l') → Next t l (Some c) u → steps_in p < steps_in q → length did < length did'
+  fewer-changes s k k' did did' t t' l l' c u fits same p q next less =
+      let x = split-at Next s k' did' t' l' (steps_in p) q less in
+      let so = path-same Next Fits one on s k k' did x.before t x.mid l x.had fits same p x.path (sym x.so_many) in
+      let step : OneStep (Some c) x.change u x.after = one t l x.had (Some c) x.change u x.after (path-keeps Next (λ y d. Fits y d.durable) on s k did t l p fits) so.kept_same next (subst (λ y. Next y x.had x.change x.after) (sym so.stage_same) x.next) in
+      let all : did' ≡ (did ++ c ∷ []) ++ x.rest.did = x.did_all ∙ ap (λ y. (y ++ listed x.change) ++ x.rest.did) (sym so.did_same) ∙ ap (λ y. (did ++ listed y) ++ x.rest.did) (sym step.change) in
+      omega (arith, ap length all, length-append (did ++ c ∷ []) x.rest.did, length-append did (c ∷ []))
 
-beside-turned :
-    {S R : Type 0} (Next : S → Kept → Option Change → S → Type 0) (Ends : S → Kept → R → Type 0) (Fits : S → Durable → Type 0) (new new' : Kept) (left left' : R)
-    → Beside Next Ends Fits new new' left left' → Beside Next Ends Fits new' new left' left
-beside-turned Next Ends Fits new new' left left' (Together s fits same ends ends') = Together s (subst (Fits s) same fits) (sym same) ends' ends
-beside-turned Next Ends Fits new new' left left' (EndsFirst s k o u l fits same ends next steps rest) = GoesOn s k o u l fits same ends next steps rest
-beside-turned Next Ends Fits new new' left left' (GoesOn s k o u l fits same ends next steps rest) = EndsFirst s k o u l fits same ends next steps rest
-
-module _ {S R : Type 0} (Next : S → Kept → Option Change → S → Type 0) (Ends : S → Kept → R → Type 0) (Fits : S → Durable → Type 0) (one : HasOneStep Next Fits) (on : FitsOn Next Fits) (start : S) where
-  ends-first :
-      (old old' new new' : Kept) (left left' : R)
-      → Fits start old.durable → old.durable ≡ old'.durable → (w : Whole Next Ends start old new left) (v : Whole Next Ends start old' new' left')
-      → steps_in w.reached.path < steps_in v.reached.path → Beside Next Ends Fits new new' left left'
-  ends-first old old' new new' left left' fits same w v less =
-      let x = split-at Next start old' v.reached.did v.last new' (steps_in w.reached.path) v.reached.path less in
-      let so = path-same Next Fits one on start old old' w.reached.did x.before w.last x.mid new x.had fits same w.reached.path x.path (sym x.so_many) in
-      EndsFirst w.last x.had x.change x.after x.has (path-keeps Next (λ t d. Fits t d.durable) on start old w.reached.did w.last new w.reached.path fits) so.kept_same w.ends
-      (subst (λ t. Next t x.had x.change x.after) (sym so.stage_same) x.next) x.steps (record { last = v.last; reached = x.rest; ends = v.ends })
-
-  pub whole-beside :
-      (old old' new new' : Kept) (left left' : R)
-      → Fits start old.durable → old.durable ≡ old'.durable → Whole Next Ends start old new left → Whole Next Ends start old' new' left'
-      → Beside Next Ends Fits new new' left left'
-  whole-beside old old' new new' left left' fits same w v = by (cases_order (steps_in w.reached.path) (steps_in v.reached.path))
+  -- two turns of which the next steps are changes made as many steps, if they made as many changes
+  pub as_many-steps :
+      (s : S) (k k' : Kept) (did did' : List Change) (t t' : S) (l l' : Kept) (c c' : Change) (u u' : S)
+      → Fits s k.durable → k.durable ≡ k'.durable → (p : Path Next s k did t l) (q : Path Next s k' did' t' l') → Next t l (Some c) u → Next t' l' (Some c') u' → length did ≡ length did' → steps_in p ≡ steps_in q
+  as_many-steps s k k' did did' t t' l l' c c' u u' fits same p q next next' as_many = by (cases_order (steps_in p) (steps_in q))
     where
-      by : (steps_in w.reached.path ≡ steps_in v.reached.path) ⊎ ((steps_in w.reached.path < steps_in v.reached.path) ⊎ (steps_in v.reached.path < steps_in w.reached.path)) → Beside Next Ends Fits new new' left left'
-      by (inl as_many) =
-          let so = path-same Next Fits one on start old old' w.reached.did v.reached.did w.last v.last new new' fits same w.reached.path v.reached.path as_many in
-          Together w.last (path-keeps Next (λ t d. Fits t d.durable) on start old w.reached.did w.last new w.reached.path fits) so.kept_same w.ends (subst (λ t. Ends t new' left') (sym so.stage_same) v.ends)
-      by (inr (inl less)) = ends-first old old' new new' left left' fits same w v less
-      by (inr (inr more)) = beside-turned Next Ends Fits new' new left' left (ends-first old' old new' new left' left (subst (Fits start) same fits) (sym same) v w more)
-
--- ---- turns that come to one thing
-
--- two turns come to one: the same is kept, but for free blocks, and the same is known and follows
-pub record OneTurn {R : Type 0} (new new' : Kept) (left left' : R) : Type 0 where
-  pub kept_same : new.durable ≡ new'.durable
-  pub left_same : left ≡ left'
-
-module _ {S R A : Type 0} (Next : S → Kept → Option Change → S → Type 0) (Ends : S → Kept → R → Type 0) (Fits : S → Durable → Type 0) (told : R → A) where
-  -- what a turn ends with at a stage is one, where the same is told
-  abbrev pub HasOneEndAs : Type 0
-  HasOneEndAs = (s : S) (k l : Kept) (left left' : R) → Fits s k.durable → k.durable ≡ l.durable → told left ≡ told left' → Ends s k left → Ends s l left' → left ≡ left'
-
-  -- where a turn ends no other goes on that tells the same
-  abbrev pub IsLastAs : Type 0
-  IsLastAs =
-      (s : S) (k l new : Kept) (left left' : R) (o : Option Change) (u : S) (j : Kept)
-      → Fits s k.durable → k.durable ≡ l.durable → told left ≡ told left' → Ends s k left → Next s l o u → Whole Next Ends u j new left' → ⊥
-
-  -- then a turn is determined by what it tells
-  pub whole-one_as :
-      HasOneStep Next Fits → FitsOn Next Fits → HasOneEndAs → IsLastAs → (start : S) (old old' new new' : Kept) (left left' : R)
-      → Fits start old.durable → old.durable ≡ old'.durable → told left ≡ told left' → Whole Next Ends start old new left → Whole Next Ends start old' new' left' → OneTurn new new' left left'
-  whole-one_as one on end over start old old' new new' left left' fits same tells w v = by (whole-beside Next Ends Fits one on start old old' new new' left left' fits same w v)
-    where
-      by : Beside Next Ends Fits new new' left left' → OneTurn new new' left left'
-      by (Together s so alike ends ends') = record { kept_same = alike; left_same = end s new new' left left' so alike tells ends ends' }
-      by (EndsFirst s k o u l so alike ends next steps rest) = absurd (over s new k new' left left' o u l so alike tells ends next rest)
-      by (GoesOn s k o u l so alike ends next steps rest) = absurd (over s new' k new left' left o u l so alike (sym tells) ends next rest)
-
-module _ {S R : Type 0} (Next : S → Kept → Option Change → S → Type 0) (Ends : S → Kept → R → Type 0) (Fits : S → Durable → Type 0) where
-  -- what a turn ends with at a stage is one
-  abbrev pub HasOneEnd : Type 0
-  HasOneEnd = (s : S) (k l : Kept) (left left' : R) → Fits s k.durable → k.durable ≡ l.durable → Ends s k left → Ends s l left' → left ≡ left'
-
-  -- a stage at which a turn ends has no step
-  abbrev pub IsLast : Type 0
-  IsLast = (s : S) (k l : Kept) (left : R) (o : Option Change) (u : S) → Fits s k.durable → k.durable ≡ l.durable → Ends s k left → Next s l o u → ⊥
-
-  -- then a turn is determined
-  pub whole-one :
-      HasOneStep Next Fits → FitsOn Next Fits → HasOneEnd → IsLast → (start : S) (old old' new new' : Kept) (left left' : R)
-      → Fits start old.durable → old.durable ≡ old'.durable → Whole Next Ends start old new left → Whole Next Ends start old' new' left' → OneTurn new new' left left'
-  whole-one one on end over start old old' new new' left left' fits same w v =
-      whole-one_as Next Ends Fits (λ x. tt {0}) one on (λ s k l x y so alike tells ends ends'. end s k l x y so alike ends ends')
-      (λ s k l n x y o u j so alike tells ends next rest. over s k l x o u so alike ends next) start old old' new new' left left' fits same (refl {0}) w v
+      by : (steps_in p ≡ steps_in q) ⊎ ((steps_in p < steps_in q) ⊎ (steps_in q < steps_in p)) → steps_in p ≡ steps_in q
+      by (inl is) = is
+      by (inr (inl less)) = let no : ⊥ = omega (arith, fewer-changes s k k' did did' t t' l l' c u fits same p q next less) in absurd no
+      by (inr (inr more)) = let no : ⊥ = omega (arith, fewer-changes s k' k did' did t' t l' l c' u' (subst (Fits s) same fits) (sym same) q p next' more) in absurd no

@@ -17,8 +17,9 @@ use Rattle.world_base.specs.Requests.{with_ticks}
 use Rattle.world_base.specs.Turns.{Whole}
 use Rattle.world_determined.specs.Checks.{allowed-told, read_told, refused-one}
 use Rattle.world_determined.specs.Open.{open_told}
-use Rattle.world_determined.specs.Paths.{HasOneStep, OneTurn, whole-one_as}
+use Rattle.world_determined.specs.Paths.{HasOneStep}
 use Rattle.world_determined.specs.Settlings.{Always, always-on}
+use Rattle.world_determined.specs.Wholes.{OneTurn, whole-one_as}
 
 -- the writes are stored
 abbrev is_stored : prepare.PrepareStage → Bool

@@ -19,7 +19,8 @@ use Rattle.world_base.specs.Roles.{leader_at, leads_on}
 use Rattle.world_base.specs.Statuses.{EndsAs, IsDone, Looking, Looks, NoChange}
 use Rattle.world_base.specs.Turns.{Whole}
 use Rattle.world_base.specs.Verdicts as verdict
-use Rattle.world_determined.specs.Paths.{FitsOn, HasOneEnd, HasOneStep, IsLast, OneTurn, whole-one}
+use Rattle.world_determined.specs.Paths.{FitsOn, HasOneStep}
+use Rattle.world_determined.specs.Wholes.{HasOneEnd, IsLast, OneTurn, whole-one}
 
 -- whatever is kept, a stage fits it
 abbrev pub Always : {S : Type 0} → S → Durable → Type 0

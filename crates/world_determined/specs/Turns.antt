@@ -30,10 +30,10 @@ use Rattle.world_determined.specs.Commits.{commits_are_one, downs_are_one}
 use Rattle.world_determined.specs.Fetches.{AreLedHere, fetches_are_one}
 use Rattle.world_determined.specs.Makings.{aggregates_are_one, freezes_are_one, helds_are_one, prunes_are_one, snaps_are_one}
 use Rattle.world_determined.specs.Open.{open_told}
-use Rattle.world_determined.specs.Paths.{OneTurn}
 use Rattle.world_determined.specs.Prepares.{prepares_are_one}
 use Rattle.world_determined.specs.Settlings.{GoesByKept, acks_are_one, at_once_are_one, idle_is_one, marked_are_one, marks_are_one, queries_are_one}
 use Rattle.world_determined.specs.Verdicts.{verdicts_are_one}
+use Rattle.world_determined.specs.Wholes.{OneTurn}
 
 -- ---- the statements
 

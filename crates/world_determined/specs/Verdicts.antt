@@ -22,7 +22,8 @@ use Rattle.world_base.specs.Roles.{other_leader}
 use Rattle.world_base.specs.Turns.{Whole}
 use Rattle.world_base.specs.Verdicts.{AllTried, Freed, GoesOn, Heard, IsDone, SettlesBy, TriesNext, Trying, VerdictEnds, VerdictNext, VerdictStage, fetcher, settles_by, settling_change, step_by, step_if}
 use Rattle.world_determined.specs.Fetches.{AreLedHere, ReadFits, fetches-end, fetches-last, fetches-on, fetches-one, led-same}
-use Rattle.world_determined.specs.Paths.{FitsOn, HasOneEnd, HasOneStep, IsLast, OneStep, OneTurn, whole-one}
+use Rattle.world_determined.specs.Paths.{FitsOn, HasOneStep, OneStep}
+use Rattle.world_determined.specs.Wholes.{HasOneEnd, IsLast, OneTurn, whole-one}
 
 -- ---- what others lead
 
