@@ -21,8 +21,8 @@ use Rattle.daos_model.specs.Headline.{Headline}
 use Rattle.daos_model.specs.Opening.{Opening, Outside, fresh, undisturbed}
 use Rattle.daos_model.specs.Stops.{stop_numbers}
 use Rattle.model_reports.specs.Lines.{lists-of-transactions}
-use Rattle.model_reports.specs.RoomLaws.{room-is-found, transactions-find-room}
-use Rattle.model_reports.specs.Rooms.{FindsRoom, HasRoom, OnlyTransactions, is_transaction}
+use Rattle.model_reports.specs.RoomLaws.{places-are-found, room-is-found, transactions-find-room}
+use Rattle.model_reports.specs.Rooms.{FindsRoom, HasPlaces, HasRoom, OnlyTransactions, SnapshotsFindPlaces, is_transaction}
 use Rattle.daos_run.proofs.Begun.{is-simple, lists-plain}
 use Rattle.daos_run.specs.Alone.{IsOfLoneClient}
 use Rattle.daos_run.specs.Comes.{ComesFrom, FindsPlaces}
@@ -57,6 +57,10 @@ some-targets m n same some = omega (arith, same, some)
 pub room-found : (s : Script) (j : Job) (opening : Opening) (o : Outside) (done : AttemptId → Bool) (q : Report) → IsInForm j.targets s → FindsPlaces s j.attempts (length opening.stand.snaps) → 1 ≤ j.targets → 1 ≤ j.attempts → HasRoom s j.attempts opening.free → Headline (given_by s j opening) o done q → FindsRoom q
 room-found s j opening o done q F (inl plain) some least room legal = transactions-find-room (given_by s j opening) o done q (some-targets s.targets j.targets F.read_for some) least room (only-transactions s plain) legal
 room-found s j opening o done q F (inr places) some least room legal = room-is-found (given_by s j opening) o done q (some-targets s.targets j.targets F.read_for some) least room places legal
+
+-- nor is any attempt to make a snapshot refused a place, whatever blocks there are
+pub places-found : (s : Script) (j : Job) (opening : Opening) (o : Outside) (done : AttemptId → Bool) (q : Report) → HasPlaces s j.attempts (length opening.stand.snaps) → 1 ≤ j.attempts → Headline (given_by s j opening) o done q → SnapshotsFindPlaces s q
+places-found s j opening o done q places least legal = places-are-found (given_by s j opening) o done q least places legal
 
 pub of-lone-client : (s : Script) (j : Job) (opening : Opening) (q : Report) → IsInForm j.targets s → IsPlain s → 1 ≤ j.targets → 1 ≤ j.attempts → HasOneClient s → s.stops ≡ [] → IsLegal (given_by s j opening) q → TellsOfLoneClient (given_by s j opening) q
 of-lone-client s j opening q F plain some least one none legal =
@@ -99,6 +103,11 @@ module _ {S : Type 0} (durable : S → Option Durable) (state : S → State) (ma
   finds-room findable alike x told places room =
       let k = all-found durable may findable alike x told ys in
       room-found s j opening silent (resolved k.0) q F places some least room (K.comes.stand k.0 silent k.1 (silent-fits state K.opened ys)).told
+
+  pub finds-places : AreFindable durable may → AreAlike durable → (x : S) → is_some (durable x) ≡ true → HasPlaces s j.attempts (length opening.stand.snaps) → SnapshotsFindPlaces s q
+  finds-places findable alike x told places =
+      let k = all-found durable may findable alike x told ys in
+      places-found s j opening silent (resolved k.0) q places least (K.comes.stand k.0 silent k.1 (silent-fits state K.opened ys)).told
 
   -- where no snapshot lasted over the opening
   pub tells-of-lone-client : j.targets ≤ 64 → (B : List Durable) (free : ℕ → ℕ) → AreKept durable old B → opening ≡ opening_of s B free → lasting_snaps s B ≡ [] → IsPlain s → HasOneClient s → s.stops ≡ [] → stop_numbers q.lines ≡ [] → TellsOfLoneClient (given_by s j opening) q

@@ -8,7 +8,7 @@ ghost use Rattle.world_plain.specs.lone.LoneRuns.{AreIssuedThere};
 ghost use Rattle.report_writer.specs.Forms.{IsReportOf};
 ghost use Rattle.model_lone.specs.Only.{TellsOfOnlyClient};
 ghost use Rattle.model_reports.specs.Lone.{HasOneClient};
-ghost use Rattle.model_reports.specs.Rooms.{FindsRoom, HasRoom};
+ghost use Rattle.model_reports.specs.Rooms.{FindsRoom, HasPlaces, HasRoom, SnapshotsFindPlaces};
 ghost use Rattle.daos_run.specs.Alone.{IsOfLoneClient};
 ghost use Rattle.base_types.specs.Scripts.{IsInForm};
 ghost use Rattle.script_traits.specs.Plain.{IsPlain};
@@ -81,6 +81,7 @@ pub fn run_script<R: Threads + Wait + Sync, B: Rack, G: Gate + Sync>(
     ensures in_real_time { IfOk result (IsInRealTime (fresh script.now job.now)) }
     ensures none_down { IfOk result (λ report. report.down ≡ None) }
     ensures room { FindsPlaces script.now job.now.attempts 0 → HasRoom script.now job.now.attempts (fresh script.now job.now).opening.free → IfOk result FindsRoom }
+    ensures places { HasPlaces script.now job.now.attempts 0 → IfOk result (SnapshotsFindPlaces script.now) }
     ensures alone { HasOneClient script.now → script.now.stops ≡ [] → IfOk result (TellsOfOnlyClient script.now) }
     ensures lone { IsPlain script.now → HasOneClient script.now → script.now.stops ≡ [] → IfOk result (IsOfLoneClient (fresh script.now job.now)) }
     ensures refusals { IsOkUnless result RunStop.Memory }

@@ -9,7 +9,7 @@ ghost use Rattle.daos_run.specs.Slots.{AreFree, AreSet, ClocksAreRead, FusesAreG
 ghost use Rattle.daos_run.specs.Stops.{IsOpeningFault, MayStop};
 ghost use Rattle.model_lone.specs.Only.{TellsOfOnlyClient};
 ghost use Rattle.model_reports.specs.Lone.{HasOneClient};
-ghost use Rattle.model_reports.specs.Rooms.{FindsRoom, HasRoom};
+ghost use Rattle.model_reports.specs.Rooms.{FindsRoom, HasPlaces, HasRoom, SnapshotsFindPlaces};
 ghost use Rattle.run_targets.specs.Below.{AllBeginInTurn, AllTellInOrder};
 ghost use Rattle.world_ended.specs.Clients.{AllEndWell};
 ghost use Rattle.world_letters.specs.kinds.Fitting.{AllAnswersFit};
@@ -82,6 +82,8 @@ pub fn run_on<R: Threads + Wait + Sync, S: Fuse + Send, C: Clock + Send, G: Gate
         (λ stop. (lasts : List Durable) → MayBeFound S.may (stores_in parts.new) lasts → BreaksOff (given script.now job.now B free) B lasts) }
     ensures room { (B : List Durable) → AreKept S.durable (stores_in parts.old) B → (free : ℕ → ℕ) → AreFree S.state parts.old free
         → FindsPlaces script.now job.now.attempts (length (given script.now job.now B free).opening.stand.snaps) → HasRoom script.now job.now.attempts free → IfOk result FindsRoom }
+    ensures places { (B : List Durable) → AreKept S.durable (stores_in parts.old) B → (free : ℕ → ℕ) → AreFree S.state parts.old free
+        → HasPlaces script.now job.now.attempts (length (given script.now job.now B free).opening.stand.snaps) → IfOk result (SnapshotsFindPlaces script.now) }
     ensures back { (B : List Durable) → AreKept S.durable (stores_in parts.old) B → (free : ℕ → ℕ) → AreFree S.state parts.old free → IsKeyed (given script.now job.now B free) → IfOk result (IsReadBack script.now) }
     ensures alone { (B : List Durable) → AreKept S.durable (stores_in parts.old) B → (free : ℕ → ℕ) → AreFree S.state parts.old free
         → HasOneClient script.now → IfOk result (λ report. stop_numbers report.lines ≡ [] → TellsOfOnlyClient script.now report) }

@@ -4,6 +4,7 @@ use Rattle.daos_run.specs.Comes.{FindsPlaces}
 use Rattle.daos_run.proofs.Lone.{is-of-lone-client}
 use Rattle.daos_run.proofs.Plain.{all-come, all-free, all-kept, all-open, all-run, are-keyed, are-unused, follows-order, in-form, in-real-time, is-fresh, issued-there, legal, none-down, none-lasts, of-lone, on-ok, only-memory}
 use Rattle.model_lone.specs.Only.{TellsOfOnlyClient}
+use Rattle.model_reports.specs.Rooms.{HasPlaces}
 use Rattle.run_targets.specs.Ends.{TellsOfLoneClient}
 use Rattle.daos_run.proofs.run.run_script.Goals as goal
 
@@ -54,6 +55,12 @@ returns-clause-room g c places has =
     let new = c.in_ok-set_all.ensures.set in
     c.run_on.ensures.room _ (all-kept c.args.job.now.targets c.args.job.now.size_mib c.set_all.new.parts new) (λ t. c.args.job.now.size_mib * 4096 - 1264) (all-free c.args.job.now.targets c.args.job.now.size_mib c.set_all.new.parts new)
     (subst (λ o. FindsPlaces c.args.script.now c.args.job.now.attempts (length o.opening.stand.snaps)) (sym (is-fresh c.args.job.now.targets c.args.job.now.size_mib c.set_all.new.parts new c.run_on.new.parts c.run_on.ensures.set c.run_on.ensures.served c.args.script.now c.args.job.now refl)) places) has
+
+pub returns-clause-places : goal.returns-clause-places
+returns-clause-places g c places =
+    let new = c.in_ok-set_all.ensures.set in
+    c.run_on.ensures.places _ (all-kept c.args.job.now.targets c.args.job.now.size_mib c.set_all.new.parts new) (λ t. c.args.job.now.size_mib * 4096 - 1264) (all-free c.args.job.now.targets c.args.job.now.size_mib c.set_all.new.parts new)
+    (subst (λ o. HasPlaces c.args.script.now c.args.job.now.attempts (length o.opening.stand.snaps)) (sym (is-fresh c.args.job.now.targets c.args.job.now.size_mib c.set_all.new.parts new c.run_on.new.parts c.run_on.ensures.set c.run_on.ensures.served c.args.script.now c.args.job.now refl)) places)
 
 pub returns-clause-alone : goal.returns-clause-alone
 returns-clause-alone g c one none =

@@ -10,7 +10,7 @@ use Rattle.daos_run.proofs.Back.{is-read-back}
 use Rattle.daos_run.proofs.Broken.{left-off, whatever-stopped}
 use Rattle.daos_run.proofs.Disarmed.{again-clocks, again-gone, again-served, again-stores, all-gone, all-run-on, all-served, kept-from, kept-on, may-stop-before}
 use Rattle.daos_run.proofs.Faults.{calls-gone, calls-served, opening-fault, read-through, served-through, stay-read}
-use Rattle.daos_run.proofs.Lone.{finds-room, tells-of-lone-client}
+use Rattle.daos_run.proofs.Lone.{finds-places, finds-room, tells-of-lone-client}
 use Rattle.daos_run.proofs.Started.{all-set, run-gone, run-read, run-served}
 use Rattle.daos_run.proofs.Whole.{all-tell, break-off, can-start, come-from, may-start, started, told-first}
 use Rattle.report_round_trip.specs.Values.{AllTellBytes}
@@ -167,6 +167,13 @@ returns-clause-room g c B kept free room places has =
     let first = told-first g.S.Store.durable c.args.job.now.targets c.args.parts.now c.requires.stores.set c.requires.least_targets B kept in
     finds-room g.S.Store.durable g.S.Store.state g.S.Store.may c.args.script.now c.args.job.now (opening_of c.args.script.now B free) (stores_in c.args.parts.now) (stores_in c.hand_back.new.parts) c.in_ok-ran.field-0 c.requires.script c.requires.least_targets c.requires.least (returns-clause-comes g c B kept free room)
     laws.findable laws.alike first.0 first.1 places has
+
+pub returns-clause-places : goal.returns-clause-places
+returns-clause-places g c B kept free room places =
+    let laws = g.met.S.Store g.world.𝓛 g.world.𝓜 g.world.𝓡 ((λ s x. x), (λ x. x), (λ x. x), λ x. x) in
+    let first = told-first g.S.Store.durable c.args.job.now.targets c.args.parts.now c.requires.stores.set c.requires.least_targets B kept in
+    finds-places g.S.Store.durable g.S.Store.state g.S.Store.may c.args.script.now c.args.job.now (opening_of c.args.script.now B free) (stores_in c.args.parts.now) (stores_in c.hand_back.new.parts) c.in_ok-ran.field-0 c.requires.script c.requires.least_targets c.requires.least (returns-clause-comes g c B kept free room)
+    laws.findable laws.alike first.0 first.1 places
 
 pub returns-clause-back : goal.returns-clause-back
 returns-clause-back g c B kept free room keyed =
