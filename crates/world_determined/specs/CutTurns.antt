@@ -24,7 +24,7 @@ use Rattle.world_base.specs.TargetTurns.{commit_request, fetch_request, prepare_
 use Rattle.world_base.specs.Verdicts as verdict
 use Rattle.world_determined.specs.Commits.{commits-one}
 use Rattle.world_determined.specs.Cuts.{CutPlace, OneCut, cut-one, place_of}
-use Rattle.world_determined.specs.Fetches.{AreLedHere, ReadFits, fetches-on, fetches-one}
+use Rattle.world_determined.specs.Fetches.{NoneLedElsewhere, ReadFits, fetches-on, fetches-one}
 use Rattle.world_determined.specs.Makings.{freezes-one, helds-one, prunes-one}
 use Rattle.world_determined.specs.Paths.{HasOneStep}
 use Rattle.world_determined.specs.Prepares.{prepares-one}
@@ -67,7 +67,7 @@ hearing_place is_due number t opening m reading from q old cut c = absurd c
 abbrev pub CutHearingIsOne : Type 0
 CutHearingIsOne =
     (is_due : AttemptId → Durable → Bool) (number : ℕ) (t : TargetPlan) (opening : Epoch × FloorWhy) (m : TargetMemory) (reading : ℕ) (from : ActorId) (q : Message) (old old' : Kept) (cut cut' : Cutting)
-    → AreLedHere t m.leader.decided old.durable → old.durable ≡ old'.durable
+    → NoneLedElsewhere t m.leader.decided old.durable → old.durable ≡ old'.durable
     → (c : HearingIsCut is_due number t opening m reading from q old cut) (d : HearingIsCut is_due number t opening m reading from q old' cut')
     → hearing_place is_due number t opening m reading from q old cut c ≡ hearing_place is_due number t opening m reading from q old' cut' d → OneCut cut cut'
 

@@ -25,23 +25,23 @@ use Rattle.world_determined.specs.Paths.{FitsOn, HasOneStep}
 use Rattle.world_determined.specs.Wholes.{HasOneEnd, IsLast, OneTurn, whole-one}
 
 -- no other target leads one of these attempts
-abbrev pub AreLedHere : TargetPlan → List AttemptId → Durable → Type 0
-AreLedHere t decided d = (a : AttemptId) → Contains decided a → other_leader t a d ≡ None
+abbrev pub NoneLedElsewhere : TargetPlan → List AttemptId → Durable → Type 0
+NoneLedElsewhere t decided d = (a : AttemptId) → Contains decided a → other_leader t a d ≡ None
 
 module _ (t : TargetPlan) (m : TargetMemory) where
   -- nor one that this target decided and hasn't settled
   abbrev pub ReadFits : FetchStage → Durable → Type 0
-  ReadFits Asked d = AreLedHere t m.leader.decided d
-  ReadFits (Known e) d = AreLedHere t m.leader.decided d
-  ReadFits (Reading e decided) d = AreLedHere t decided d
+  ReadFits Asked d = NoneLedElsewhere t m.leader.decided d
+  ReadFits (Known e) d = NoneLedElsewhere t m.leader.decided d
+  ReadFits (Reading e decided) d = NoneLedElsewhere t decided d
 
-  led-leased : (decided : List AttemptId) (lease : ℕ) (k l : Kept) → Steps (Some (Extends lease)) k l → AreLedHere t decided k.durable → AreLedHere t decided l.durable
+  led-leased : (decided : List AttemptId) (lease : ℕ) (k l : Kept) → Steps (Some (Extends lease)) k l → NoneLedElsewhere t decided k.durable → NoneLedElsewhere t decided l.durable
   led-leased decided lease k l steps led a among = ap (other_leader t a) steps.0 ∙ leader-leased t lease a k.durable ∙ led a among
 
-  pub led-same : (decided : List AttemptId) (k l : Kept) → l ≡ k → AreLedHere t decided k.durable → AreLedHere t decided l.durable
+  pub led-same : (decided : List AttemptId) (k l : Kept) → l ≡ k → NoneLedElsewhere t decided k.durable → NoneLedElsewhere t decided l.durable
   led-same decided k l same led a among = ap (λ x. other_leader t a x.durable) same ∙ led a among
 
-  led-settled : (decided : List AttemptId) (a : AttemptId) (k l : Kept) → Steps (Some (Settles a Commit)) k l → AreLedHere t decided k.durable → AreLedHere t (filter (is_other_attempt a) decided) l.durable
+  led-settled : (decided : List AttemptId) (a : AttemptId) (k l : Kept) → Steps (Some (Settles a Commit)) k l → NoneLedElsewhere t decided k.durable → NoneLedElsewhere t (filter (is_other_attempt a) decided) l.durable
   led-settled decided a k l steps led b among =
       ap (other_leader t b) steps.0 ∙ leader-committed t a b k.durable
       ∙ led b (contains-from_has decided b (has-from_filter (is_other_attempt a) decided b (has-from_contains (filter (is_other_attempt a) decided) b among)).0)
@@ -107,6 +107,6 @@ module _ (t : TargetPlan) (m : TargetMemory) where
       fetches-last _ k l _ _ _ fits same (IsServed _ e decided b _ none got left) (SettlesOwn _ _ _ a' none' unsettled' among') = let no : ⊥ = cc in absurd no
 
       pub fetches_are_one :
-          (old old' new new' : Kept) (left left' : TargetMemory × Did) → AreLedHere t m.leader.decided old.durable → old.durable ≡ old'.durable
+          (old old' new new' : Kept) (left left' : TargetMemory × Did) → NoneLedElsewhere t m.leader.decided old.durable → old.durable ≡ old'.durable
           → Whole (FetchNext t m reading q) (FetchEnds t m reading q from) Asked old new left → Whole (FetchNext t m reading q) (FetchEnds t m reading q from) Asked old' new' left' → OneTurn new new' left left'
       fetches_are_one old old' new new' left left' led same w v = whole-one _ _ ReadFits fetches-one fetches-on fetches-end fetches-last Asked old old' new new' left left' led same w v

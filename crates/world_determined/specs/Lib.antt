@@ -1,4 +1,5 @@
 -- That a target's turn is determined, but for what the rules leave open.
+pub mod Clients
 pub mod Open
 pub mod Paths
 pub mod Wholes
@@ -13,3 +14,11 @@ pub mod Turns
 pub mod Cuts
 pub mod CutTurns
 pub mod Readings
+pub mod Worlds
+pub mod Choices
+pub mod ClientEvents
+pub mod TargetEvents
+pub mod StopEvents
+pub mod Events
+pub mod Runs
+pub mod Leading

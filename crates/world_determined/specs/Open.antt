@@ -5,7 +5,7 @@ use Rattle.base_types.specs.declared.outcome.Cause.TheVariants.{ReadLater}
 use Rattle.base_types.specs.declared.outcome.Outcome.{Outcome}
 use Rattle.base_types.specs.declared.outcome.Outcome.TheVariants.{NoSpace, Restart}
 use Rattle.base_messages.specs.declared.message.Message.{Message}
-use Rattle.base_messages.specs.declared.message.Message.TheVariants.{Ack, Ended}
+use Rattle.base_messages.specs.declared.message.Message.TheVariants.{Ack, Commit, Ended, Prepare}
 use Rattle.base_messages.specs.declared.message.Post.{Post}
 use Rattle.world_base.specs.declared.did.Did.{Did}
 
@@ -37,3 +37,9 @@ open_in (p ∷ posts) = with_open (outcome_told p.message) (open_in posts)
 -- What follows from a turn tells of this that was open: of later reads that are shown, and of free blocks where there is no space.
 abbrev pub open_told : Did → List Outcome
 open_told did = open_in did.posts
+
+-- Of what a turn leaves open in which this is heard, this is told. Nothing is open but in the turn of a Commit and of a Prepare.
+abbrev pub left_open : Message → Did → List Outcome
+left_open (Commit x ep first tracker ws) did = open_told did
+left_open (Prepare e first ws inc) did = open_told did
+left_open q did = []

@@ -27,9 +27,9 @@ use Rattle.world_base.specs.Statuses.{ask_left, reset_joins, reset_left, state_o
 use Rattle.world_base.specs.TargetTurns.{Hears, IdlesWhole, commit_request, fetch_request, prepare_request}
 use Rattle.world_base.specs.Turns.{Whole}
 use Rattle.world_determined.specs.Commits.{commits_are_one, downs_are_one}
-use Rattle.world_determined.specs.Fetches.{AreLedHere, fetches_are_one}
+use Rattle.world_determined.specs.Fetches.{NoneLedElsewhere, fetches_are_one}
 use Rattle.world_determined.specs.Makings.{aggregates_are_one, freezes_are_one, helds_are_one, prunes_are_one, snaps_are_one}
-use Rattle.world_determined.specs.Open.{open_told}
+use Rattle.world_determined.specs.Open.{left_open}
 use Rattle.world_determined.specs.Prepares.{prepares_are_one}
 use Rattle.world_determined.specs.Settlings.{GoesByKept, acks_are_one, at_once_are_one, idle_is_one, marked_are_one, marks_are_one, queries_are_one}
 use Rattle.world_determined.specs.Verdicts.{verdicts_are_one}
@@ -37,18 +37,12 @@ use Rattle.world_determined.specs.Wholes.{OneTurn}
 
 -- ---- the statements
 
--- of a Commit and of a Prepare two turns tell the same of what is open
-abbrev pub TellAlike : Message → Did → Did → Type 0
-TellAlike (message.Commit x ep first tracker ws) did did' = open_told did ≡ open_told did'
-TellAlike (message.Prepare e first ws inc) did did' = open_told did ≡ open_told did'
-TellAlike q did did' = Unit {0}
-
--- A turn in which a target hears a message is determined, where no other target leads what it decided and hasn't settled. Of a Commit and of
--- a Prepare it is open which later read is shown, and whether there is space.
+-- A turn in which a target hears a message is determined, where no other target leads what it decided and hasn't settled, and the same is told
+-- of what is left open. That is nothing but in the turn of a Commit and of a Prepare.
 abbrev pub HearingIsOne : Type 0
 HearingIsOne =
     (t : TargetPlan) (opening : Epoch × FloorWhy) (m : TargetMemory) (reading : ℕ) (from : ActorId) (q : Message) (old old' new new' : Kept) (left left' : TargetMemory × Did)
-    → AreLedHere t m.leader.decided old.durable → old.durable ≡ old'.durable → TellAlike q left.1 left'.1
+    → NoneLedElsewhere t m.leader.decided old.durable → old.durable ≡ old'.durable → left_open q left.1 ≡ left_open q left'.1
     → Hears t opening m reading from q old new left → Hears t opening m reading from q old' new' left' → OneTurn new new' left left'
 
 -- so is one in which it hears what comes of stops, or what makes snapshots and aggregates; nothing of that is open
@@ -65,10 +59,10 @@ IdlingIsOne =
 
 -- ---- what a Verdict leaves decided
 
-led-fewer : (t : TargetPlan) (a : AttemptId) (decided : List AttemptId) (d : Durable) → AreLedHere t decided d → AreLedHere t (filter (is_other_row itself a) decided) d
+led-fewer : (t : TargetPlan) (a : AttemptId) (decided : List AttemptId) (d : Durable) → NoneLedElsewhere t decided d → NoneLedElsewhere t (filter (is_other_row itself a) decided) d
 led-fewer t a decided d led b among = led b (contains-from_has decided b (has-from_filter (is_other_row itself a) decided b (has-from_contains (filter (is_other_row itself a) decided) b among)).0)
 
-pub led-told : (t : TargetPlan) (v : Verdict) (a : AttemptId) (m : TargetMemory) (d : Durable) → AreLedHere t m.leader.decided d → AreLedHere t (told_by v a m).leader.decided d
+pub led-told : (t : TargetPlan) (v : Verdict) (a : AttemptId) (m : TargetMemory) (d : Durable) → NoneLedElsewhere t m.leader.decided d → NoneLedElsewhere t (told_by v a m).leader.decided d
 led-told t verdict.Committed a m d led = led-fewer t a m.leader.decided d led
 led-told t verdict.Aborted a m d led = led-fewer t a m.leader.decided d led
 led-told t verdict.Undecided a m d led = led

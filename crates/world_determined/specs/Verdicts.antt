@@ -21,7 +21,7 @@ use Rattle.world_base.specs.Reads as read
 use Rattle.world_base.specs.Roles.{other_leader}
 use Rattle.world_base.specs.Turns.{Whole}
 use Rattle.world_base.specs.Verdicts.{AllTried, Freed, GoesOn, Heard, IsDone, SettlesBy, TriesNext, Trying, VerdictEnds, VerdictNext, VerdictStage, fetcher, settles_by, settling_change, step_by, step_if}
-use Rattle.world_determined.specs.Fetches.{AreLedHere, ReadFits, fetches-end, fetches-last, fetches-on, fetches-one, led-same}
+use Rattle.world_determined.specs.Fetches.{NoneLedElsewhere, ReadFits, fetches-end, fetches-last, fetches-on, fetches-one, led-same}
 use Rattle.world_determined.specs.Paths.{FitsOn, HasOneStep, OneStep}
 use Rattle.world_determined.specs.Wholes.{HasOneEnd, IsLast, OneTurn, whole-one}
 
@@ -52,20 +52,20 @@ judged true verdict.Undecided = inr (inr refl)
 
 -- what a read leaves among the decided attempts is led by no other target
 ended-led : (t : TargetPlan) (n : TargetMemory) (reading : ℕ) (q : FetchRequest) (s : read.FetchStage) (k : Kept) (left : TargetMemory × Did)
-    → read.FetchEnds t n reading q (fetcher q) s k left → ReadFits t n s k.durable → AreLedHere t left.0.leader.decided k.durable
-ended-led t n reading q _ k _ (read.IsSpent _ left at is same) fits = subst (λ x. AreLedHere t x.0.leader.decided k.durable) (sym same) fits
-ended-led t n reading q _ k _ (read.IsRefused _ e decided c left is same) fits = subst (λ x. AreLedHere t x.0.leader.decided k.durable) (sym same) fits
-ended-led t n reading q _ k _ (read.MeetsUnresolved _ e decided a left none met apart other same) fits = subst (λ x. AreLedHere t x.0.leader.decided k.durable) (sym same) fits
-ended-led t n reading q _ k _ (read.IsParked _ e decided a leader left none met other same) fits = subst (λ x. AreLedHere t x.0.leader.decided k.durable) (sym same) fits
-ended-led t n reading q _ k _ (read.IsServed _ e decided b left none got same) fits = subst (λ x. AreLedHere t x.0.leader.decided k.durable) (sym same) fits
+    → read.FetchEnds t n reading q (fetcher q) s k left → ReadFits t n s k.durable → NoneLedElsewhere t left.0.leader.decided k.durable
+ended-led t n reading q _ k _ (read.IsSpent _ left at is same) fits = subst (λ x. NoneLedElsewhere t x.0.leader.decided k.durable) (sym same) fits
+ended-led t n reading q _ k _ (read.IsRefused _ e decided c left is same) fits = subst (λ x. NoneLedElsewhere t x.0.leader.decided k.durable) (sym same) fits
+ended-led t n reading q _ k _ (read.MeetsUnresolved _ e decided a left none met apart other same) fits = subst (λ x. NoneLedElsewhere t x.0.leader.decided k.durable) (sym same) fits
+ended-led t n reading q _ k _ (read.IsParked _ e decided a leader left none met other same) fits = subst (λ x. NoneLedElsewhere t x.0.leader.decided k.durable) (sym same) fits
+ended-led t n reading q _ k _ (read.IsServed _ e decided b left none got same) fits = subst (λ x. NoneLedElsewhere t x.0.leader.decided k.durable) (sym same) fits
 
 -- ---- the turn
 
 module _ (is_due : AttemptId → Durable → Bool) (t : TargetPlan) (m : TargetMemory) (reading : ℕ) (a : AttemptId) (ask : Option AttemptId) (v : Verdict) where
   -- no other target leads what this one decided and hasn't settled
   abbrev pub VerdictFits : VerdictStage → Durable → Type 0
-  VerdictFits Heard d = AreLedHere t m.leader.decided d
-  VerdictFits (Freed asks n posts) d = AreLedHere t n.leader.decided d
+  VerdictFits Heard d = NoneLedElsewhere t m.leader.decided d
+  VerdictFits (Freed asks n posts) d = NoneLedElsewhere t n.leader.decided d
   VerdictFits (Trying q s asks n posts) d = ReadFits t n s d
 
   pub verdicts-on : FitsOn (VerdictNext is_due t m reading a ask v) VerdictFits
@@ -94,6 +94,6 @@ module _ (is_due : AttemptId → Durable → Bool) (t : TargetPlan) (m : TargetM
   verdicts-last _ k l left o u fits same (AllTried _ n posts _ is) next = elim next [ ]
 
   pub verdicts_are_one :
-      (old old' new new' : Kept) (left left' : TargetMemory × Did) → AreLedHere t m.leader.decided old.durable → old.durable ≡ old'.durable
+      (old old' new new' : Kept) (left left' : TargetMemory × Did) → NoneLedElsewhere t m.leader.decided old.durable → old.durable ≡ old'.durable
       → Whole (VerdictNext is_due t m reading a ask v) VerdictEnds Heard old new left → Whole (VerdictNext is_due t m reading a ask v) VerdictEnds Heard old' new' left' → OneTurn new new' left left'
   verdicts_are_one old old' new new' left left' led same w v = whole-one _ _ VerdictFits verdicts-one verdicts-on verdicts-end verdicts-last Heard old old' new new' left left' led same w v

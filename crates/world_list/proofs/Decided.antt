@@ -22,12 +22,11 @@ use Rattle.world_base.specs.Events.{Rules, after_turn, client_plan, with_client}
 use Rattle.world_base.specs.StepLaws.{set-here, set-there}
 use Rattle.world_list.specs.Fitting.{AreInPlace}
 use Rattle.world_base.specs.Letters.{Takes, client}
-use Rattle.world_list.specs.OneTurn.{OneTurn}
+use Rattle.world_determined.specs.Clients.{OneTurn, one_hear, one_next}
 use Rattle.world_list.specs.RunLists.{ClientHearsAs, GoesAs}
 use Rattle.world_list.specs.Following.{FollowIs, IsAfter}
 use Rattle.world_list.specs.Taken.{IsTaken}
 use Rattle.world_list.specs.declared.follow.Follow.{Follow}
-use Rattle.world_list.proofs.OneTurn.{one_hear, one_next}
 
 -- ---- a world by its parts
 

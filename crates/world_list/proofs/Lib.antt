@@ -1,4 +1,3 @@
 pub mod Decided
-mod OneTurn
 mod Runs
 mod Taken

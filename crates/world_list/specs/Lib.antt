@@ -1,6 +1,5 @@
 -- Which lists of events are runs.
 pub mod Fitting
 pub mod Following
-pub mod OneTurn
 pub mod RunLists
 pub mod Taken

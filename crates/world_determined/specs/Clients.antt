@@ -1,16 +1,32 @@
 -- A client's turn is determined by what it has to do, its state and what it hears.
-use Rattle.std.proofs.Common.{ℕ, ◌≡◌, ◌++◌, ◌<◌, ◌⊎◌, inl, inr, true, false, List, [], zero, suc, refl, sym, ◌∙◌, ap, subst, arith, Option}
+use Rattle.std.specs.Prelude.{ℕ, ◌≡◌, ◌++◌, ◌<◌, ◌⊎◌, true, false, List, [], Option, refl}
+use Rattle.std.proofs.Common.{zero, suc, inl, inr, sym, ◌∙◌, ap, subst, arith}
 use Rattle.std.proofs.lemmas.Bool.{cases_order}
-use Rattle.base_types.specs.declared.report.Line.{Line}
 use Rattle.base_types.specs.declared.epoch.Epoch.{Epoch}
 use Rattle.base_types.specs.declared.id.AttemptId.{AttemptId}
+use Rattle.base_types.specs.declared.report.Line.{Line}
+use Rattle.base_messages.specs.declared.message.Message.{Message}
 use Rattle.base_messages.specs.declared.message.Post.{Post}
 use Rattle.daos_model.specs.BoolLaws.{clash}
 use Rattle.world_base.specs.declared.client.ClientPlan.{ClientPlan}
 use Rattle.world_base.specs.declared.client.ClientState.{ClientState}
 use Rattle.world_base.specs.declared.did.Did.{Did}
-use Rattle.world_base.specs.ClientTurns.{ClientDid, Ended_by, GoesOn, Heard_on, Moves, None_yet, One_more, Skipped, Went_on, heard, listed, moved, with_first}
-use Rattle.world_list.specs.OneTurn.{HearIsOne, NextIsOne, OneTurn}
+use Rattle.world_base.specs.ClientTurns.{ClientDid, Ended_by, GoesOn, HearTurn, Heard_on, Moves, NextTurn, None_yet, One_more, Skipped, Went_on, heard, listed, moved, with_first}
+
+-- ---- the statements
+
+-- what follows from a turn, and the state after it, are one
+pub record OneTurn (did did' : Did) (d d' : ClientState) : Type 0 where
+  pub did_same : did ≡ did'
+  pub state_same : d ≡ d'
+
+-- a turn without a message comes to one thing
+abbrev pub NextIsOne : Type 0
+NextIsOne = (p : ClientPlan) (c : ClientState) (did did' : Did) (d d' : ClientState) → NextTurn p c did d → NextTurn p c did' d' → OneTurn did did' d d'
+
+-- so does a turn in which a message is heard
+abbrev pub HearIsOne : Type 0
+HearIsOne = (p : ClientPlan) (c : ClientState) (m : Message) (did did' : Did) (d d' : ClientState) → HearTurn p c m did d → HearTurn p c m did' d' → OneTurn did did' d d'
 
 -- ---- so many moves
 
@@ -91,10 +107,10 @@ ends_at p c posts lines d g so = record {
 }
 
 -- two things that a turn may come to are one
-pub record OneEnd (posts posts' : List Post) (lines lines' : List Line) (d d' : ClientState) : Type 0 where
-  pub posts_same : posts ≡ posts'
-  pub lines_same : lines ≡ lines'
-  pub state_same : d ≡ d'
+record OneEnd (posts posts' : List Post) (lines lines' : List Line) (d d' : ClientState) : Type 0 where
+  posts_same : posts ≡ posts'
+  lines_same : lines ≡ lines'
+  state_same : d ≡ d'
 
 one_end : (p : ClientPlan) (c : ClientState) (n m : ℕ) (posts posts' : List Post) (lines lines' : List Line) (d d' : ClientState)
     → n ≡ m → EndsAt p c n posts lines d → EndsAt p c m posts' lines' d' → OneEnd posts posts' lines lines' d d'
