@@ -116,6 +116,7 @@ module _ {S C : Type 0} (durable : S → Option Durable) (state : S → State) (
     leader = r.new.leads;
     waits = ap (λ m. m.parked) r.new.joins;
     makes = r.new.making;
+    ticks = r.new.ticks;
     seldom = r.seldom;
   }
 

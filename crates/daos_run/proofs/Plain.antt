@@ -44,6 +44,7 @@ use Rattle.std.proofs.lemmas.List.Elements.{All-nil}
 use Rattle.vos_store.specs.Calls.{State}
 use Rattle.vos_plain.specs.Plain.{plain_durable, plain_state}
 use Rattle.vos_plain.specs.declared.store.PlainStore.{PlainStore}
+use Rattle.world_base.specs.declared.target.TargetState.{TargetState}
 use Rattle.world_plain.specs.ends.Ends.{durables_of}
 use Rattle.world_plain.specs.lone.LoneRuns.{AreIssuedThere}
 use Rattle.world_plain.specs.whole.Begins.{declared_conts}
@@ -197,7 +198,7 @@ module _ {C : Type 0} (targets size_mib : ℕ) (slots : List (Option (PlainStore
             (K.each t x.0 y x.1 at).still (plain_durable x.0) refl (ap (λ z. (plain_durable z).entries) p.is ∙ ap (λ d. d.entries) (H.each t p.pair p.at).kept) ∙ free-exactly t x.0 x.1 ∙ ap (λ n. n * 4096 - 1264) (sym size)
 
         ordered : IsOrdered told_by plain_state found_in (fresh s j) q K.opened (stores_in new)
-        ordered = K.comes.ordered free-opened
+        ordered = K.comes.ordered
 
         headline : HeadlineOver (fresh s j) undisturbed (durables_of ordered.follows.last) q
         headline = K.comes.stand (durables_of ordered.follows.last) undisturbed ordered.kept (K.since undisturbed stays-undisturbed)
@@ -215,14 +216,18 @@ module _ {C : Type 0} (targets size_mib : ℕ) (slots : List (Option (PlainStore
             let kept : plain_durable y ≡ d.0 = let two : Some (plain_durable y) ≡ Some d.0 = opened-keep.each t y d.0 at d.1 in cc in
             kept ∙ e.is ∙ ap (enlisted (declared_conts s)) (x.is ∙ ap plain_durable p.is ∙ (H.each t p.pair p.at).kept)
 
+        there : s.targets ≡ targets → (t : ℕ) (z : TargetState) → slice_get ordered.follows.first.targets t ≡ Some z → (y : PlainStore) × (slice_get K.opened t ≡ Some y)
+        there same t z here = at-within K.opened t (subst (λ n. t < n) (ordered.follows.begins.begins.targets ∙ same ∙ sym (K.many ∙ stores-many targets slots H.set)) (slice_get_within ordered.follows.first.targets t z here))
+
         from-zeros : s.targets ≡ targets → FollowsFromZeros (fresh s j) q
         from-zeros same = record {
           follows = ordered.follows;
           opened = λ t z here.
-              let low : t < length K.opened = subst (λ n. t < n) (ordered.follows.begins.begins.targets ∙ same ∙ sym (K.many ∙ stores-many targets slots H.set)) (slice_get_within ordered.follows.first.targets t z here) in
-              let y = at-within K.opened t low in
+              let y = there same t z here in
               let kept : plain_durable y.0 ≡ z.durable = let two : Some (plain_durable y.0) ≡ Some z.durable = (ordered.begins t y.0 z y.1 here).kept in cc in
               sym kept ∙ opened-so t y.0 y.1;
+          free = λ t z here. let y = there same t z here in ap (λ w. w.free) (ordered.begins t y.0 z y.1 here).as_it_is ∙ free-opened t y.0 y.1;
+          memory = λ t z here. let y = there same t z here in ap (λ w. w.memory) (ordered.begins t y.0 z y.1 here).as_it_is;
         }
 
         unstopped : s.stops ≡ [] → stop_numbers q.lines ≡ []

@@ -8,7 +8,7 @@ use Rattle.daos_model.specs.Durables.{empty_durable}
 use Rattle.daos_model.specs.Opening.{Given, Outside}
 use Rattle.daos_model.specs.Finals.{opening_of}
 use Rattle.model_reports.specs.Rooms.{HasPlaces}
-use Rattle.run_targets.specs.Ends.{ComesTo, FollowsOrder, IsOutside, RunsPlainly, StandsForAttempts}
+use Rattle.run_targets.specs.Ends.{ComesTo, FollowsOrder, IsOutside, RunsPlainly, StandsForAttempts, memory_at_first}
 use Rattle.run_opening.specs.All.{AreKept, FromTo, MayBeFound}
 use Rattle.run_opening.specs.Left.{IsLeftOf}
 use Rattle.run_opening.specs.Opened.{lasting_snaps}
@@ -50,7 +50,10 @@ pub record BreaksOff (g : Given) (B lasts : List Durable) : Type 0 where
   pub stand : IsLeftOf g.script B lasts ⊎ StandsForAttempts (rules_of g) g.opening lasts
   pub opens : CanOpen lasts
 
--- A report over regions of zeros tells of the turns in the order asked, from where each target keeps the script's containers alone and was opened once.
+-- A report over regions of zeros tells of the turns in the order asked, from where each target keeps the script's containers alone, with as many blocks
+-- free as the opening says, was opened once, and remembers nothing yet.
 pub record FollowsFromZeros (g : Given) (q : Report) : Type 0 where
   pub follows : FollowsOrder g q
   pub opened : (t : ℕ) (s : TargetState) → slice_get follows.first.targets t ≡ Some s → s.durable ≡ enlisted (declared_conts g.script) (empty_durable 1)
+  pub free : (t : ℕ) (s : TargetState) → slice_get follows.first.targets t ≡ Some s → s.free ≡ g.opening.free t
+  pub memory : (t : ℕ) (s : TargetState) → slice_get follows.first.targets t ≡ Some s → s.memory ≡ memory_at_first s.durable

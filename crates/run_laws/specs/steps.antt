@@ -1,4 +1,5 @@
 -- What the turns of actors lead to, that the actors can go on then, and where a run of them ends.
+pub mod Ways
 pub mod Going
 pub mod Turning
 pub mod Turnings

@@ -2,6 +2,7 @@
 pub mod Turns
 pub mod Aggregates
 pub mod Orders
+pub mod Faults
 pub mod Keeping
 pub mod Staying
 pub mod OrderLaws

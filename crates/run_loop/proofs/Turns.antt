@@ -4,8 +4,7 @@ use Rattle.std.proofs.Common.{sym, subst, arith}
 use Rattle.base_messages.specs.declared.actor.ActorId.{ActorId}
 use Rattle.daos_model.specs.declared.durable.Durable.{Durable}
 use Rattle.run_base.specs.Picks.{count_to}
-use Rattle.run_loop.specs.Loops.{turn_of}
-use Rattle.run_stage.specs.Below.{AreAlike, AreFindable, CanGo, ClientTurned, GoesOn, StageNow, TargetTurned, client-turn-goes, named-client, named-target, target-turn-goes}
+use Rattle.run_stage.specs.Below.{AreAlike, AreFindable, CanGo, ClientTurned, GoesOn, StageNow, TargetTurned, client-turn-goes, named-client, named-target, target-turn-goes, turn_of}
 use Rattle.vos_store.specs.Calls.{State}
 use Rattle.world_base.specs.declared.letter.Letter.{Letter}
 use Rattle.world_base.specs.Letters.{client, target}

@@ -1,5 +1,5 @@
 -- Rounds and draws, one turn after another.
-use Rattle.std.specs.Prelude.{ℕ, suc, ◌≡◌, ◌≤◌, ◌<◌, ◌++◌, ◌==◌, ◌%◌, All, Bool, true, false, List, [], ◌∷◌, get_or, length, max, slice_get, Option, Some, Result, Ok, Err, OnOk, if◌then◌else◌, refl}
+use Rattle.std.specs.Prelude.{ℕ, suc, ◌≡◌, ◌≤◌, ◌<◌, ◌+◌, ◌++◌, ◌==◌, ◌%◌, All, Bool, true, false, List, [], ◌∷◌, get_or, length, max, slice_get, Option, Some, Result, Ok, Err, OnOk, if◌then◌else◌, refl}
 use Rattle.std.proofs.Common.{sym, ◌∙◌, ap, subst, arith}
 use Rattle.std.proofs.lemmas.Bool.Decides.{nat_tests}
 use Rattle.std.proofs.lemmas.List.{append_assoc}
@@ -9,27 +9,11 @@ use Rattle.base_random.specs.Draws.{drawn}
 use Rattle.daos_model.specs.declared.durable.Durable.{Durable}
 use Rattle.run_base.specs.Orders.{after_pick, pick}
 use Rattle.run_base.specs.Picks.{is_due, numbered}
-use Rattle.run_stage.specs.Below.{AllAreDue, AndThen, Draws, GoesOn, HasIt, HasNone, InDraws, InOrder, InRounds, InTurn, IsRun, OneDraw, OneRound, RoundOf, Rounds, Shows, StageNow, TurnOf, client-due-shown, draws-are-run, due-shown, first_targets, goes-as, goes-then, heard_in, is_due_client, many-clients, rounds-are-run, turns-are-run}
+use Rattle.run_stage.specs.Below.{AllAreDue, AndThen, GoesOn, HasIt, HasNone, InTurn, IsBothWays, IsRun, OneDraw, OneRound, Shows, StageNow, TurnOf, Way, all_from_draw, all_rounds, client-due-shown, count-same, draws-are-run, due-shown, fault_by, faults_in_draws, faults_in_turn, first_targets, from_draw, goes-as, goes-then, heard_in, is_due_client, many-clients, once_for, round_of, rounds-are-run, some_rounds, turn_of, turned, turns-are-run}
 use Rattle.vos_store.specs.Calls.{State}
 use Rattle.world_base.specs.declared.world.World.{World}
 use Rattle.world_base.specs.Events.{Rules}
 use Rattle.world_base.specs.Letters.{client, target}
-
--- these actors have had their turns in a round
-abbrev pub turned : Bool → List ActorId → Rules → World → World → Type 0
-turned settling before r w = InTurn settling r w before
-
--- a turn of an actor
-abbrev pub turn_of : Bool → ActorId → ℕ → Rules → World → World → Type 0
-turn_of settling a k r = TurnOf settling r a k
-
--- it was drawn from x0 to x
-abbrev pub from_draw : Bool → ℕ → ℕ → Rules → World → World → Type 0
-from_draw settling x0 x r w = Draws settling r x0 w x
-
--- so it was, until no actor had anything to do
-abbrev pub all_from_draw : Bool → ℕ → ℕ → Rules → World → World → Type 0
-all_from_draw settling x0 x r w = InDraws settling r x0 w x
 
 -- ---- numbers
 
@@ -64,8 +48,8 @@ some-in (x ∷ xs) len some is none = cc
 -- ---- turns
 
 -- some turns and then others, if those come to their end
-pub goes-then-ok : {S C : Type 0} (durable : S → Option Durable) (state : S → State) (may : S → Durable → Type 0) (is_read : C → C → Type 0) {T E : Type 0} (one other both : Rules → World → World → Type 0) (a b c : StageNow S C) (result : Result T E) → IsRun one
-    → ((r : Rules) (found : ℕ → Durable) (w u v : World) → Shows durable state r found b u → one r w u → other r u v → both r w v) → GoesOn durable state may is_read one a b → OnOk result (GoesOn durable state may is_read other b c) → OnOk result (GoesOn durable state may is_read both a c)
+pub goes-then-ok : {S C : Type 0} (durable : S → Option Durable) (state : S → State) (may : S → Durable → Type 0) (is_read : C → C → Type 0) {T E : Type 0} (one other both : Way) (a b c : StageNow S C) (result : Result T E) → IsRun one
+    → ((r : Rules) (found : ℕ → Durable) (w u v : World) → Shows durable state r found b u → (p : one.goes r w u) (q : other.goes r u v) → IsBothWays one other both r w u v p q) → GoesOn durable state may is_read one a b → OnOk result (GoesOn durable state may is_read other b c) → OnOk result (GoesOn durable state may is_read both a c)
 goes-then-ok durable state may is_read one other both a b c (Ok x) runs join k l = goes-then durable state may is_read one other both a b c runs join k l
 goes-then-ok durable state may is_read one other both a b c (Err e) runs join k l = tt
 
@@ -81,12 +65,12 @@ module _ {S C : Type 0} (durable : S → Option Durable) (state : S → State) (
     one-more : (b : StageNow S C) → DueIs true actor → GoesOn durable state may is_read (turn_of settling actor 0) a b → GoesOn durable state may is_read (turned settling (before ++ actor ∷ [])) a0 b
     one-more b is turn =
         goes-then durable state may is_read (turned settling before) (turn_of settling actor 0) (turned settling (before ++ actor ∷ [])) a0 a b (turns-are-run settling before)
-        (λ r found w u v s so one. AndThen before actor u v so (HasIt (is r found u s) one)) k turn
+        (λ r found w u v s so one. (AndThen before actor u v so (HasIt (is r found u s) one), λ t. refl)) k turn
 
     -- one has none
     none-more : DueIs false actor → GoesOn durable state may is_read (turned settling (before ++ actor ∷ [])) a0 a
     none-more not_due =
-        goes-as durable state may is_read (turned settling before) (turned settling (before ++ actor ∷ [])) a0 a (λ r found was w u old s so. AndThen before actor u u so (HasNone (not_due r found u s) refl)) k
+        goes-as durable state may is_read (turned settling before) (turned settling (before ++ actor ∷ [])) a0 a (λ r found was w u old s so. (AndThen before actor u u so (HasNone (not_due r found u s) refl), λ t. omega arith)) k
 
   module _ (n : ℕ) (k : GoesOn durable state may is_read (turned settling (numbered client n)) a0 a) (within : n < length a.clients) where
     module _ (due : Bool) (shown : due ≡ is_due_client a.between.messages n (slice_get a.clients n)) where
@@ -109,28 +93,30 @@ module _ {S C : Type 0} (durable : S → Option Durable) (state : S → State) (
       target-had-none is = subst (λ as'. GoesOn durable state may is_read (turned settling as') a0 a) next (none-more (first_targets m t) (target t) k (λ r found w s. sym (shown r found w s) ∙ is))
 
   -- all had their turns
-  pub round-whole : GoesOn durable state may is_read (turned settling (first_targets (length a0.clients) (length a0.targets))) a0 a → GoesOn durable state may is_read (RoundOf settling) a0 a
+  pub round-whole : GoesOn durable state may is_read (turned settling (first_targets (length a0.clients) (length a0.targets))) a0 a → GoesOn durable state may is_read (round_of settling) a0 a
   round-whole k =
-      goes-as durable state may is_read (turned settling (first_targets (length a0.clients) (length a0.targets))) (RoundOf settling) a0 a
-      (λ r found was w u old s so. subst (λ as'. InTurn settling r w as' u) (ap (λ n. first_targets n (length a0.targets)) (sym (many-clients durable state r was a0 w old)) ∙ ap (first_targets (length w.clients)) (sym old.many)) so) k
+      goes-as durable state may is_read (turned settling (first_targets (length a0.clients) (length a0.targets))) (round_of settling) a0 a
+      (λ r found was w u old s so.
+      let all = ap (λ n. first_targets n (length a0.targets)) (sym (many-clients durable state r was a0 w old)) ∙ ap (first_targets (length w.clients)) (sym old.many) in
+      (subst (λ as'. InTurn settling r w as' u) all so, λ t. count-same (λ as'. InTurn settling r w as' u) (λ as' k. faults_in_turn t k) all so)) k
 
   -- ---- rounds
 
   module _ (due : List ActorId) (all : AllAreDue durable state settling a due) where
-    pub round-more : (b : StageNow S C) → (due ≡ [] → ⊥) → GoesOn durable state may is_read (Rounds settling) a0 a → GoesOn durable state may is_read (RoundOf settling) a b → GoesOn durable state may is_read (Rounds settling) a0 b
+    pub round-more : (b : StageNow S C) → (due ≡ [] → ⊥) → GoesOn durable state may is_read (some_rounds settling) a0 a → GoesOn durable state may is_read (round_of settling) a b → GoesOn durable state may is_read (some_rounds settling) a0 b
     round-more b some k round =
-        goes-then durable state may is_read (Rounds settling) (RoundOf settling) (Rounds settling) a0 a b (rounds-are-run settling)
-        (λ r found w u v s so one. OneRound u v so (λ none. some (due-shown durable state r found a u s settling due all ∙ none)) one) k round
+        goes-then durable state may is_read (some_rounds settling) (round_of settling) (some_rounds settling) a0 a b (rounds-are-run settling)
+        (λ r found w u v s so one. (OneRound u v so (λ none. some (due-shown durable state r found a u s settling due all ∙ none)) one, λ t. refl)) k round
 
-    pub rounds-over : due ≡ [] → GoesOn durable state may is_read (Rounds settling) a0 a → GoesOn durable state may is_read (InRounds settling) a0 a
+    pub rounds-over : due ≡ [] → GoesOn durable state may is_read (some_rounds settling) a0 a → GoesOn durable state may is_read (all_rounds settling) a0 a
     rounds-over quiet k =
-        goes-as durable state may is_read (Rounds settling) (InRounds settling) a0 a (λ r found was w u old s so. record { rounds = so; over = sym (due-shown durable state r found a u s settling due all) ∙ quiet }) k
+        goes-as durable state may is_read (some_rounds settling) (all_rounds settling) a0 a (λ r found was w u old s so. (record { rounds = so; over = sym (due-shown durable state r found a u s settling due all) ∙ quiet }, λ t. refl)) k
 
     -- ---- draws
 
     pub draws-over : (x0 x : ℕ) → due ≡ [] → GoesOn durable state may is_read (from_draw settling x0 x) a0 a → GoesOn durable state may is_read (all_from_draw settling x0 x) a0 a
     draws-over x0 x quiet k =
-        goes-as durable state may is_read (from_draw settling x0 x) (all_from_draw settling x0 x) a0 a (λ r found was w u old s so. record { draws = so; over = sym (due-shown durable state r found a u s settling due all) ∙ quiet }) k
+        goes-as durable state may is_read (from_draw settling x0 x) (all_from_draw settling x0 x) a0 a (λ r found was w u old s so. (record { draws = so; over = sym (due-shown durable state r found a u s settling due all) ∙ quiet }, λ t. refl)) k
 
     -- an actor is drawn, and then the letter that it hears, if it hears one
     pub draw-more : (x0 x z y p : ℕ) (actor : ActorId) (many message : ℕ) (b : StageNow S C) → slice_get due p ≡ Some actor → p ≡ drawn x % length due → z ≡ drawn x → ((r : Rules) (found : ℕ → Durable) (w : World) → Shows durable state r found a w → many ≡ heard_in w actor) → message ≡ pick z many
@@ -138,14 +124,13 @@ module _ {S C : Type 0} (durable : S → Option Durable) (state : S → State) (
     draw-more x0 x z y p actor many message b its at next_is hears is last k turn =
         goes-then durable state may is_read (from_draw settling x0 x) (turn_of settling actor message) (from_draw settling x0 y) a0 a b (draws-are-run settling x0 x)
         (λ r found w u v s so one.
-        OneDraw x y u v so (record {
-          actor = actor;
-          its = subst (λ as'. slice_get as' (drawn x % length as') ≡ Some actor) (due-shown durable state r found a u s settling due all) (subst (λ q. slice_get due q ≡ Some actor) at its);
-          turn = subst (λ j. TurnOf settling r actor j u v) (is ∙ ap (λ q. pick q many) next_is ∙ ap (pick (drawn x)) (hears r found u s)) one;
-          last = last ∙ ap (λ q. after_pick q many) next_is ∙ ap (after_pick (drawn x)) (hears r found u s);
-        }))
+        let number = is ∙ ap (λ q. pick q many) next_is ∙ ap (pick (drawn x)) (hears r found u s) in (
+          OneDraw x y u v so (record {
+            actor = actor;
+            its = subst (λ as'. slice_get as' (drawn x % length as') ≡ Some actor) (due-shown durable state r found a u s settling due all) (subst (λ q. slice_get due q ≡ Some actor) at its);
+            turn = subst (λ j. TurnOf settling r actor j u v) number one;
+            last = last ∙ ap (λ q. after_pick q many) next_is ∙ ap (after_pick (drawn x)) (hears r found u s);
+          }),
+          λ t. ap (λ n. faults_in_draws t so + n) (count-same (λ j. TurnOf settling r actor j u v) (λ j turn'. once_for (fault_by turn') t) number one),
+        ))
         k turn
-
--- a run in an order
-abbrev pub in_order : ℕ → Rules → World → World → Type 0
-in_order order r = InOrder r order

@@ -5,8 +5,7 @@ ghost use Rattle.daos_model.specs.declared.durable.Durable.{Durable};
 ghost use Rattle.daos_model.specs.Opening.{Opening};
 ghost use Rattle.run_base.specs.Orders.{after_pick, pick};
 ghost use Rattle.run_base.specs.Picks.{count_to};
-ghost use Rattle.run_stage.specs.Below.{AllBeginInTurn, AllCanReopen, AllTellInOrder, AnswersGoOn, AreAccounted, AreDrawn, AreServed, Breaks, CanGo, EndsGoOn, GoesOn, HasRunWith, InRounds, IsActor, IsUp, RoundOf, RunBegins, Shows, TellInTurn, heard_in, left_of};
-ghost use Rattle.run_loop.specs.Loops.{all_from_draw, in_order, turn_of};
+ghost use Rattle.run_stage.specs.Below.{AllBeginInTurn, AllCanReopen, AllTellInOrder, AnswersGoOn, AreAccounted, AreDrawn, AreServed, Breaks, CanGo, EndsGoOn, GoesOn, HasRunWith, IsActor, IsUp, RunBegins, Shows, TellInTurn, all_from_draw, all_rounds, heard_in, in_order, left_of, round_of, turn_of};
 ghost use Rattle.world_ended.specs.Clients.{AllEndWell};
 ghost use Rattle.world_letters.specs.kinds.Fitting.{AllAnswersFit};
 ghost use Rattle.run_stage.specs.Now.{stage_now};
@@ -78,7 +77,7 @@ fn round<S: Fuse, C: Clock, G: Gate>(
     requires going { CanGo S.durable S.state S.may (stage_now stage.old) }
     requires few_clients { length stage.old.clients.items ≤ 65535 }
     requires few_targets { length stage.old.targets.items ≤ 255 }
-    ensures goes { OnOk result (GoesOn S.durable S.state S.may C.is_read (RoundOf settling) (stage_now stage.old) (stage_now stage.new)) }
+    ensures goes { OnOk result (GoesOn S.durable S.state S.may C.is_read (round_of settling) (stage_now stage.old) (stage_now stage.new)) }
     ensures broke { OnErr result (Breaks S.durable S.state S.may (stage_now stage.old) stage.new.targets.items) }
     ensures served { AreServed S.durable S.state C.is_read stage.old.targets.items stage.new.targets.items }
 {
@@ -109,7 +108,7 @@ fn go_round<R: Wait, S: Fuse, C: Clock, G: Gate>(
     requires going { CanGo S.durable S.state S.may (stage_now stage.old) }
     requires few_clients { length stage.old.clients.items ≤ 65535 }
     requires few_targets { length stage.old.targets.items ≤ 255 }
-    ensures goes { OnOk result (GoesOn S.durable S.state S.may C.is_read (InRounds settling) (stage_now stage.old) (stage_now stage.new)) }
+    ensures goes { OnOk result (GoesOn S.durable S.state S.may C.is_read (all_rounds settling) (stage_now stage.old) (stage_now stage.new)) }
     ensures broke { OnErr result (Breaks S.durable S.state S.may (stage_now stage.old) stage.new.targets.items) }
     ensures served { AreServed S.durable S.state C.is_read stage.old.targets.items stage.new.targets.items }
 {
@@ -208,7 +207,7 @@ pub fn run_in_order<R: Wait, S: Fuse, C: Clock, G: Gate>(
     requires going { CanGo S.durable S.state S.may (stage_now stage) }
     requires few_clients { length stage.clients.items ≤ 65535 }
     ensures run { (r : Rules) (w : World) (o : Opening) → RunBegins r o w → AreDrawn w → ((found : ℕ → Durable) → Shows S.durable S.state r found (stage_now stage) w)
-        → IfOk result.2 (λ lines. HasRunWith S.durable S.state S.may r order w (left_of result.0.items result.1 lines)) }
+        → IfOk result.2 (λ lines. HasRunWith S.durable S.state S.may r order w stage.targets.items (left_of result.0.items result.1 lines)) }
     ensures broke { IfErr result.2 (λ error. Breaks S.durable S.state S.may (stage_now stage) result.0.items) }
     ensures served { AreServed S.durable S.state C.is_read stage.targets.items result.0.items }
     ensures accounts { (h : ℕ → State) (stops : List StopDecl) → AreAccounted S.durable S.state h stops (stage_now stage)

@@ -22,7 +22,7 @@ use Rattle.run_laws.specs.steps.Going.{GoesOn, IsRun}
 use Rattle.run_laws.specs.steps.Steps.{client-turn-goes, target-turn-goes}
 use Rattle.run_laws.specs.turns.Drawn.{AreDrawn, turn-runs-on}
 use Rattle.run_laws.specs.turns.Staying.{events-stay}
-use Rattle.run_laws.specs.turns.Turns.{TurnOf}
+use Rattle.run_laws.specs.steps.Ways.{Way, turn_of}
 use Rattle.run_steps.specs.Froms.{HasComeTo, HasEndedFrom, IsFrom, KeepsGoing}
 use Rattle.target_core.specs.Targets.{TargetOf}
 use Rattle.vos_store.specs.Calls.{State}
@@ -37,7 +37,7 @@ clients-stay r w v Begins = refl
 clients-stay r w v (Goes u x run event) = (events-stay r u x event).clients ∙ clients-stay r w u run
 
 -- a turn of an actor is a run of events
-turns-run : (settling : Bool) (actor : ActorId) (number : ℕ) → IsRun (λ r. TurnOf settling r actor number)
+turns-run : (settling : Bool) (actor : ActorId) (number : ℕ) → IsRun (turn_of settling actor number)
 turns-run settling actor number r w v turn = turn-runs-on settling r actor number w v turn
 
 module _ {S C : Type 0} (durable : S → Option Durable) (state : S → State) (may : S → Durable → Type 0) where
@@ -69,7 +69,7 @@ module _ {S C : Type 0} (durable : S → Option Durable) (state : S → State) (
         record { reached = y; ended = quiet-has-ended r y.now (clients-stay r first y.now y.run ∙ lists) (sym (due-shown durable state r found a y.now y.shows true [] quiet)) }
 
     -- turns that go on lead to actors with the same beginning
-    pub from-on : (is_read : C → C → Type 0) (way : Rules → World → World → Type 0) (b : StageNow S C) → IsRun way → GoesOn durable state may is_read way a b → IsFrom durable state may r o first b
+    pub from-on : (is_read : C → C → Type 0) (way : Way) (b : StageNow S C) → IsRun way → GoesOn durable state may is_read way a b → IsFrom durable state may r o first b
     from-on is_read way b runs goes = record {
       begins = k.begins;
       told = k.told;
@@ -77,7 +77,7 @@ module _ {S C : Type 0} (durable : S → Option Durable) (state : S → State) (
           let z = goes.led k.told r found are in
           let y = k.reached z.before z.were in
           let l = z.led y.now (was z.before y) y.shows in
-          let on = runs r y.now l.next l.turn in
+          let on = runs r y.now l.next l.turn.goes in
           record { now = l.next; run = on.run first y.run; drawn = on.drawn y.drawn; shows = l.shows };
     }
 
@@ -101,32 +101,32 @@ module _ {S C : Type 0} (durable : S → Option Durable) (state : S → State) (
 
   module _ (is_read : C → C → Type 0) where
     -- what goes on keeps all that is said of any stores
-    pub keeps-on : (way : Rules → World → World → Type 0) (a b : StageNow S C) → GoesOn durable state may is_read way a b → KeepsGoing durable state may is_read a b
+    pub keeps-on : (way : Way) (a b : StageNow S C) → GoesOn durable state may is_read way a b → KeepsGoing durable state may is_read a b
     keeps-on way a b goes = record { can = goes.going; clients = goes.clients; served = goes.served; accounts = goes.accounts; tells = goes.tells }
 
     module _ (findable : AreFindable durable may) (alike : AreAlike durable) (a : StageNow S C) (can : CanGo durable state may a) where
       module _ (b : StageNow S C) where
         module _ (n number : ℕ) (turned : ClientTurned n number a b) where
-          client-goes : GoesOn durable state may is_read (λ r. TurnOf false r (client n) number) a b
+          client-goes : GoesOn durable state may is_read (turn_of false (client n) number) a b
           client-goes = client-turn-goes durable state may is_read findable alike a b can n number turned false
 
           -- a client's turn
           pub client-keeps : KeepsGoing durable state may is_read a b
-          client-keeps = keeps-on (λ r. TurnOf false r (client n) number) a b client-goes
+          client-keeps = keeps-on (turn_of false (client n) number) a b client-goes
 
           pub client-from : (r : Rules) (o : Opening) (first : World) → IsFrom durable state may r o first a → IsFrom durable state may r o first b
-          client-from r o first k = from-on r o first a k is_read (λ q. TurnOf false q (client n) number) b (turns-run false (client n) number) client-goes
+          client-from r o first k = from-on r o first a k is_read (turn_of false (client n) number) b (turns-run false (client n) number) client-goes
 
         module _ (settling : Bool) (t number : ℕ) (turned : TargetTurned durable state may is_read settling t number a b) where
-          target-goes : GoesOn durable state may is_read (λ r. TurnOf settling r (target t) number) a b
+          target-goes : GoesOn durable state may is_read (turn_of settling (target t) number) a b
           target-goes = target-turn-goes durable state may is_read findable alike a b can settling t number turned
 
           -- a target's turn
           pub target-keeps : KeepsGoing durable state may is_read a b
-          target-keeps = keeps-on (λ r. TurnOf settling r (target t) number) a b target-goes
+          target-keeps = keeps-on (turn_of settling (target t) number) a b target-goes
 
           pub target-from : (r : Rules) (o : Opening) (first : World) → IsFrom durable state may r o first a → IsFrom durable state may r o first b
-          target-from r o first k = from-on r o first a k is_read (λ q. TurnOf settling q (target t) number) b (turns-run settling (target t) number) target-goes
+          target-from r o first k = from-on r o first a k is_read (turn_of settling (target t) number) b (turns-run settling (target t) number) target-goes
 
       -- one in which memory was wanting
       pub come-in_turn : AreSteady durable state may → (settling : Bool) (t number : ℕ) (xs : List (TargetOf S C)) → TargetBroke durable state may is_read settling t number a xs → (r : Rules) (o : Opening) (first : World) → IsFrom durable state may r o first a → (found : ℕ → Durable)

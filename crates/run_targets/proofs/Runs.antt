@@ -125,12 +125,13 @@ module _ {S C Z : Type 0} (durable : S → Option Durable) (state : S → State)
       armed-told = fuses-tell durable state may v.items armed fuses.fuses told
 
       module _ {E : Type 0} (ran : Result (List Line) E) (found-lines : List Line) (is : ran ≡ Ok found-lines) where
-        has-run : ((r : Rules) (first : World) (p : Opening) → RunBegins r p first → AreDrawn first → ((found : ℕ → Durable) → Shows durable state r found stage first) → IfOk ran (λ ls. HasRunWith durable state may r j.order first (left_of rest.items in_the_end ls)))
-            → HasRunWith durable state may (rules_of (given_by s j o)) j.order (first_world durable state cs armed) (left_of rest.items in_the_end found-lines)
+        has-run : ((r : Rules) (first : World) (p : Opening) → RunBegins r p first → AreDrawn first → ((found : ℕ → Durable) → Shows durable state r found stage first) → IfOk ran (λ ls. HasRunWith durable state may r j.order first stage.targets (left_of rest.items in_the_end ls)))
+            → HasRunWith durable state may (rules_of (given_by s j o)) j.order (first_world durable state cs armed) armed (left_of rest.items in_the_end found-lines)
         has-run run =
-            subst (λ z. IfOk z (λ ls. HasRunWith durable state may (rules_of (given_by s j o)) j.order (first_world durable state cs armed) (left_of rest.items in_the_end ls))) is
+            subst (λ zs. HasRunWith durable state may (rules_of (given_by s j o)) j.order (first_world durable state cs armed) zs (left_of rest.items in_the_end found-lines)) put
+            (subst (λ z. IfOk z (λ ls. HasRunWith durable state may (rules_of (given_by s j o)) j.order (first_world durable state cs armed) stage.targets (left_of rest.items in_the_end ls))) is
             (run (rules_of (given_by s j o)) (first_world durable state cs armed) o (run-begins durable state (given_by s j o) cs armed (begins o started) armed-told) (first-drawn durable state (given_by s j o) cs armed (begins o started))
-            (λ found. subst (λ a. Shows durable state (rules_of (given_by s j o)) found a (first_world durable state cs armed)) (sym stage-is) (shows-first durable state (given_by s j o) cs armed (begins o started) armed-told now is-first found)))
+            (λ found. subst (λ a. Shows durable state (rules_of (given_by s j o)) found a (first_world durable state cs armed)) (sym stage-is) (shows-first durable state (given_by s j o) cs armed (begins o started) armed-told now is-first found))))
 
         accounted : ((h : ℕ → State) (some : List StopDecl) → AreAccounted durable state h some stage → IfOk ran (λ ls. AreAccounted durable state h some (left_of rest.items in_the_end ls))) → AreAccounted durable state (states_of state v.items) s.stops (left_of rest.items in_the_end found-lines)
         accounted accounts =
@@ -139,7 +140,7 @@ module _ {S C Z : Type 0} (durable : S → Option Durable) (state : S → State)
 
         -- the run came to that
         pub comes : AreSteady durable state may → AreFindable durable may → AreAlike durable
-            → ((r : Rules) (first : World) (p : Opening) → RunBegins r p first → AreDrawn first → ((found : ℕ → Durable) → Shows durable state r found stage first) → IfOk ran (λ ls. HasRunWith durable state may r j.order first (left_of rest.items in_the_end ls)))
+            → ((r : Rules) (first : World) (p : Opening) → RunBegins r p first → AreDrawn first → ((found : ℕ → Durable) → Shows durable state r found stage first) → IfOk ran (λ ls. HasRunWith durable state may r j.order first stage.targets (left_of rest.items in_the_end ls)))
             → ((h : ℕ → State) (some : List StopDecl) → AreAccounted durable state h some stage → IfOk ran (λ ls. AreAccounted durable state h some (left_of rest.items in_the_end ls)))
             → IfOk ran (λ ls. AllCanReopen durable state may rest.items) → (q : Report) → q ≡ report_with s found-lines → AreTyped found-lines → ComesTo durable state may (given_by s j o) (stores_of v.items) (stores_of (with_items rest ys).items) q
         comes steady findable alike run accounts reopens q report typed =

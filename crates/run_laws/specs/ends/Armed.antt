@@ -63,6 +63,7 @@ module _ {S C : Type 0} (durable : S → Option Durable) (state : S → State) (
       leader = ap (λ m. m.leader) f.memory ∙ k.leader;
       waits = ap (λ m. m.member.parked) f.memory ∙ k.waits;
       makes = ap (λ m. m.collecting) f.memory ∙ k.makes;
+      ticks = λ d is. ap (λ m. m.ticks) f.memory ∙ k.ticks d (sym f.kept ∙ is);
       seldom = λ d is. k.seldom d (sym f.kept ∙ is);
     }
 

@@ -18,10 +18,15 @@ use Rattle.model_lone.specs.Only.{TellsOfOnlyClient}
 use Rattle.model_reports.specs.Lone.{HasOneClient}
 use Rattle.report_writer.specs.Forms.{IsReportOf}
 pub use Rattle.run_opening.specs.All.{AreKept, MayBeFound}
+use Rattle.run_laws.specs.shows.Accounts.{AtMostBothRise}
 use Rattle.run_laws.specs.steps.Ended.{CanReopen}
+use Rattle.run_laws.specs.turns.Faults.{cuts_and_failures}
+use Rattle.run_laws.specs.turns.OrderLaws.{orders-are-runs}
 use Rattle.run_laws.specs.turns.Orders.{InOrder}
 use Rattle.vos_store.specs.Calls.{State}
 use Rattle.world_commit.specs.attempts.Attempts.{IsOther}
+use Rattle.world_base.specs.declared.target.Life.TheVariants.{Running}
+use Rattle.world_base.specs.declared.target.TargetMemory.{TargetMemory}
 use Rattle.world_base.specs.declared.target.TargetState.{TargetState}
 use Rattle.world_base.specs.declared.world.World.{World}
 use Rattle.world_plain.specs.ends.Ends.{durables_of, rules_of}
@@ -32,7 +37,7 @@ pub use Rattle.run_laws.specs.reports.Reports.{AreIssuedSince, IsKeyed}
 use Rattle.run_laws.specs.shows.Beginning.{RunBegins}
 use Rattle.run_opening.specs.Opened.{AreFloored}
 pub use Rattle.world_plain.specs.lone.LoneRuns.{AreIssuedThere}
-use Rattle.world_plain.specs.whole.Begins.{IsOpeningPlain, IsSimple}
+use Rattle.world_plain.specs.whole.Begins.{IsOpeningPlain, IsSimple, no_joining, no_leading}
 
 -- ---- the report
 
@@ -112,26 +117,31 @@ pub record EndsUnstopped {S : Type 0} (durable : S → Option Durable) (g : Give
 -- ---- the order
 
 -- A report's lines are those of a run of the world in the order that the job names, to where that order ends: turn by turn, those of the
--- actor and the message that it picks. It begins where no client had a turn, with as many blocks free at each target as the opening says.
+-- actor and the message that it picks. It begins where no client had a turn, and all numbers of aggregations were drawn.
 pub record FollowsOrder (g : Given) (q : Report) : Type 0 where
   pub first : World
   pub begins : RunBegins (rules_of g) g.opening first
-  pub free : (t : ℕ) (s : TargetState) → slice_get first.targets t ≡ Some s → s.free ≡ g.opening.free t
-  pub restarts : first.numbers.restarts ≡ 0
+  pub numbers : first.numbers ≡ record { restarts = 0; aggregates = 2 ^ 32 }
   pub last : World
   pub run : InOrder (rules_of g) g.job.order first last
   pub lines : q.lines ≡ last.lines
 
--- a target of a world is as its store says: it keeps what that tells, and was opened with the floor of its last opening
+-- what a target remembers that keeps this, and has just opened: its ticks begin at the lease, and nothing else is there
+abbrev pub memory_at_first : Durable → TargetMemory
+memory_at_first d = record { ticks = d.lease; stamps = []; leader = no_leading; member = no_joining; collecting = [] }
+
+-- A target of a world is as its store says: it keeps what that tells, with its free blocks, and the floor of its last opening; and it has just opened.
 pub record IsAsStored {S : Type 0} (durable : S → Option Durable) (state : S → State) (x : S) (s : TargetState) : Type 0 where
   pub kept : durable x ≡ Some s.durable
-  pub opening : s.opening ≡ (state x).opening
+  pub as_it_is : s ≡ record { durable = s.durable; free = (state x).free; opening = (state x).opening; life = Running; memory = memory_at_first s.durable }
 
 -- That run begins with the targets over these stores, as they are, and the next openings of their stores may find what the targets keep in the end.
+-- Of each target no more turns were cut in it, and no more openings failed, than the counts of its store rose together.
 pub record IsOrdered {S : Type 0} (durable : S → Option Durable) (state : S → State) (may : S → Durable → Type 0) (g : Given) (q : Report) (xs ys : List S) : Type 0 where
   pub follows : FollowsOrder g q
   pub begins : (t : ℕ) (x : S) (s : TargetState) → slice_get xs t ≡ Some x → slice_get follows.first.targets t ≡ Some s → IsAsStored durable state x s
   pub kept : MayBeFound may ys (durables_of follows.last)
+  pub faults : (t : ℕ) (x y : S) → slice_get xs t ≡ Some x → slice_get ys t ≡ Some y → AtMostBothRise (cuts_and_failures t (orders-are-runs (rules_of g) g.job.order follows.first follows.last follows.run)) (state x) (state y)
 
 -- ---- a run after this one
 
@@ -168,7 +178,7 @@ IsInRealTime g q = KeepsTheBound g.script g.job.epsilon q.lines → AreExternall
 -- one of the targets issued each epoch of which it tells, but for those of snapshots of earlier runs, and so all where there are none; conflicting committed attempts have epochs in the order of real time where clocks
 -- keep the bound; stores of targets that weren't given up run, and nothing is left to settle there; the only client of a script is never told to
 -- restart where no line tells of a stop; what is kept is sound again, and may be opened again; and the report tells of the turns in the order asked,
--- where just so many blocks were free at the beginning.
+-- from where the targets are just as they are stored; and no more turns of a target were cut, and openings failed, than counts of its store rose.
 pub record ComesTo {S : Type 0} (durable : S → Option Durable) (state : S → State) (may : S → Durable → Type 0) (g : Given) (xs ys : List S) (q : Report) : Type 0 where
   pub stand : (lasts : List Durable) (o : Outside) → MayBeFound may ys lasts → IsOutside state o xs ys → HeadlineOver g o lasts q
   pub form : IsKeyed g → IsReportOf g.script q
@@ -182,4 +192,4 @@ pub record ComesTo {S : Type 0} (durable : S → Option Durable) (state : S → 
   pub sound : LeavesSound durable may xs ys
   pub unsnapped : RunsPlainly durable g xs → (lasts : List Durable) → MayBeFound may ys lasts → created_snaps lasts ≡ []
   pub reopens : LeavesReopenable durable may ys
-  pub ordered : ((t : ℕ) (x : S) → slice_get xs t ≡ Some x → (state x).free ≡ g.opening.free t) → IsOrdered durable state may g q xs ys
+  pub ordered : IsOrdered durable state may g q xs ys

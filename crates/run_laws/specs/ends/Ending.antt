@@ -32,13 +32,15 @@ use Rattle.run_laws.specs.reports.Legal.{orders-are-legal}
 use Rattle.run_laws.specs.reports.Reports.{AreIssuedSince, AreTyped, EndsPlainlyIn, GoesInOrder, IsKeyed, IsSettledOrLeft, LeavesInTheEnd}
 use Rattle.run_laws.specs.reports.Unknown.{down-among}
 use Rattle.run_laws.specs.reports.Unstopped.{unstopped-end-plainly}
-use Rattle.run_laws.specs.shows.Accounts.{AreAccounted}
+use Rattle.run_laws.specs.shows.Accounting.{same-rises}
+use Rattle.run_laws.specs.shows.Accounts.{AreAccounted, AtMostBothRise}
 use Rattle.run_laws.specs.shows.Going.{AreAlike, AreFindable, AreSteady}
 use Rattle.run_laws.specs.shows.ListLaws.{map-get}
 use Rattle.run_laws.specs.shows.Parts.{at-both}
 use Rattle.run_laws.specs.shows.Shows.{IsTargetOf}
 use Rattle.run_laws.specs.shows.Stages.{StageNow}
 use Rattle.run_laws.specs.steps.Ended.{AllCanReopen, HasRun, HasRunWith, left_of}
+use Rattle.run_laws.specs.turns.Faults.{cuts_and_failures}
 use Rattle.run_laws.specs.turns.OrderLaws.{orders-are-runs}
 use Rattle.run_watch.specs.Watches.{WatchNow, first_watch}
 use Rattle.target_core.specs.Targets.{TargetOf}
@@ -46,6 +48,7 @@ use Rattle.vos_store.specs.Calls.{State}
 use Rattle.world_commit.specs.attempts.Attempts.{IsHeld, entry_in}
 use Rattle.world_closing.specs.Below.{AreExternallyConsistent, KeepsTheBound, found-entry}
 use Rattle.world_base.specs.declared.target.Life.TheVariants.{Down, Running}
+use Rattle.world_base.specs.declared.target.TargetMemory.{TargetMemory}
 use Rattle.world_base.specs.declared.target.TargetState.{TargetState}
 use Rattle.world_base.specs.declared.world.World.{World}
 use Rattle.world_base.specs.Events.{Rules, target_plan}
@@ -55,12 +58,12 @@ use Rattle.world_plain.specs.ends.Ends.{durable_of, durables_of, rules_of}
 use Rattle.world_order.specs.Runs.{all-runs-are_consistent}
 use Rattle.world_plain.specs.facts.Facts.{IsMember}
 use Rattle.world_letters.specs.lives.Legal.{AreCaused}
-use Rattle.world_plain.specs.whole.Begins.{IsBegun}
+use Rattle.world_plain.specs.whole.Begins.{IsBegun, no_joining, no_leading}
 use Rattle.run_laws.specs.ends.Armed.{before-fuse, fuses-started, fuses-tell, states_of}
 use Rattle.run_laws.specs.ends.Arming.{AreArmed, AreUnfused}
 use Rattle.run_laws.specs.ends.Begun.{told-is}
 use Rattle.run_laws.specs.ends.Caused.{end-caused, stops-caused}
-use Rattle.run_laws.specs.ends.Comes.{AreIssuedThere, AreKept, ComesTo, EndsUnstopped, IsAsStored, IsCommittedIn, IsOrdered, IsOutside, IsSoundAgain, LacksMember, LeavesReopenable, MayBeFound, RunsPlainly, StandPlainly, report_with}
+use Rattle.run_laws.specs.ends.Comes.{AreIssuedThere, AreKept, ComesTo, EndsUnstopped, IsAsStored, IsCommittedIn, IsOrdered, IsOutside, IsSoundAgain, LacksMember, LeavesReopenable, MayBeFound, RunsPlainly, StandPlainly, memory_at_first, report_with}
 use Rattle.run_laws.specs.ends.Keeping.{all-tell, begins-plainly, first-keeps, none-created, sound-again, stands-so}
 use Rattle.run_laws.specs.ends.Lasts.{are-found, found_at, its-target, keeps-lasts, some-may_be, some_lasts}
 use Rattle.run_laws.specs.ends.Places.{IsMapped, from-map}
@@ -69,6 +72,22 @@ use Rattle.run_laws.specs.ends.Starts.{AllTell, BeginsSo, HaveStarted, first_wor
 -- an outside that may have caused whatever stopped and was given up
 abbrev anything : Outside
 anything = record { rises = λ t. None; foreign = λ t. true; keeps = λ t. true }
+
+-- what a target remembers and how it stands, part by part
+memory-is : (m : TargetMemory) (d : Durable) → m.ticks ≡ d.lease → m.stamps ≡ [] → m.leader ≡ no_leading → m.member ≡ no_joining → m.collecting ≡ [] → m ≡ memory_at_first d
+memory-is m d ticks stamps leader member collecting =
+    ap (λ n. record m { ticks = n }) ticks
+    ∙ ap (λ ss. record m { ticks = d.lease; stamps = ss }) stamps
+    ∙ ap (λ l. record m { ticks = d.lease; stamps = []; leader = l }) leader
+    ∙ ap (λ j. record m { ticks = d.lease; stamps = []; leader = no_leading; member = j }) member
+    ∙ ap (λ cs. record { ticks = d.lease; stamps = []; leader = no_leading; member = no_joining; collecting = cs }) collecting
+
+just-as : (s : TargetState) (h : State) → s.free ≡ h.free → s.opening ≡ h.opening → s.life ≡ Running → s.memory ≡ memory_at_first s.durable → s ≡ record { durable = s.durable; free = h.free; opening = h.opening; life = Running; memory = memory_at_first s.durable }
+just-as s h free opening life memory =
+    ap (λ n. record s { free = n }) free
+    ∙ ap (λ o. record s { free = h.free; opening = o }) opening
+    ∙ ap (λ l. record s { free = h.free; opening = h.opening; life = l }) life
+    ∙ ap (λ m. record s { free = h.free; opening = h.opening; life = Running; memory = m }) memory
 
 module _ {S C : Type 0} (durable : S → Option Durable) (state : S → State) (may : S → Durable → Type 0) where
   -- A run of these clients and targets has ended. Before it the fuse of each target's first stop line was set; it ended with these lines, and left
@@ -79,7 +98,7 @@ module _ {S C : Type 0} (durable : S → Option Durable) (state : S → State) (
     pub fuses : AreArmed durable state may xs armed (first_watch g.script.targets g.script.stops) at_first
     pub rest : List (TargetOf S C)
     pub in_the_end : WatchNow
-    pub run : HasRunWith durable state may (rules_of g) g.job.order (first_world durable state cs armed) (left_of rest in_the_end lines)
+    pub run : HasRunWith durable state may (rules_of g) g.job.order (first_world durable state cs armed) armed (left_of rest in_the_end lines)
     pub accounted : AreAccounted durable state (states_of state xs) g.script.stops (left_of rest in_the_end lines)
     pub many : length rest ≡ length armed
     pub reopens : AllCanReopen durable state may rest
@@ -114,7 +133,7 @@ module _ {S C : Type 0} (durable : S → Option Durable) (state : S → State) (
 
     module _ (lasts : List Durable) (m : MayBeFound may (stores_of ys) lasts) where
       -- a run ended in a world that keeps this
-      run : HasRun durable state r g.job.order first (found_at lasts) left
+      run : HasRun durable state r g.job.order first e.armed (found_at lasts) left
       run = e.run (found_at lasts) (are-found durable state may steady e.rest ys e.in_the_end lines e.unfused lasts m)
 
       abbrev last : World
@@ -313,12 +332,6 @@ module _ {S C : Type 0} (durable : S → Option Durable) (state : S → State) (
 
       -- ---- the order
 
-      free-first : ((t : ℕ) (x : S) → slice_get (stores_of xs) t ≡ Some x → (state x).free ≡ g.opening.free t) → (t : ℕ) (s : TargetState) → slice_get first.targets t ≡ Some s → s.free ≡ g.opening.free t
-      free-first free t s here =
-          let z = from-map (state_now durable state) e.armed t s here in
-          let x = before-fuse durable state may xs e.armed e.fuses.fuses t z.of_it z.at in
-          ap (λ y. y.free) z.is ∙ ap (λ h. h.free) (e.fuses.fuses.each t x.0 z.of_it x.1 z.at).state_is.rest ∙ free t x.0.store (map-get (λ p. p.store) xs t x.0 x.1)
-
       -- a target of that world is as its store says, since a fuse changes nothing of this
       as-stored : (t : ℕ) (x : S) (s : TargetState) → slice_get (stores_of xs) t ≡ Some x → slice_get first.targets t ≡ Some s → IsAsStored durable state x s
       as-stored t x s at here =
@@ -326,10 +339,25 @@ module _ {S C : Type 0} (durable : S → Option Durable) (state : S → State) (
           let y = before-fuse durable state may xs e.armed e.fuses.fuses t z.of_it z.at in
           let f = e.fuses.fuses.each t y.0 z.of_it y.1 z.at in
           let same : y.0.store ≡ x = let two : Some y.0.store ≡ Some x = sym (map-get (λ p. p.store) xs t y.0 y.1) ∙ at in cc in
+          let started = (fuses-started durable state may xs e.armed e.fuses.fuses g cs k).each t z.of_it z.at in
+          let runs = begins.begins.begins.starts t s here in
           record {
             kept = ap durable (sym same) ∙ sym f.kept ∙ told-is (durable z.of_it.store) (all z.of_it.store) ∙ ap (λ q. Some q.durable) (sym z.is);
-            opening = ap (λ q. q.opening) z.is ∙ ap (λ h. h.opening) f.state_is.rest ∙ ap (λ q. (state q).opening) same;
+            as_it_is = just-as s (state x) (ap (λ q. q.free) z.is ∙ ap (λ h. h.free) f.state_is.rest ∙ ap (λ q. (state q).free) same) (ap (λ q. q.opening) z.is ∙ ap (λ h. h.opening) f.state_is.rest ∙ ap (λ q. (state q).opening) same) runs.runs
+                (memory-is s.memory s.durable (ap (λ q. q.memory.ticks) z.is ∙ started.ticks s.durable (told-is (durable z.of_it.store) (all z.of_it.store) ∙ ap (λ q. Some q.durable) (sym z.is))) runs.stamps runs.leader runs.member runs.collecting);
           }
+
+      -- of each target no more turns were cut, and no more openings failed, than counts of its store rose: fuses leave these as they are
+      within-rises : (t : ℕ) (x y : S) → slice_get (stores_of xs) t ≡ Some x → slice_get (stores_of ys) t ≡ Some y → AtMostBothRise (cuts_and_failures t (orders-are-runs r g.job.order first last run.run)) (state x) (state y)
+      within-rises t x y at there =
+          let p = from-map (λ z. z.store) xs t x at in
+          let a = at-both xs e.armed t p.of_it e.fuses.fuses.many p.at in
+          let set' = (e.fuses.fuses.each t p.of_it a.0 p.at a.1).state_is.rest in
+          let q = from-map (λ z. z.store) ys t y there in
+          let b = before-fuse durable state may e.rest ys e.unfused t q.of_it q.at in
+          let gone = (e.unfused.each t b.0 q.of_it b.1 q.at).state_is.rest in
+          same-rises (cuts_and_failures t (orders-are-runs r g.job.order first last run.run)) (state a.0.store) (state x) (state b.0.store) (state y) (ap (λ s. (state s).faults) p.is ∙ sym (ap (λ h. h.faults) set')) (ap (λ s. (state s).burns) p.is ∙ sym (ap (λ h. h.burns) set'))
+          (ap (λ s. (state s).faults) q.is ∙ ap (λ h. h.faults) gone) (ap (λ s. (state s).burns) q.is ∙ ap (λ h. h.burns) gone) (run.faults t a.0 b.0 a.1 b.1)
 
       -- ---- a run after this one
 
@@ -338,11 +366,12 @@ module _ {S C : Type 0} (durable : S → Option Durable) (state : S → State) (
           sound-again r g.opening first last F lasts begins.begins (orders-are-runs r g.job.order first last run.run)
           (first-keeps durable state may cs xs e.armed e.fuses.fuses.many (λ t x y at there. (e.fuses.fuses.each t x y at there).kept) all F f) keeps sound
 
-      is-ordered : ((t : ℕ) (x : S) → slice_get (stores_of xs) t ≡ Some x → (state x).free ≡ g.opening.free t) → IsOrdered durable state may g report (stores_of xs) (stores_of ys)
-      is-ordered free = record {
-        follows = record { first = first; begins = begins.begins; free = free-first free; restarts = refl; last = last; run = run.run; lines = run.told };
+      is-ordered : IsOrdered durable state may g report (stores_of xs) (stores_of ys)
+      is-ordered = record {
+        follows = record { first = first; begins = begins.begins; numbers = refl; last = last; run = run.run; lines = run.told };
         begins = as-stored;
         kept = subst (MayBeFound may (stores_of ys)) (sym keeps) m;
+        faults = within-rises;
       }
 
     -- the fuses that are taken away leave it so that stores may be opened again

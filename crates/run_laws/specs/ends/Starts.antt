@@ -71,8 +71,8 @@ module _ {S C : Type 0} (durable : S → Option Durable) (state : S → State) w
   abbrev pub first_world : List ClientNow → List (TargetOf S C) → World
   first_world cs xs = record { targets = map state_now xs; clients = map state_of cs; messages = []; asked = []; issued = []; numbers = record { restarts = 0; aggregates = 2 ^ 32 }; lines = [] }
 
-  -- A target that has just opened, whose store runs; nothing is left to settle there. It was opened so seldom that 2^63 openings more have their
-  -- numbers.
+  -- A target that has just opened, whose store runs; nothing is left to settle there, and its ticks begin at the lease. It was opened so seldom that
+  -- 2^63 openings more have their numbers.
   pub record HasStarted (g : Given) (t : ℕ) (x : TargetOf S C) : Type 0 where
     pub plan : x.plan ≡ target_plan (rules_of g) t
     pub opened : x.opened ≡ true
@@ -80,6 +80,7 @@ module _ {S C : Type 0} (durable : S → Option Durable) (state : S → State) w
     pub leader : x.memory.leader ≡ no_leading
     pub waits : x.memory.member.parked ≡ []
     pub makes : x.memory.collecting ≡ []
+    pub ticks : (d : Durable) → durable x.store ≡ Some d → x.memory.ticks ≡ d.lease
     pub seldom : (d : Durable) → durable x.store ≡ Some d → d.incarnation ≤ 2 ^ 63 + 1
 
   -- The clients and the targets of a run of a script in form, for some targets, before their first turns; where stores tell what they keep, a run

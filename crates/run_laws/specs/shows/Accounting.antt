@@ -13,27 +13,27 @@ use Rattle.daos_model.specs.Stops.{down_targets, is_stop_at}
 use Rattle.daos_model.specs.declared.durable.Durable.{Durable}
 use Rattle.run_laws.specs.shows.Going.{AreFindable, found-some, some-found, was}
 use Rattle.run_laws.specs.shows.Parts.{IsTurnSo, filter-both}
-use Rattle.run_laws.specs.shows.Accounts.{AtMostRises, one_if, stop_lines_of, stops_told_in}
+use Rattle.run_laws.specs.shows.Accounts.{AtMostBothRise, AtMostRises, one_if, stop_lines_of, stops_told_in}
 use Rattle.run_laws.specs.shows.Shows.{IsGoing, Leads}
 use Rattle.run_laws.specs.shows.Stages.{StageNow}
 use Rattle.run_laws.specs.turns.StopLines.{one_or_none, turns-tell_stops}
 use Rattle.run_watch.specs.Watches.{next_fuse, write_of}
 use Rattle.target_core.specs.Targets.{TargetOf}
-use Rattle.vos_store.specs.Calls.{Fires, State}
+use Rattle.vos_store.specs.Calls.{Ailed, Fires, State}
 use Rattle.world_base.specs.Letters.{without_first}
 use Rattle.world_letters.specs.lives.Adding.{stops_of}
 
 -- ---- what the lines tell
 
-module _ {S C : Type 0} (durable : S → Option Durable) (state : S → State) (may : S → Durable → Type 0) (a b : StageNow S C) (settling : Bool) (actor : ActorId) (k raised : ℕ) (stops downs : Option ℕ) (g : IsGoing durable state may a)
-    (leads : Leads durable state may (IsTurnSo settling g.rules actor k raised stops downs) g.rules a b) (findable : AreFindable durable may) (all : (x : TargetOf S C) → is_some (durable x.store) ≡ true) where
+module _ {S C : Type 0} (durable : S → Option Durable) (state : S → State) (may : S → Durable → Type 0) (a b : StageNow S C) (settling : Bool) (actor : ActorId) (k raised : ℕ) (stops downs faults : Option ℕ) (g : IsGoing durable state may a)
+    (leads : Leads durable state may (IsTurnSo settling g.rules actor k raised stops downs faults) g.rules a b) (findable : AreFindable durable may) (all : (x : TargetOf S C) → is_some (durable x.store) ≡ true) where
   -- one stop more of the target that stopped, and none of another; one more that was given up, if one was
   pub stops-told : (t : ℕ) → stops_told_in b.between.lines t ≡ stops_told_in a.between.lines t + stops_of stops t
   stops-told t =
       let found = some-found durable state may findable b all in
       let z = leads found (found-some durable state may findable b all) in
       let y = g.reached z.before z.were in
-      let l = z.led y.now (was durable state may a b settling actor k raised stops downs g leads z.before z.were y) y.shows in
+      let l = z.led y.now (was durable state may a b settling actor k raised stops downs faults g leads z.before z.were y) y.shows in
       let told = turns-tell_stops settling g.rules actor k y.now l.next l.turn.turn in
       ap (λ ls. stops_told_in ls t) l.shows.lines ∙ told.stops t ∙ ap (λ o. stops_told_in y.now.lines t + stops_of o t) l.turn.stops_is ∙ ap (λ ls. stops_told_in ls t + stops_of stops t) (sym y.shows.lines)
 
@@ -42,7 +42,7 @@ module _ {S C : Type 0} (durable : S → Option Durable) (state : S → State) (
       let found = some-found durable state may findable b all in
       let z = leads found (found-some durable state may findable b all) in
       let y = g.reached z.before z.were in
-      let l = z.led y.now (was durable state may a b settling actor k raised stops downs g leads z.before z.were y) y.shows in
+      let l = z.led y.now (was durable state may a b settling actor k raised stops downs faults g leads z.before z.were y) y.shows in
       let told = turns-tell_stops settling g.rules actor k y.now l.next l.turn.turn in
       ap down_targets l.shows.lines ∙ told.downs ∙ ap (λ o. down_targets y.now.lines ++ one_or_none o) l.turn.downs_is ∙ ap (λ ls. down_targets ls ++ one_or_none downs) (sym y.shows.lines)
 
@@ -67,6 +67,37 @@ one-rise m n more before now later fewer rose k = by (nat_lt now later) refl
       where
         last : min (now + 1) (2 ^ 64 - 1) ≤ later → later ≤ now → AtMostRises n more before later
         last low flat = inl (omega (arith, low, flat))
+
+-- ---- both counts
+
+-- none happened
+pub none-rise : (n : ℕ) (before now : State) → n ≡ 0 → before.faults ≤ now.faults → before.burns ≤ now.burns → AtMostBothRise n before now
+none-rise n before now none faults burns = inr (inr (omega (arith, none, faults, burns)))
+
+-- one happened, and a count rose
+pub one-fault : (n : ℕ) (before now : State) → n ≡ 1 → before.faults ≤ now.faults → before.burns ≤ now.burns → Ailed before now → AtMostBothRise n before now
+one-fault n before now one faults burns (inl rose) = elim (one-rise 0 1 0 before.faults before.faults now.faults (omega arith) rose (inr (omega arith))) [
+  | inl last ↦ inl last
+  | inr more ↦ inr (inr (omega (arith, one, more, burns)))
+]
+one-fault n before now one faults burns (inr z) = elim (one-rise 0 1 0 before.burns before.burns now.burns (omega arith) z.0 (inr (omega arith))) [
+  | inl last ↦ inr (inl last)
+  | inr more ↦ inr (inr (omega (arith, one, more, faults)))
+]
+
+-- it is so of stores with the same counts
+pub same-rises : (n : ℕ) (before before' now now' : State) → before'.faults ≡ before.faults → before'.burns ≡ before.burns → now'.faults ≡ now.faults → now'.burns ≡ now.burns → AtMostBothRise n before now → AtMostBothRise n before' now'
+same-rises n before before' now now' f b g c (inl last) = inl (omega (arith, last, g))
+same-rises n before before' now now' f b g c (inr (inl last)) = inr (inl (omega (arith, last, c)))
+same-rises n before before' now now' f b g c (inr (inr k)) = inr (inr (omega (arith, k, f, b, g, c)))
+
+-- some happened, and then others
+pub rise-then : (m n both : ℕ) (before middle now : State) → both ≡ m + n → middle.faults ≤ now.faults → middle.burns ≤ now.burns → AtMostBothRise m before middle → AtMostBothRise n middle now → AtMostBothRise both before now
+rise-then m n both before middle now sum faults burns (inl last) l = inl (omega (arith, last, faults))
+rise-then m n both before middle now sum faults burns (inr (inl last)) l = inr (inl (omega (arith, last, burns)))
+rise-then m n both before middle now sum faults burns (inr (inr k)) (inl last) = inl last
+rise-then m n both before middle now sum faults burns (inr (inr k)) (inr (inl last)) = inr (inl last)
+rise-then m n both before middle now sum faults burns (inr (inr k)) (inr (inr l)) = inr (inr (omega (arith, sum, k, l)))
 
 -- ---- fuses
 

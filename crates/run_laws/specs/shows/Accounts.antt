@@ -42,6 +42,14 @@ abbrev pub one_if : Bool → ℕ
 one_if true = 1
 one_if false = 0
 
+-- so many are no more than the rises of both counts of a store together, unless one of them stands at the end of its range
+abbrev pub AtMostBothRise : ℕ → State → State → Type 0
+AtMostBothRise n before now = (2 ^ 64 - 1 ≤ now.faults) ⊎ ((2 ^ 64 - 1 ≤ now.burns) ⊎ (n + before.faults + before.burns ≤ now.faults + now.burns))
+
+-- of each target so many, as these numbers say, are no more than the rises of its store's counts from the first of these moments to the second
+abbrev pub AreWithinRises : {S C : Type 0} → (S → State) → (ℕ → ℕ) → List (TargetOf S C) → List (TargetOf S C) → Type 0
+AreWithinRises {S} {C} state n xs ys = (t : ℕ) (x y : TargetOf S C) → slice_get xs t ≡ Some x → slice_get ys t ≡ Some y → AtMostBothRise (n t) (state x.store) (state y.store)
+
 -- how many of some stop lines of a script are a target's
 abbrev pub stop_lines_of : ℕ → List StopDecl → ℕ
 stop_lines_of t stops = length (filter (is_stop_at t) stops)

@@ -7,9 +7,10 @@ use Rattle.daos_model.specs.declared.durable.Durable.{Durable}
 use Rattle.run_base.specs.Letters.{BetweenNow, IsPicked}
 use Rattle.run_base.specs.Sweeps.{lives_of, sweeps-are_of_lives}
 use Rattle.run_laws.specs.shows.ListLaws.{length-set, map-get, map-set}
-use Rattle.run_laws.specs.shows.Shows.{IsTargetOf, Leads, Shows}
+use Rattle.run_laws.specs.shows.Shows.{IsTargetOf, Shows}
 use Rattle.run_laws.specs.shows.Stages.{IsPlace, StageNow}
 use Rattle.run_laws.specs.shows.Turned.{followed, swept_between, swept_stage, with_between}
+use Rattle.run_laws.specs.turns.Faults.{fault_by}
 use Rattle.run_laws.specs.turns.Raising.{raised_in}
 use Rattle.run_laws.specs.turns.StopLines.{given_up_by, stops_by}
 use Rattle.run_laws.specs.turns.Turns.{TurnOf}
@@ -156,16 +157,10 @@ is-set (z ∷ xs) (suc n) x y at = is-set xs n x y at
 
 -- ---- what a turn counts
 
--- a turn raised incarnations so often, and in it these targets stopped and were given up, if any
-pub record IsTurnSo (settling : Bool) (r : Rules) (a : ActorId) (k : ℕ) (raised : ℕ) (stops downs : Option ℕ) (w v : World) : Type 0 where
+-- a turn raised incarnations so often; in it these targets stopped and were given up, and the turn of this one was cut or its opening failed, if any
+pub record IsTurnSo (settling : Bool) (r : Rules) (a : ActorId) (k : ℕ) (raised : ℕ) (stops downs faults : Option ℕ) (w v : World) : Type 0 where
   pub turn : TurnOf settling r a k w v
   pub raised_is : raised_in settling r a k turn ≡ raised
   pub stops_is : stops_by turn ≡ stops
   pub downs_is : given_up_by turn ≡ downs
-
--- what leads to a turn of some kind leads to a turn
-pub leads-turn : {S C : Type 0} (durable : S → Option Durable) (state : S → State) (may : S → Durable → Type 0) (settling : Bool) (r : Rules) (actor : ActorId) (k raised : ℕ) (stops downs : Option ℕ) (a b : StageNow S C)
-    → Leads durable state may (IsTurnSo settling r actor k raised stops downs) r a b → Leads durable state may (TurnOf settling r actor k) r a b
-leads-turn durable state may settling r actor k raised stops downs a b leads found are =
-    let z = leads found are in
-    record { before = z.before; were = z.were; led = λ w reached shows. let l = z.led w reached shows in record { next = l.next; turn = l.turn.turn; shows = l.shows } }
+  pub faults_is : fault_by turn ≡ faults

@@ -232,8 +232,8 @@ module _ {S C : Type 0} (durable : S → Option Durable) (state : S → State) (
       by = refl;
     }
 
-    turn : (settling : Bool) (number : ℕ) → IsTurnSo settling r (target t) number 1 None None w (swept world-opened)
-    turn settling number = record { turn = Opening (swept drawn) draws (refl, refl) (acts settling number) refl; raised_is = refl; stops_is = refl; downs_is = refl }
+    turn : (settling : Bool) (number : ℕ) → IsTurnSo settling r (target t) number 1 None None None w (swept world-opened)
+    turn settling number = record { turn = Opening (swept drawn) draws (refl, refl) (acts settling number) refl; raised_is = refl; stops_is = refl; downs_is = refl; faults_is = refl }
 
     -- ---- what is shown
 
@@ -277,7 +277,7 @@ module _ {S C : Type 0} (durable : S → Option Durable) (state : S → State) (
       restarts = ap (λ n. n + 1) number-is ∙ sym restarts;
     })
 
-  pub opening-leads : (settling : Bool) (number : ℕ) → Leads durable state may (IsTurnSo settling r (target t) number 1 None None) r a opened
+  pub opening-leads : (settling : Bool) (number : ℕ) → Leads durable state may (IsTurnSo settling r (target t) number 1 None None None) r a opened
   opening-leads settling number found are = record {
     before = choosing t opens.found found;
     were = were;

@@ -17,7 +17,7 @@ use Rattle.run_laws.specs.shows.Turned.{ByHearing, ByIdling, IsTurned, followed,
 use Rattle.run_laws.specs.steps.Going.{AllTell, GoesOn, IsRun}
 use Rattle.run_laws.specs.steps.Openings.{reopening-goes, some-told}
 use Rattle.run_laws.specs.steps.Steps.{worked-goes}
-use Rattle.run_laws.specs.turns.Turns.{TurnOf}
+use Rattle.run_laws.specs.steps.Ways.{GoesWithin, Way, turn_of}
 use Rattle.run_watch.specs.Watches.{fuse_set, next_fuse, opened_again, opening_tried}
 use Rattle.target_core.specs.Targets.{TargetOf}
 use Rattle.target_parts.specs.Stops.{stop_store}
@@ -26,7 +26,6 @@ use Rattle.target_parts.specs.declared.stop.TargetStop.TheVariants as stop
 use Rattle.vos_store.specs.Calls.{State}
 use Rattle.vos_store.specs.Refusals.{says}
 use Rattle.world_base.specs.declared.did.Did.{Did}
-use Rattle.world_base.specs.declared.world.World.{World}
 use Rattle.world_base.specs.Events.{Rules}
 use Rattle.world_base.specs.Letters.{target}
 
@@ -42,10 +41,10 @@ module _ {S C : Type 0} (durable : S → Option Durable) (state : S → State) (
   broke-between a xs same tell r = subst (BreaksOff durable state may r a) (sym same) (breaks-here durable state may steady r a)
 
   -- some turns, and then it broke off
-  pub goes-then_breaks : (way : Rules → World → World → Type 0) (a b : StageNow S C) (xs : List (TargetOf S C)) → IsRun way → GoesOn durable state may is_read way a b → Breaks durable state may b xs → Breaks durable state may a xs
-  goes-then_breaks way a b xs runs k broke tell r = breaks-then durable state may steady (way r) r a b xs (λ w v turn. runs r w v turn) (k.led tell r) (broke tell r)
+  pub goes-then_breaks : (way : Way) (a b : StageNow S C) (xs : List (TargetOf S C)) → IsRun way → GoesOn durable state may is_read way a b → Breaks durable state may b xs → Breaks durable state may a xs
+  goes-then_breaks way a b xs runs k broke tell r = breaks-then durable state may steady (GoesWithin state way r a.targets b.targets) r a b xs (λ w v turn. runs r w v turn.goes) (k.led tell r) (broke tell r)
 
-  pub goes-then_breaks-err : {T E : Type 0} (way : Rules → World → World → Type 0) (a b : StageNow S C) (xs : List (TargetOf S C)) (result : Result T E) → IsRun way → GoesOn durable state may is_read way a b → OnErr result (Breaks durable state may b xs)
+  pub goes-then_breaks-err : {T E : Type 0} (way : Way) (a b : StageNow S C) (xs : List (TargetOf S C)) (result : Result T E) → IsRun way → GoesOn durable state may is_read way a b → OnErr result (Breaks durable state may b xs)
       → OnErr result (Breaks durable state may a xs)
   goes-then_breaks-err way a b xs (Ok x) runs k broke = broke
   goes-then_breaks-err way a b xs (Err e) runs k broke = goes-then_breaks way a b xs runs k broke
@@ -55,21 +54,21 @@ module _ {S C : Type 0} (durable : S → Option Durable) (state : S → State) (
   broke-between-err a xs (Err e) same = broke-between a xs same
 
   -- what some turns led to, where a call after them failed
-  pub broke-after-err : {T E : Type 0} (way : Rules → World → World → Type 0) (a b : StageNow S C) (xs : List (TargetOf S C)) (result : Result T E) → IsRun way → GoesOn durable state may is_read way a b → Breaks durable state may b xs → OnErr result (Breaks durable state may a xs)
+  pub broke-after-err : {T E : Type 0} (way : Way) (a b : StageNow S C) (xs : List (TargetOf S C)) (result : Result T E) → IsRun way → GoesOn durable state may is_read way a b → Breaks durable state may b xs → OnErr result (Breaks durable state may a xs)
   broke-after-err way a b xs (Ok x) runs k broke = tt
   broke-after-err way a b xs (Err e) runs k broke = goes-then_breaks way a b xs runs k broke
 
   -- ---- in a target's turn
 
   module _ (findable : AreFindable durable may) (alike : AreAlike durable) (a : StageNow S C) (can : CanGo durable state may a) (settling : Bool) (t number : ℕ) (tell : AllTell durable) (r : Rules) where
-    turns-go : GoesOnRuns (TurnOf settling r (target t) number) r
-    turns-go w v turn = turn-runs-on settling r (target t) number w v turn
+    turns-go : (b : StageNow S C) → GoesOnRuns (GoesWithin state (turn_of settling (target t) number) r a.targets b.targets) r
+    turns-go b w v turn = turn-runs-on settling r (target t) number w v turn.goes
 
     faults-go : (raised : ℕ) (stops : Option ℕ) → GoesOnRuns (FaultBy r t settling number raised stops) r
     faults-go raised stops w v by = act-runs-on settling r (target t) number w v by.0
 
-    after-turn : (b : StageNow S C) → GoesOn durable state may is_read (λ q. TurnOf settling q (target t) number) a b → BreaksOff durable state may r a b.targets
-    after-turn b goes = breaks-after durable state may steady (TurnOf settling r (target t) number) r a b turns-go (goes.led tell r)
+    after-turn : (b : StageNow S C) → GoesOn durable state may is_read (turn_of settling (target t) number) a b → BreaksOff durable state may r a b.targets
+    after-turn b goes = breaks-after durable state may steady (GoesWithin state (turn_of settling (target t) number) r a.targets b.targets) r a b (turns-go b) (goes.led tell r)
 
     -- a store that tells what it keeps meets no foreign byte
     none-foreign : (x y : TargetOf S C) (left : _) (at byte : ℕ) → IsTurned durable state may settling t number x y a.between left (Err (stop.Foreign at byte)) → ⊥

@@ -3,7 +3,7 @@ use Rattle.run_laws.specs.turns.Drawn.{AreDrawn}
 use Rattle.run_laws.specs.shows.Beginning.{RunBegins}
 use Rattle.std.specs.Prelude.{ℕ, ◌≡◌, ◌+◌, ◌<◌, ◌^◌, true, List, [], length, slice_get, Option, Some, is_some}
 use Rattle.std.specs.Option.{ForSome}
-use Rattle.std.proofs.Common.{sym, ◌∙◌, ap, arith}
+use Rattle.std.proofs.Common.{sym, ◌∙◌, ap, subst, arith}
 use Rattle.base_types.specs.declared.report.Line.{Line}
 use Rattle.base_types.specs.declared.script.StopDecl.{StopDecl}
 use Rattle.daos_model.specs.FormLaws.{length-map}
@@ -12,7 +12,7 @@ use Rattle.daos_model.specs.Opening.{Opening}
 use Rattle.run_base.specs.Picks.{due}
 use Rattle.run_base.specs.Sweeps.{lives_of}
 use Rattle.model_laws.specs.Lists.{at-within}
-use Rattle.run_laws.specs.shows.Accounts.{AreAccounted}
+use Rattle.run_laws.specs.shows.Accounts.{AreAccounted, AreWithinRises, AtMostBothRise}
 use Rattle.run_laws.specs.shows.CanGo.{CanGo}
 use Rattle.run_laws.specs.shows.Going.{AreAlike, AreSteady}
 use Rattle.run_laws.specs.shows.ListLaws.{map-get}
@@ -20,7 +20,9 @@ use Rattle.run_laws.specs.shows.Parts.{at-both}
 use Rattle.run_laws.specs.shows.Shows.{IsTargetOf, Leads, Shows}
 use Rattle.run_laws.specs.shows.Stages.{AreFound, IsPlace, StageNow}
 use Rattle.run_laws.specs.steps.Going.{AllTell}
-use Rattle.run_laws.specs.turns.OrderLaws.{orders-end-quiet, orders-have-ended}
+use Rattle.run_laws.specs.steps.Ways.{GoesWithin, in_order}
+use Rattle.run_laws.specs.turns.Faults.{cuts_and_failures}
+use Rattle.run_laws.specs.turns.OrderLaws.{order-faults, orders-are-runs, orders-end-quiet, orders-have-ended}
 use Rattle.run_laws.specs.turns.Orders.{InOrder}
 use Rattle.run_watch.specs.Watches.{WatchNow}
 use Rattle.target_core.specs.Targets.{TargetOf}
@@ -54,8 +56,9 @@ left_of xs watch lines = record { clients = []; targets = xs; watch = watch; bet
 
 module _ {S C : Type 0} (durable : S → Option Durable) (state : S → State) where
   -- A run in this order, from a world, has ended in one in which no actor has anything to do; what it left are its targets, how they stand, and
-  -- its lines, where stores of targets that don't run would be found so.
-  pub record HasRun (r : Rules) (order : ℕ) (first : World) (found : ℕ → Durable) (left : StageNow S C) : Type 0 where
+  -- its lines, where stores of targets that don't run would be found so. It began with the first targets; and of each target no more turns were cut, and
+  -- no more openings failed, than counts of its store rose in it.
+  pub record HasRun (r : Rules) (order : ℕ) (first : World) (xs : List (TargetOf S C)) (found : ℕ → Durable) (left : StageNow S C) : Type 0 where
     pub last : World
     pub run : InOrder r order first last
     pub quiet : due true r last ≡ []
@@ -65,27 +68,29 @@ module _ {S C : Type 0} (durable : S → Option Durable) (state : S → State) w
     pub lives : lives_of last ≡ left.watch.lives
     pub targets : (t : ℕ) (x : TargetOf S C) (life : Life) (s : TargetState) → IsPlace left t x life → slice_get last.targets t ≡ Some s → IsTargetOf durable state (target_plan r t) life (found t) x s
     pub restarts : last.numbers.restarts ≡ left.watch.restarts
+    pub faults : AreWithinRises state (λ t. cuts_and_failures t (orders-are-runs r order first last run)) xs left.targets
 
   -- whatever these stores would be found with, a run has ended so
-  abbrev pub HasRunWith : (S → Durable → Type 0) → Rules → ℕ → World → StageNow S C → Type 0
-  HasRunWith may r order first left = (found : ℕ → Durable) → AreFound may left found → HasRun r order first found left
+  abbrev pub HasRunWith : (S → Durable → Type 0) → Rules → ℕ → World → List (TargetOf S C) → StageNow S C → Type 0
+  HasRunWith may r order first xs left = (found : ℕ → Durable) → AreFound may left found → HasRun r order first xs found left
 
   -- where the actors of a begun run came in order to where none has anything to do, it has run
-  pub has-run : AreAlike durable → (may : S → Durable → Type 0) (r : Rules) (order : ℕ) (w : World) (o : Opening) (a b : StageNow S C) → RunBegins r o w → AreDrawn w → ((found : ℕ → Durable) → Shows durable state r found a w) → (AllTell durable → Leads durable state may (InOrder r order) r a b)
-      → HasRunWith may r order w (left_of b.targets b.watch b.between.lines)
+  pub has-run : AreAlike durable → (may : S → Durable → Type 0) (r : Rules) (order : ℕ) (w : World) (o : Opening) (a b : StageNow S C) → RunBegins r o w → AreDrawn w → ((found : ℕ → Durable) → Shows durable state r found a w) → (AllTell durable → Leads durable state may (GoesWithin state (in_order order) r a.targets b.targets) r a b)
+      → HasRunWith may r order w a.targets (left_of b.targets b.watch b.between.lines)
   has-run alike may r order w o a b begins drawn shows leads found are =
       let m = leads (begun-tell durable state alike r o w found a begins (shows found)) found (λ t x life place rests. are t x life (record { there = place.there; stands = place.stands }) rests) in
       let x = m.led w (record { opening = o; first = w; begins = begins; run = Begins; drawn = drawn }) (shows m.before) in
       record {
         last = x.next;
-        run = x.turn;
-        quiet = orders-end-quiet r order w x.next x.turn;
-        ended = orders-have-ended r order w x.next (ap length begins.begins.clients ∙ length-map (client_begins r o w) r.script.clients) x.turn;
+        run = x.turn.goes;
+        quiet = orders-end-quiet r order w x.next x.turn.goes;
+        ended = orders-have-ended r order w x.next (ap length begins.begins.clients ∙ length-map (client_begins r o w) r.script.clients) x.turn.goes;
         told = x.shows.lines;
         many = x.shows.many;
         lives = x.shows.lives;
         targets = λ t z life s place at. x.shows.targets t z life s (record { there = place.there; stands = place.stands }) at;
         restarts = x.shows.restarts;
+        faults = λ t y z at there. subst (λ n. AtMostBothRise n (state y.store) (state z.store)) (sym (order-faults t r order w x.next x.turn.goes)) (x.turn.within t y z at there);
       }
 
 -- how often targets stopped is accounted for by what is left

@@ -1,19 +1,23 @@
 -- Turns of actors one after another.
 use Rattle.run_laws.specs.turns.Drawn.{RunsOn, runs-on-none, runs-on-then, turn-runs-on}
-use Rattle.std.specs.Prelude.{ℕ, ◌≡◌, true, List, length, Bool, Option, is_some, refl}
-use Rattle.std.proofs.Common.{◌∙◌}
+use Rattle.std.specs.Prelude.{ℕ, ◌≡◌, ◌+◌, true, List, length, slice_get, Bool, Option, Some, is_some, refl}
+use Rattle.std.proofs.Common.{sym, ◌∙◌, subst, arith}
 use Rattle.base_messages.specs.declared.actor.ActorId.{ActorId}
 use Rattle.base_types.specs.declared.script.StopDecl.{StopDecl}
 use Rattle.daos_model.specs.declared.durable.Durable.{Durable}
-use Rattle.run_laws.specs.shows.Accounts.{AreAccounted, AreServed}
+use Rattle.run_laws.specs.shows.Accounts.{AreAccounted, AreServed, AtMostBothRise}
+use Rattle.run_laws.specs.shows.Accounting.{none-rise, rise-then}
+use Rattle.run_laws.specs.shows.Broken.{GoesOnRuns}
 use Rattle.run_laws.specs.shows.Serving.{served-first, served-then}
 use Rattle.run_laws.specs.shows.CanGo.{CanGo}
 use Rattle.run_laws.specs.shows.Ends.{TellsOn}
 use Rattle.run_laws.specs.shows.EndsLaws.{tells-none, tells-then}
+use Rattle.run_laws.specs.shows.Parts.{at-both}
 use Rattle.run_laws.specs.shows.Shows.{Leads, Shows, WasReached}
 use Rattle.run_laws.specs.shows.Stages.{StageNow}
 use Rattle.run_laws.specs.turns.Keeping.{TurnsKeep, draws-keep, in_turn-keeps, rounds-keep}
-use Rattle.run_laws.specs.turns.Orders.{Draws, InDraws, InRounds, InTurn, Rounds}
+use Rattle.run_laws.specs.steps.Ways.{GoesWithin, Way, all_from_draw, all_rounds, from_draw, some_rounds, turned}
+use Rattle.target_core.specs.Targets.{TargetOf}
 use Rattle.vos_store.specs.Calls.{State}
 use Rattle.world_base.specs.declared.world.World.{World}
 use Rattle.world_base.specs.Events.{Rules}
@@ -25,40 +29,54 @@ AllTell {S} durable = (s : S) → is_some (durable s) ≡ true
 -- ---- runs of events
 
 -- from one world to another in some way, as a run of events
-abbrev pub IsRun : (Rules → World → World → Type 0) → Type 0
-IsRun way = (r : Rules) (w v : World) → way r w v → RunsOn r w v
+abbrev pub IsRun : Way → Type 0
+IsRun way = (r : Rules) (w v : World) → way.goes r w v → RunsOn r w v
 
 runs-keep : (r : Rules) (w : World) → TurnsKeep r (RunsOn r w)
 runs-keep r w settling a k u v t on = runs-on-then r w u v on (turn-runs-on settling r a k u v t)
 
-pub turns-are-run : (settling : Bool) (some : List ActorId) → IsRun (λ r w v. InTurn settling r w some v)
+pub turns-are-run : (settling : Bool) (some : List ActorId) → IsRun (turned settling some)
 turns-are-run settling some r w v k = in_turn-keeps r (RunsOn r w) (runs-keep r w) settling w some v k (runs-on-none r w)
 
-pub rounds-are-run : (settling : Bool) → IsRun (Rounds settling)
+pub rounds-are-run : (settling : Bool) → IsRun (some_rounds settling)
 rounds-are-run settling r w v k = rounds-keep r (RunsOn r w) (runs-keep r w) settling w v k (runs-on-none r w)
 
-pub draws-are-run : (settling : Bool) (x y : ℕ) → IsRun (λ r w v. Draws settling r x w y v)
+pub draws-are-run : (settling : Bool) (x y : ℕ) → IsRun (from_draw settling x y)
 draws-are-run settling x y r w v k = draws-keep r (RunsOn r w) (runs-keep r w) settling x w y v k (runs-on-none r w)
 
-pub all-rounds-are-run : (settling : Bool) → IsRun (InRounds settling)
+pub all-rounds-are-run : (settling : Bool) → IsRun (all_rounds settling)
 all-rounds-are-run settling r w v k = rounds-are-run settling r w v k.rounds
 
-pub all-draws-are-run : (settling : Bool) (x y : ℕ) → IsRun (λ r w v. InDraws settling r x w y v)
+pub all-draws-are-run : (settling : Bool) (x y : ℕ) → IsRun (all_from_draw settling x y)
 all-draws-are-run settling x y r w v k = draws-are-run settling x y r w v k.draws
+
+-- ---- one way made of others
+
+-- no turn is a way, without a fault
+abbrev pub IsNoWay : Way → Rules → World → Type 0
+IsNoWay way r w = (k : way.goes r w w) × ((t : ℕ) → way.faults r w w k t ≡ 0)
+
+-- so it is where one way is gone and then another, with the faults of both
+abbrev pub IsBothWays : (one other both : Way) (r : Rules) (w u v : World) → one.goes r w u → other.goes r u v → Type 0
+IsBothWays one other both r w u v p q = (k : both.goes r w v) × ((t : ℕ) → both.faults r w v k t ≡ one.faults r w u p t + other.faults r u v q t)
+
+-- or one way as another, with the same faults
+abbrev pub IsWayAs : (one other : Way) (r : Rules) (w v : World) → one.goes r w v → Type 0
+IsWayAs one other r w v p = (k : other.goes r w v) × ((t : ℕ) → other.faults r w v k t ≡ one.faults r w v p t)
 
 -- ---- what leads from stage to stage
 
-reached-then : (r : Rules) (way : Rules → World → World → Type 0) (w v : World) → IsRun way → way r w v → WasReached r w → WasReached r v
-reached-then r way w v runs one was = let on = runs r w v one in record { opening = was.opening; first = was.first; begins = was.begins; run = on.run was.first was.run; drawn = on.drawn was.drawn }
+reached-then : (r : Rules) (T : World → World → Type 0) (w v : World) → GoesOnRuns T r → T w v → WasReached r w → WasReached r v
+reached-then r T w v runs one was = let on = runs w v one in record { opening = was.opening; first = was.first; begins = was.begins; run = on.run was.first was.run; drawn = on.drawn was.drawn }
 
 module _ {S C : Type 0} (durable : S → Option Durable) (state : S → State) (may : S → Durable → Type 0) where
   -- no turn
-  pub leads-none : (r : Rules) (way : Rules → World → World → Type 0) (a : StageNow S C) → ((w : World) → way r w w) → Leads durable state may (way r) r a a
-  leads-none r way a none found are = record { before = found; were = are; led = λ w was k. record { next = w; turn = none w; shows = k } }
+  pub leads-none : (r : Rules) (T : World → World → Type 0) (a : StageNow S C) → ((w : World) → T w w) → Leads durable state may T r a a
+  leads-none r T a none found are = record { before = found; were = are; led = λ w was k. record { next = w; turn = none w; shows = k } }
 
-  -- one way and then another
-  pub leads-then : (r : Rules) (one other both : Rules → World → World → Type 0) (a b c : StageNow S C) → IsRun one → ((found : ℕ → Durable) (w u v : World) → Shows durable state r found b u → one r w u → other r u v → both r w v) → Leads durable state may (one r) r a b
-      → Leads durable state may (other r) r b c → Leads durable state may (both r) r a c
+  -- one thing and then another
+  pub leads-then : (r : Rules) (one other both : World → World → Type 0) (a b c : StageNow S C) → GoesOnRuns one r → ((found : ℕ → Durable) (w u v : World) → Shows durable state r found b u → one w u → other u v → both w v) → Leads durable state may one r a b
+      → Leads durable state may other r b c → Leads durable state may both r a c
   leads-then r one other both a b c runs join k l found are =
       let n = l found are in
       let m = k n.before n.were in
@@ -72,40 +90,64 @@ module _ {S C : Type 0} (durable : S → Option Durable) (state : S → State) (
       }
 
   -- said in another way
-  pub leads-as : (r : Rules) (one other : Rules → World → World → Type 0) (a b : StageNow S C) → ((found before : ℕ → Durable) (w v : World) → Shows durable state r before a w → Shows durable state r found b v → one r w v → other r w v) → Leads durable state may (one r) r a b
-      → Leads durable state may (other r) r a b
+  pub leads-as : (r : Rules) (one other : World → World → Type 0) (a b : StageNow S C) → ((found before : ℕ → Durable) (w v : World) → Shows durable state r before a w → Shows durable state r found b v → one w v → other w v) → Leads durable state may one r a b
+      → Leads durable state may other r a b
   leads-as r one other a b said k found are =
       let m = k found are in
       record { before = m.before; were = m.were; led = λ w was s. let x = m.led w was s in record { next = x.next; turn = said found m.before w x.next s x.shows x.turn; shows = x.shows } }
 
   module _ (is_read : C → C → Type 0) where
-    -- Turns led in this way from one stage to another, where stores tell what they keep: those of a begun run, as many clients, and the same
-    -- stores after some calls; how often targets stopped is still accounted for; and the lines still tell of clients' commands in turn, and of answers
-    -- that fit.
-    pub record GoesOn (way : Rules → World → World → Type 0) (a b : StageNow S C) : Type 0 where
-      pub led : AllTell durable → (r : Rules) → Leads durable state may (way r) r a b
+    -- Turns led in this way from one stage to another, where stores tell what they keep, with no more faults of a target than counts of its store rose:
+    -- those of a begun run, as many clients, and the same stores after some calls; how often targets stopped is still accounted for; and the lines
+    -- still tell of clients' commands in turn, and of answers that fit.
+    pub record GoesOn (way : Way) (a b : StageNow S C) : Type 0 where
+      pub led : AllTell durable → (r : Rules) → Leads durable state may (GoesWithin state way r a.targets b.targets) r a b
       pub going : CanGo durable state may b
       pub clients : length b.clients ≡ length a.clients
       pub served : AreServed durable state is_read a.targets b.targets
       pub accounts : (h : ℕ → State) (stops : List StopDecl) → AreAccounted durable state h stops a → AreAccounted durable state h stops b
       pub tells : (r : Rules) → TellsOn r a b
 
-    pub goes-none : (way : Rules → World → World → Type 0) (a : StageNow S C) → ((r : Rules) (w : World) → way r w w) → CanGo durable state may a → GoesOn way a a
-    goes-none way a none going = record { led = λ tell r. leads-none r way a (none r); going = going; clients = refl; served = served-first durable state is_read a.targets; accounts = λ h stops k. k; tells = λ r. tells-none r a }
+    pub goes-none : (way : Way) (a : StageNow S C) → ((r : Rules) (w : World) → IsNoWay way r w) → CanGo durable state may a → GoesOn way a a
+    goes-none way a none going = record {
+      led = λ tell r. leads-none r (GoesWithin state way r a.targets a.targets) a (λ w. record { goes = (none r w).0; within = λ t x y at there. still r w t x y at there });
+      going = going;
+      clients = refl;
+      served = served-first durable state is_read a.targets;
+      accounts = λ h stops k. k;
+      tells = λ r. tells-none r a;
+    }
+      where
+        still : (r : Rules) (w : World) (t : ℕ) (x y : TargetOf S C) → slice_get a.targets t ≡ Some x → slice_get a.targets t ≡ Some y → AtMostBothRise (way.faults r w w (none r w).0 t) (state x.store) (state y.store)
+        still r w t x y at there =
+            let same : x ≡ y = let e : Some x ≡ Some y = sym at ∙ there in cc in
+            subst (λ z. AtMostBothRise (way.faults r w w (none r w).0 t) (state x.store) (state z.store)) same (none-rise (way.faults r w w (none r w).0 t) (state x.store) (state x.store) ((none r w).1 t) (omega arith) (omega arith))
 
-    pub goes-then : (one other both : Rules → World → World → Type 0) (a b c : StageNow S C) → IsRun one → ((r : Rules) (found : ℕ → Durable) (w u v : World) → Shows durable state r found b u → one r w u → other r u v → both r w v) → GoesOn one a b → GoesOn other b c → GoesOn both a c
+    pub goes-then : (one other both : Way) (a b c : StageNow S C) → IsRun one → ((r : Rules) (found : ℕ → Durable) (w u v : World) → Shows durable state r found b u → (p : one.goes r w u) (q : other.goes r u v) → IsBothWays one other both r w u v p q) → GoesOn one a b → GoesOn other b c → GoesOn both a c
     goes-then one other both a b c runs join k l = record {
-      led = λ tell r. leads-then r one other both a b c runs (join r) (k.led tell r) (l.led tell r);
+      led = λ tell r. leads-then r (GoesWithin state one r a.targets b.targets) (GoesWithin state other r b.targets c.targets) (GoesWithin state both r a.targets c.targets) a b c (λ w u p. runs r w u p.goes)
+          (λ found w u v s p q. record { goes = (join r found w u v s p.goes q.goes).0; within = λ t x z at there. within r found w u v s p q t x z at there }) (k.led tell r) (l.led tell r);
       going = l.going;
       clients = l.clients ∙ k.clients;
       served = served-then durable state is_read a.targets b.targets c.targets k.served l.served;
       accounts = λ h stops all. l.accounts h stops (k.accounts h stops all);
       tells = λ r. tells-then r a b c (k.tells r) (l.tells r);
     }
+      where
+        within : (r : Rules) (found : ℕ → Durable) (w u v : World) (s : Shows durable state r found b u) (p : GoesWithin state one r a.targets b.targets w u) (q : GoesWithin state other r b.targets c.targets u v) (t : ℕ) (x z : TargetOf S C) → slice_get a.targets t ≡ Some x
+            → slice_get c.targets t ≡ Some z → AtMostBothRise (both.faults r w v (join r found w u v s p.goes q.goes).0 t) (state x.store) (state z.store)
+        within r found w u v s p q t x z at there =
+            let y = at-both a.targets b.targets t x k.served.many at in
+            let later = l.served.stores t y.0 z y.1 there in
+            rise-then (one.faults r w u p.goes t) (other.faults r u v q.goes t) (both.faults r w v (join r found w u v s p.goes q.goes).0 t) (state x.store) (state y.0.store) (state z.store) ((join r found w u v s p.goes q.goes).1 t) later.faults later.burns
+            (p.within t x y.0 at y.1) (q.within t y.0 z y.1 there)
 
-    pub goes-as : (one other : Rules → World → World → Type 0) (a b : StageNow S C) → ((r : Rules) (found before : ℕ → Durable) (w v : World) → Shows durable state r before a w → Shows durable state r found b v → one r w v → other r w v) → GoesOn one a b → GoesOn other a b
+    pub goes-as : (one other : Way) (a b : StageNow S C) → ((r : Rules) (found before : ℕ → Durable) (w v : World) → Shows durable state r before a w → Shows durable state r found b v → (p : one.goes r w v) → IsWayAs one other r w v p) → GoesOn one a b → GoesOn other a b
     goes-as one other a b said k = record {
-      led = λ tell r. leads-as r one other a b (said r) (k.led tell r);
+      led = λ tell r. leads-as r (GoesWithin state one r a.targets b.targets) (GoesWithin state other r a.targets b.targets) a b
+          (λ found before w v s z p.
+          let as' = said r found before w v s z p.goes in
+          record { goes = as'.0; within = λ t x y at there. subst (λ n. AtMostBothRise n (state x.store) (state y.store)) (sym (as'.1 t)) (p.within t x y at there) }) (k.led tell r);
       going = k.going;
       clients = k.clients;
       served = k.served;

@@ -7,18 +7,19 @@ use Rattle.base_types.specs.declared.script.StopDecl.{StopDecl}
 use Rattle.daos_model.specs.Stops.{down_targets}
 use Rattle.daos_model.specs.declared.durable.Durable.{Durable}
 use Rattle.model_laws.specs.Members.{Has, contains-from_has, has-cases, has-from_contains}
-use Rattle.run_laws.specs.shows.Accounting.{downs-told, no-more, one-rise, stops-told}
-use Rattle.run_laws.specs.shows.Accounts.{AreAccounted, AreServed, AtMostRises, IsAccounted, one_if, stop_lines_of, stops_told_in}
+use Rattle.run_laws.specs.shows.Accounting.{downs-told, no-more, none-rise, one-rise, stops-told}
+use Rattle.run_laws.specs.shows.Accounts.{AreAccounted, AreServed, AreWithinRises, AtMostBothRise, AtMostRises, IsAccounted, one_if, stop_lines_of, stops_told_in}
 use Rattle.run_laws.specs.shows.CanGo.{CanGo}
 use Rattle.run_laws.specs.shows.Fitting.{Fits, can-go}
 use Rattle.run_laws.specs.shows.Going.{AreAlike, AreFindable, going-on}
 use Rattle.run_laws.specs.shows.Ends.{TellsOn}
-use Rattle.run_laws.specs.shows.Parts.{IsTurnSo, at-both, leads-turn}
+use Rattle.run_laws.specs.shows.Parts.{IsTurnSo, at-both}
 use Rattle.run_laws.specs.shows.Shows.{IsGoing, Leads}
 use Rattle.run_laws.specs.shows.Stages.{StageNow}
-use Rattle.run_laws.specs.steps.Going.{AllTell, GoesOn}
+use Rattle.run_laws.specs.steps.Going.{AllTell, GoesOn, leads-as}
+use Rattle.run_laws.specs.steps.Ways.{GoesWithin, turn_of}
+use Rattle.run_laws.specs.turns.Faults.{once_for}
 use Rattle.run_laws.specs.turns.StopLines.{one_or_none}
-use Rattle.run_laws.specs.turns.Turns.{TurnOf}
 use Rattle.target_core.specs.Targets.{TargetOf}
 use Rattle.vos_store.specs.Calls.{State}
 use Rattle.world_base.specs.Events.{Rules}
@@ -34,24 +35,26 @@ more-or-one : (m n more before now later : ℕ) → AtMostOne n m now later → 
 more-or-one m n more before now later (inl fewer) up k = no-more m n more before now later fewer up k
 more-or-one m n more before now later (inr z) up k = one-rise m n more before now later z.0 z.1 k
 
--- What a turn in which some targets stopped and were given up leaves of what is counted of a target.
-pub record Counts {S C : Type 0} (state : S → State) (a b : StageNow S C) (stops downs : Option ℕ) (t : ℕ) (x y : TargetOf S C) : Type 0 where
+-- What a turn in which some targets stopped and were given up, and which was cut, or in which an opening failed, leaves of what is counted of a target.
+pub record Counts {S C : Type 0} (state : S → State) (a b : StageNow S C) (stops downs faults : Option ℕ) (t : ℕ) (x y : TargetOf S C) : Type 0 where
   pub up : (state x.store).faults ≤ (state y.store).faults
   pub tells : (state y.store).tells_fuse ≡ (state x.store).tells_fuse
   pub stopped : (state x.store).tells_fuse ≡ true
       → AtMostOne (stops_of stops t + stop_lines_of t b.watch.stops + one_if (state y.store).fused) (stop_lines_of t a.watch.stops + one_if (state x.store).fused) (state x.store).faults (state y.store).faults
   pub failed : (n : ℕ) → slice_get b.watch.faults t ≡ Some n → (m : ℕ) × (slice_get a.watch.faults t ≡ Some m) × AtMostOne n m (state x.store).faults (state y.store).faults
   pub down : downs ≡ Some t → (slice_get a.watch.faults t ≡ Some 8) × Rose (state x.store).faults (state y.store).faults
+  pub fault : AtMostBothRise (once_for faults t) (state x.store) (state y.store)
 
 -- of a target that no turn touched nothing is counted
-pub counts-none : {S C : Type 0} (state : S → State) (a b : StageNow S C) (stops downs : Option ℕ) (t : ℕ) (x : TargetOf S C) → stops_of stops t ≡ 0 → (downs ≡ Some t → ⊥) → stop_lines_of t b.watch.stops ≤ stop_lines_of t a.watch.stops
-    → ((n : ℕ) → slice_get b.watch.faults t ≡ Some n → slice_get a.watch.faults t ≡ Some n) → Counts state a b stops downs t x x
-counts-none state a b stops downs t x none up fewer same = record {
+pub counts-none : {S C : Type 0} (state : S → State) (a b : StageNow S C) (stops downs faults : Option ℕ) (t : ℕ) (x : TargetOf S C) → stops_of stops t ≡ 0 → (downs ≡ Some t → ⊥) → once_for faults t ≡ 0 → stop_lines_of t b.watch.stops ≤ stop_lines_of t a.watch.stops
+    → ((n : ℕ) → slice_get b.watch.faults t ≡ Some n → slice_get a.watch.faults t ≡ Some n) → Counts state a b stops downs faults t x x
+counts-none state a b stops downs faults t x none up no_fault fewer same = record {
   up = omega arith;
   tells = refl;
   stopped = λ tells. inl (omega (arith, none, fewer));
   failed = λ n at. (n, same n at, inl (omega arith));
   down = λ is. absurd (up is);
+  fault = none-rise (once_for faults t) (state x.store) (state x.store) no_fault (omega arith) (omega arith);
 }
 
 its-down : (t : ℕ) (downs : Option ℕ) → Has t (one_or_none downs) → downs ≡ Some t
@@ -62,7 +65,7 @@ its-down t (Some u) (inr none) = absurd none
 -- ---- a turn
 
 module _ {S C : Type 0} (durable : S → Option Durable) (state : S → State) (may : S → Durable → Type 0) (is_read : C → C → Type 0) where
-  module _ (a b : StageNow S C) (settling : Bool) (actor : ActorId) (number raised : ℕ) (stops downs : Option ℕ) (can : CanGo durable state may a) (leads : AllTell durable → (r : Rules) → Leads durable state may (IsTurnSo settling r actor number raised stops downs) r a b) (findable : AreFindable durable may)
+  module _ (a b : StageNow S C) (settling : Bool) (actor : ActorId) (number raised : ℕ) (stops downs faults : Option ℕ) (can : CanGo durable state may a) (leads : AllTell durable → (r : Rules) → Leads durable state may (IsTurnSo settling r actor number raised stops downs faults) r a b) (findable : AreFindable durable may)
       (alike : AreAlike durable) (served : AreServed durable state is_read a.targets b.targets) where
     going-by : (t : ℕ) (x : TargetOf S C) → slice_get a.targets t ≡ Some x → (o : Option Durable) → durable x.store ≡ o → is_some o ≡ true → IsGoing durable state may a
     going-by t x at None is some = let no : ⊥ = cc in absurd no
@@ -72,7 +75,7 @@ module _ {S C : Type 0} (durable : S → Option Durable) (state : S → State) (
     was-going : (t : ℕ) (y : TargetOf S C) → slice_get b.targets t ≡ Some y → is_some (durable y.store) ≡ true → IsGoing durable state may a
     was-going t y at is = let x = at-both b.targets a.targets t y (sym served.many) at in going-by t x.0 x.1 (durable x.0.store) refl (alike y.store x.0.store is)
 
-    accounted : ((t : ℕ) (x y : TargetOf S C) → slice_get a.targets t ≡ Some x → slice_get b.targets t ≡ Some y → is_some (durable x.store) ≡ true → Counts state a b stops downs t x y)
+    accounted : ((t : ℕ) (x y : TargetOf S C) → slice_get a.targets t ≡ Some x → slice_get b.targets t ≡ Some y → is_some (durable x.store) ≡ true → Counts state a b stops downs faults t x y)
         → (h : ℕ → State) (lines : List StopDecl) → AreAccounted durable state h lines a → AreAccounted durable state h lines b
     accounted counts h lines all t y at is = record {
       stopped = λ tells. more-or-one (stops_told_in a.between.lines t + stop_lines_of t a.watch.stops + one_if (state x.0.store).fused) _ (stop_lines_of t lines) (h t).faults (state x.0.store).faults (state y.store).faults
@@ -91,7 +94,7 @@ module _ {S C : Type 0} (durable : S → Option Durable) (state : S → State) (
         x-tells : is_some (durable x.0.store) ≡ true
         x-tells = alike y.store x.0.store is
 
-        c : Counts state a b stops downs t x.0 y
+        c : Counts state a b stops downs faults t x.0 y
         c = counts t x.0 y x.1 at x-tells
 
         before : IsAccounted state (h t) lines a t x.0
@@ -104,27 +107,33 @@ module _ {S C : Type 0} (durable : S → Option Durable) (state : S → State) (
         tell s = alike y.store s is
 
         told : stops_told_in b.between.lines t ≡ stops_told_in a.between.lines t + stops_of stops t
-        told = stops-told durable state may a b settling actor number raised stops downs g (leads tell g.rules) findable (λ z. tell z.store) t
+        told = stops-told durable state may a b settling actor number raised stops downs faults g (leads tell g.rules) findable (λ z. tell z.store) t
 
         downs-are : down_targets b.between.lines ≡ down_targets a.between.lines ++ one_or_none downs
-        downs-are = downs-told durable state may a b settling actor number raised stops downs g (leads tell g.rules) findable (λ z. tell z.store)
+        downs-are = downs-told durable state may a b settling actor number raised stops downs faults g (leads tell g.rules) findable (λ z. tell z.store)
 
         more : AtMostOne (stops_of stops t + stop_lines_of t b.watch.stops + one_if (state y.store).fused) (stop_lines_of t a.watch.stops + one_if (state x.0.store).fused) (state x.0.store).faults (state y.store).faults
             → AtMostOne (stops_told_in b.between.lines t + stop_lines_of t b.watch.stops + one_if (state y.store).fused) (stops_told_in a.between.lines t + stop_lines_of t a.watch.stops + one_if (state x.0.store).fused) (state x.0.store).faults (state y.store).faults
         more (inl fewer) = inl (omega (arith, fewer, told))
         more (inr z) = let few = z.0 in inr (omega (arith, few, told), z.1)
 
+    -- with no more faults of each target than counts of its store rose
+    leads-within : (r : Rules) → AllTell durable → AreWithinRises state (once_for faults) a.targets b.targets → Leads durable state may (GoesWithin state (turn_of settling actor number) r a.targets b.targets) r a b
+    leads-within r tell few =
+        leads-as durable state may r (IsTurnSo settling r actor number raised stops downs faults) (GoesWithin state (turn_of settling actor number) r a.targets b.targets) a b
+        (λ found before w v s z one. record { goes = one.turn; within = λ t x y at there. subst (λ o. AtMostBothRise (once_for o t) (state x.store) (state y.store)) (sym one.faults_is) (few t x y at there) }) (leads tell r)
+
     -- what a turn of an actor leads to, and that the actors can go on, are accounted for, and have told in turn then
     pub turn-done : Fits state can.rules b → a.watch.openings + raised ≤ b.watch.openings → length b.clients ≡ length a.clients → ((r : Rules) → TellsOn r a b)
-        → ((t : ℕ) (x y : TargetOf S C) → slice_get a.targets t ≡ Some x → slice_get b.targets t ≡ Some y → is_some (durable x.store) ≡ true → Counts state a b stops downs t x y)
-        → GoesOn durable state may is_read (λ r. TurnOf settling r actor number) a b
+        → ((t : ℕ) (x y : TargetOf S C) → slice_get a.targets t ≡ Some x → slice_get b.targets t ≡ Some y → is_some (durable x.store) ≡ true → Counts state a b stops downs faults t x y)
+        → GoesOn durable state may is_read (turn_of settling actor number) a b
     turn-done fits up clients tells counts = record {
-      led = λ tell r. leads-turn durable state may settling r actor number raised stops downs a b (leads tell r);
+      led = λ tell r. leads-within r tell (λ t x y at there. (counts t x y at there (tell x.store)).fault);
       going = can-go durable state may can.rules b can.form fits
           (λ t y d at is.
           let some : is_some (durable y.store) ≡ true = ap is_some is in
           let g = was-going t y at some in
-          going-on durable state may a b settling actor number raised stops downs g (leads (λ s. alike y.store s some) g.rules) findable (λ z. alike y.store z.store some) up);
+          going-on durable state may a b settling actor number raised stops downs faults g (leads (λ s. alike y.store s some) g.rules) findable (λ z. alike y.store z.store some) up);
       clients = clients;
       served = served;
       accounts = accounted counts;

@@ -13,7 +13,7 @@ use Rattle.model_laws.specs.Members.{Has, has-cases, has-left, has-right}
 use Rattle.model_laws.specs.TargetLaws.{same_number}
 use Rattle.run_base.specs.Letters.{BetweenNow, IsPicked}
 use Rattle.run_base.specs.Picks.{count_to, heard_awake}
-use Rattle.run_laws.specs.shows.Accounting.{fuse-less}
+use Rattle.run_laws.specs.shows.Accounting.{fuse-less, none-rise, one-fault}
 use Rattle.run_laws.specs.shows.Accounts.{AreServed, IsServed, one_if, stop_lines_of}
 use Rattle.run_laws.specs.shows.CanGo.{CanGo}
 use Rattle.run_laws.specs.shows.Clients.{client-goes, client-hears}
@@ -32,7 +32,8 @@ use Rattle.run_laws.specs.shows.Stopping.{cut-leads}
 use Rattle.run_laws.specs.shows.Turned.{AfterStop, ByHearing, ByIdling, Failed, IsTurned, LastTime, NotFailed, cut_between, followed, stopped_stage, swept_stage, with_between, with_client_at, with_target_at}
 use Rattle.run_laws.specs.steps.Going.{GoesOn}
 use Rattle.run_laws.specs.steps.Turning.{AtMostOne, Counts, counts-none, turn-done}
-use Rattle.run_laws.specs.turns.Turns.{TurnOf}
+use Rattle.run_laws.specs.steps.Ways.{turn_of}
+use Rattle.run_laws.specs.turns.Faults.{once_for}
 use Rattle.run_watch.specs.Watches.{WatchNow, after_fault, with_life}
 use Rattle.target_core.specs.Targets.{TargetOf}
 use Rattle.target_parts.specs.Parts.{Runs}
@@ -80,16 +81,16 @@ module _ {S C : Type 0} (durable : S → Option Durable) (state : S → State) (
           between = followed-form (target_plan can.rules) (client n) did left (record { messages = letters; asked = λ l i. f.between.asked l (subst (Has l) asked i) }) (λ q i. clients-send-letters (target_plan can.rules) n q (posts q i));
         })
 
-    client-done : (settling : Bool) (number : ℕ) → ((r : Rules) → Leads durable state may (IsTurnSo settling r (client n) number 0 None None) r a client-left) → InForm (target_plan can.rules) left.messages → ClientPosts (target_plan can.rules) did.posts → ReadsKnown d.plan d.state → ((r : Rules) → TellsOn r a client-left)
-        → GoesOn durable state may is_read (λ r. TurnOf settling r (client n) number) a client-left
+    client-done : (settling : Bool) (number : ℕ) → ((r : Rules) → Leads durable state may (IsTurnSo settling r (client n) number 0 None None None) r a client-left) → InForm (target_plan can.rules) left.messages → ClientPosts (target_plan can.rules) did.posts → ReadsKnown d.plan d.state → ((r : Rules) → TellsOn r a client-left)
+        → GoesOn durable state may is_read (turn_of settling (client n) number) a client-left
     client-done settling number leads letters posts known tells =
-        turn-done durable state may is_read a client-left settling (client n) number 0 None None can (λ tell. leads) findable alike (served-first durable state is_read a.targets) (client-fits letters posts known) (omega arith) (length-set a.clients n d) tells
+        turn-done durable state may is_read a client-left settling (client n) number 0 None None None can (λ tell. leads) findable alike (served-first durable state is_read a.targets) (client-fits letters posts known) (omega arith) (length-set a.clients n d) tells
         (λ t x y here there told.
         let same : x ≡ y = let e : Some x ≡ Some y = sym here ∙ there in cc in
-        subst (Counts state a client-left None None t x) same (counts-none state a client-left None None t x refl (λ e. let no : ⊥ = cc in no) (omega arith) (λ m h. h)))
+        subst (Counts state a client-left None None None t x) same (counts-none state a client-left None None None t x refl (λ e. let no : ⊥ = cc in no) refl (omega arith) (λ m h. h)))
 
     -- it heard a message
-    pub client-heard-done : (settling : Bool) (number : ℕ) (l : Letter) (rest : List Letter) → c.state.skip ≡ 0 → IsPicked a.between.messages (client n) number l rest → left.messages ≡ rest → HearTurn c.plan c.state l.message did d.state → ((r : Rules) → TellsOn r a client-left) → GoesOn durable state may is_read (λ r. TurnOf settling r (client n) number) a client-left
+    pub client-heard-done : (settling : Bool) (number : ℕ) (l : Letter) (rest : List Letter) → c.state.skip ≡ 0 → IsPicked a.between.messages (client n) number l rest → left.messages ≡ rest → HearTurn c.plan c.state l.message did d.state → ((r : Rules) → TellsOn r a client-left) → GoesOn durable state may is_read (turn_of settling (client n) number) a client-left
     client-heard-done settling number l rest awake picked messages turn tells =
         client-done settling number (λ r. client-hears durable state may r n c d a did left at plan asked issued lines settling number l rest awake picked messages turn)
         (λ m i. (fits-of durable state may a can).between.messages m (rest-among a.between.messages rest (client n) number l picked m (subst (Has m) messages i)))
@@ -97,7 +98,7 @@ module _ {S C : Type 0} (durable : S → Option Durable) (state : S → State) (
         (subst (λ p. ReadsKnown p d.state) (sym plan) (hearers-keep-reads_known c.plan c.state d.state l.message did turn (can.known n c at))) tells
 
     -- it went on without one
-    pub client-went-done : (settling : Bool) (number : ℕ) → heard_awake c.state (count_to (client n) a.between.messages) ≡ 0 → left.messages ≡ a.between.messages → NextTurn c.plan c.state did d.state → ((r : Rules) → TellsOn r a client-left) → GoesOn durable state may is_read (λ r. TurnOf settling r (client n) number) a client-left
+    pub client-went-done : (settling : Bool) (number : ℕ) → heard_awake c.state (count_to (client n) a.between.messages) ≡ 0 → left.messages ≡ a.between.messages → NextTurn c.plan c.state did d.state → ((r : Rules) → TellsOn r a client-left) → GoesOn durable state may is_read (turn_of settling (client n) number) a client-left
     client-went-done settling number none messages turn tells =
         client-done settling number (λ r. client-goes durable state may r n c d a did left at plan asked issued lines settling number none messages turn) (λ m i. (fits-of durable state may a can).between.messages m (subst (Has m) messages i))
         (clients-post-in-form can.rules n c.state d.state did can.form.form (subst (λ p. ReadsKnown p c.state) (can.plans n c at) (can.known n c at)) (subst (λ p. NextTurn p c.state did d.state) (can.plans n c at) turn))
@@ -197,20 +198,21 @@ module _ {S C : Type 0} (durable : S → Option Durable) (state : S → State) (
         (followed-form (target_plan can.rules) (target t) did left letters
         (λ q i. targets-send-letters (target_plan can.rules) can.rules.script.targets t q small (λ u. refl) (subst (λ n. TargetPosts n did.posts) (ap (λ p. p.targets) (can.made t x place.there)) sent.form q i))))
 
-    pub whole-done : (settling : Bool) (number : ℕ) → IsTurned durable state may settling t number x y a.between left (Ok did) → ((r : Rules) → TellsOn r a target-left) → GoesOn durable state may is_read (λ r. TurnOf settling r (target t) number) a target-left
+    pub whole-done : (settling : Bool) (number : ℕ) → IsTurned durable state may settling t number x y a.between left (Ok did) → ((r : Rules) → TellsOn r a target-left) → GoesOn durable state may is_read (turn_of settling (target t) number) a target-left
     whole-done settling number turned tells =
-        turn-done durable state may is_read a target-left settling (target t) number 0 None None can
+        turn-done durable state may is_read a target-left settling (target t) number 0 None None None can
         (λ tell r. turn-leads durable state r t x y a did place plan opened runs.opening runs.stops may settling number left turned) findable alike (served-one durable state is_read a.targets t x y place.there served read) (target-fits (left-form left (turned-left settling number left (Ok did) turned))) (omega arith) refl tells
-        (λ u p q here there told. each-pair durable state is_read a.targets t x y place.there (λ v z w. Counts state a target-left None None v z w) its
-        (λ v z apart. counts-none state a target-left None None v z refl (λ e. let no : ⊥ = cc in no) (omega arith) (λ m h. h)) u p q here there)
+        (λ u p q here there told. each-pair durable state is_read a.targets t x y place.there (λ v z w. Counts state a target-left None None None v z w) its
+        (λ v z apart. counts-none state a target-left None None None v z refl (λ e. let no : ⊥ = cc in no) refl (omega arith) (λ m h. h)) u p q here there)
       where
-        its : Counts state a target-left None None t x y
+        its : Counts state a target-left None None None t x y
         its = record {
           up = served.faults;
           tells = served.tells_fuse;
           stopped = λ tells. let less = fuse-less (state x.store) (state y.store) runs.fuse tells in inl (omega (arith, less));
           failed = λ n at. (n, at, inl (omega arith));
           down = λ e. let no : ⊥ = cc in absurd no;
+          fault = none-rise 0 (state x.store) (state y.store) refl served.faults served.burns;
         }
 
   -- ---- a cut turn
@@ -240,15 +242,15 @@ module _ {S C : Type 0} (durable : S → Option Durable) (state : S → State) (
         inl (omega (arith, one, none, set'))
 
     pub cut-done : (settling : Bool) (number : ℕ) → IsTurned durable state may settling t number x y a.between left (Err (stop.Store issued lines)) → AfterStop t (state x.store).faults (state y.store).faults cut-left c → ((r : Rules) → TellsOn r a c)
-        → GoesOn durable state may is_read (λ r. TurnOf settling r (target t) number) a c
+        → GoesOn durable state may is_read (turn_of settling (target t) number) a c
     cut-done settling number turned after tells =
-        turn-done durable state may is_read a c settling (target t) number 0 (Some t) downs can
+        turn-done durable state may is_read a c settling (target t) number 0 (Some t) downs (Some t) can
         (λ tell r. fault-leads durable state r t may settling number 0 (state x.store).faults (state y.store).faults (Some t) a cut-left c y cut-place
         (cut-leads durable state r t x y a place plan issued lines may settling number left turned) after)
         findable alike (subst (AreServed durable state is_read a.targets) (sym (after-targets t _ _ cut-left c after)) (served-one durable state is_read a.targets t x y place.there served read))
         (fit-after_stop state can.rules t (state x.store).faults (state y.store).faults cut-left c can.form small (cut-fits (left-form left (turned-left settling number left (Err (stop.Store issued lines)) turned))) after)
         (let same = after-openings t _ _ cut-left c after in omega (arith, same)) (ap length (after-clients t _ _ cut-left c after)) tells
-        (λ u p q here there told. each-pair durable state is_read a.targets t x y place.there (λ v z w. Counts state a c (Some t) downs v z w) its others u p q here (subst (λ xs. slice_get xs u ≡ Some q) (after-targets t _ _ cut-left c after) there))
+        (λ u p q here there told. each-pair durable state is_read a.targets t x y place.there (λ v z w. Counts state a c (Some t) downs (Some t) v z w) its others u p q here (subst (λ xs. slice_get xs u ≡ Some q) (after-targets t _ _ cut-left c after) there))
       where
         downs : Option ℕ
         downs = downs_after t (state x.store).faults (state y.store).faults cut-left c after
@@ -256,12 +258,13 @@ module _ {S C : Type 0} (durable : S → Option Durable) (state : S → State) (
         stops-same : (u : ℕ) → stop_lines_of u c.watch.stops ≡ stop_lines_of u a.watch.stops
         stops-same u = ap (stop_lines_of u) (after-stops t _ _ cut-left c after)
 
-        others : (u : ℕ) (z : TargetOf S C) → (u ≡ t → ⊥) → Counts state a c (Some t) downs u z z
+        others : (u : ℕ) (z : TargetOf S C) → (u ≡ t → ⊥) → Counts state a c (Some t) downs (Some t) u z z
         others u z apart =
-            counts-none state a c (Some t) downs u z (let off : (t == u) ≡ false = grind (arith, nat_tests) in ap (λ b. if b then 1 else 0) off)
-            (λ e. apart (after-down t _ _ cut-left c after u e)) (let same = stops-same u in omega (arith, same)) (λ m h. after-others t _ _ cut-left c after u apart m h)
+            let off : (t == u) ≡ false = grind (arith, nat_tests) in
+            counts-none state a c (Some t) downs (Some t) u z (ap (λ b. if b then 1 else 0) off)
+            (λ e. apart (after-down t _ _ cut-left c after u e)) (ap (λ b. if b then 1 else 0) off) (let same = stops-same u in omega (arith, same)) (λ m h. after-others t _ _ cut-left c after u apart m h)
 
-        its : Counts state a c (Some t) downs t x y
+        its : Counts state a c (Some t) downs (Some t) t x y
         its = record {
           up = served.faults;
           tells = served.tells_fuse;
@@ -270,4 +273,5 @@ module _ {S C : Type 0} (durable : S → Option Durable) (state : S → State) (
               (cut-stopped tells ailed (stops_of (Some t) t) (ap (λ b. if b then 1 else 0) (same_number t)) (stop_lines_of t a.watch.stops));
           failed = λ n at. after-failed t _ _ cut-left c after n at;
           down = λ e. after-down-so t _ _ cut-left c after e;
+          fault = one-fault (once_for (Some t) t) (state x.store) (state y.store) (ap (λ b. if b then 1 else 0) (same_number t)) served.faults served.burns ailed;
         }

@@ -1,5 +1,5 @@
 -- A run in an order is a run of events, and where it ends no actor has anything to do.
-use Rattle.std.specs.Prelude.{ℕ, ◌≡◌, ◌⊎◌, ◌<◌, Bool, true, false, List, [], length, nat_lt, slice_get, Some, if◌then◌else◌}
+use Rattle.std.specs.Prelude.{ℕ, ◌≡◌, ◌⊎◌, ◌<◌, ◌+◌, Bool, true, false, List, [], length, nat_lt, slice_get, Some, if◌then◌else◌}
 use Rattle.std.proofs.Common.{inl, inr, sym, ◌∙◌, ap, subst, arith}
 use Rattle.std.proofs.lemmas.Bool.Decides.{nat_tests}
 use Rattle.base_messages.specs.declared.actor.ActorId.{ActorId}
@@ -7,7 +7,8 @@ use Rattle.run_base.specs.Letters.{IsPicked}
 use Rattle.run_base.specs.Picked.{picked-is-counted}
 use Rattle.run_base.specs.Picks.{count_to, due, heard, heard_by_client}
 use Rattle.run_base.specs.Quiet.{quiet-has-ended}
-use Rattle.run_laws.specs.turns.Keeping.{order-keeps}
+use Rattle.run_laws.specs.turns.Faults.{cuts_and_failures, draw-faults_none, fault_by, fault_in, faults_in_order, giving-faults_none, once_for, opening-faults_none}
+use Rattle.run_laws.specs.turns.Keeping.{order-adds, order-keeps}
 use Rattle.run_laws.specs.turns.Orders.{ByDraws, ByRounds, InOrder}
 use Rattle.run_laws.specs.turns.Staying.{orders-stay}
 use Rattle.run_laws.specs.turns.Turns.{Doing, GivingUp, IsAtWork, IsDoneBy, IsDraw, Opening, OpensBy, TurnOf}
@@ -56,6 +57,25 @@ turn-goes settling r a k w u v (GivingUp x d fault g up) run = Goes x v (Goes u 
 
 pub orders-are-runs : OrdersAreRuns
 orders-are-runs r order w v k = order-keeps r (WorldRun r w) (λ settling a n u x t run. turn-goes settling r a n w u x t run) order w v k Begins
+
+-- a turn adds its fault of a target to what a run counts
+turn-adds : (t : ℕ) (settling : Bool) (r : Rules) (a : ActorId) (k : ℕ) (w u v : World) (turn : TurnOf settling r a k u v) (run : WorldRun r w u) → cuts_and_failures t (turn-goes settling r a k w u v turn run) ≡ cuts_and_failures t run + once_for (fault_by turn) t
+unfolding turn-goes
+turn-adds t settling r a k w u v (Doing d plain) run = omega arith
+turn-adds t settling r a k w u v (Opening x n draws d by) run =
+    let first : once_for (fault_in n.happens) t ≡ 0 = ap (λ o. once_for o t) (draw-faults_none r u n.u n.happens draws) in
+    let next : once_for (fault_in d.event.happens) t ≡ 0 = ap (λ o. once_for o t) (opening-faults_none r u.numbers.restarts x d.event.u d.event.happens by) in
+    omega (arith, first, next)
+turn-adds t settling r a k w u v (GivingUp x d fault g up) run =
+    let none : once_for (fault_in g.happens) t ≡ 0 = ap (λ o. once_for o t) (giving-faults_none r a x g.u g.happens up) in
+    omega (arith, none)
+
+-- the Cuts and failed openings of a run in an order are those of its turns
+pub order-faults : (t : ℕ) (r : Rules) (order : ℕ) (w v : World) (k : InOrder r order w v) → cuts_and_failures t (orders-are-runs r order w v k) ≡ faults_in_order t k
+unfolding orders-are-runs
+order-faults t r order w v k =
+    let all = order-adds r (WorldRun r w) (λ settling a n u x turn run. turn-goes settling r a n w u x turn run) t (λ u run. cuts_and_failures t run) (λ settling a n u x turn run. turn-adds t settling r a n w u x turn run) order w v k Begins in
+    omega (arith, all)
 
 pub orders-end-quiet : OrdersEndQuiet
 orders-end-quiet r order w v (ByRounds is u k l) = l.over

@@ -1,8 +1,8 @@
 use Rattle.std.proofs.Common.{refl}
-use Rattle.run_stage.specs.Below.{IsActor, IsUp, NoDraw, broke-after-err, broke-between, draws-are-run, goes-none, served-then}
+use Rattle.run_stage.specs.Below.{IsActor, IsUp, NoDraw, broke-after-err, broke-between, draws-are-run, from_draw, goes-none, served-then}
 use Rattle.std.specs.Prelude.{length}
 use Rattle.model_laws.specs.Lists.{at-index}
-use Rattle.run_loop.specs.Loops.{draw-more, draws-over, from_draw, holds-of-one, none-in, one-of, some-pick}
+use Rattle.run_loop.specs.Loops.{draw-more, draws-over, holds-of-one, none-in, one-of, some-pick}
 use Rattle.run_stage.specs.Now.{stage_now}
 use Rattle.run_loop.proofs.order.go_drawn.Goals as goal
 
@@ -25,7 +25,7 @@ turn-requires-clause-up g c =
     holds-of-one P c.in_ok-due.due.items c.pick.result c.index-actor.result.now c.index-actor.result.now c.index-actor.ensures within c.in_ok-due.ensures.up
 
 pub loop-init : goal.loop-init
-loop-init g c = goes-none g.S.Store.durable g.S.Store.state g.S.Store.may g.C.Clock.is_read (from_draw c.args.settling c.args.x.now c.args.x.now) (stage_now c.args.stage.now) (λ r w. NoDraw) c.requires.going
+loop-init g c = goes-none g.S.Store.durable g.S.Store.state g.S.Store.may g.C.Clock.is_read (from_draw c.args.settling c.args.x.now c.args.x.now) (stage_now c.args.stage.now) (λ r w. (NoDraw, λ t. refl)) c.requires.going
 
 pub returns-then-is_empty-clause-goes : goal.returns-then-is_empty-clause-goes
 returns-then-is_empty-clause-goes g c =

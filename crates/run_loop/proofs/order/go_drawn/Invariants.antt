@@ -1,6 +1,5 @@
-use Rattle.run_loop.specs.Loops.{from_draw}
 use Rattle.run_stage.specs.Now.{stage_now}
-use Rattle.run_stage.specs.Below.{GoesOn}
+use Rattle.run_stage.specs.Below.{GoesOn, from_draw}
 use Rattle.run_loop.proofs.order.go_drawn.Given as goal
 
 -- there were some turns of drawn actors

@@ -1,11 +1,11 @@
 use Rattle.std.proofs.Common.{refl}
-use Rattle.run_stage.specs.Below.{NoRound, Rounds, broke-after-err, broke-between, goes-none, rounds-are-run, served-then}
+use Rattle.run_stage.specs.Below.{NoRound, broke-after-err, broke-between, goes-none, rounds-are-run, served-then, some_rounds}
 use Rattle.run_loop.specs.Loops.{none-in, round-more, rounds-over, some-in}
 use Rattle.run_stage.specs.Now.{stage_now}
 use Rattle.run_loop.proofs.order.go_round.Goals as goal
 
 pub loop-init : goal.loop-init
-loop-init g c = goes-none g.S.Store.durable g.S.Store.state g.S.Store.may g.C.Clock.is_read (Rounds c.args.settling) (stage_now c.args.stage.now) (λ r w. NoRound) c.requires.going
+loop-init g c = goes-none g.S.Store.durable g.S.Store.state g.S.Store.may g.C.Clock.is_read (some_rounds c.args.settling) (stage_now c.args.stage.now) (λ r w. (NoRound, λ t. refl)) c.requires.going
 
 pub returns-then-is_empty-clause-goes : goal.returns-then-is_empty-clause-goes
 returns-then-is_empty-clause-goes g c =
@@ -30,8 +30,8 @@ loop-preserved g c =
 pub returns-in_err-due-clause-broke : goal.returns-in_err-due-clause-broke
 returns-in_err-due-clause-broke g c =
     let now = stage_now c.loop.stage in
-    broke-after-err g.S.Store.durable g.S.Store.state g.S.Store.may g.C.Clock.is_read g.met.S.Store.steady (Rounds c.args.settling) (stage_now c.args.stage.now) now now.targets c.from_residual.result (rounds-are-run c.args.settling) c.loop.invariant (broke-between g.S.Store.durable g.S.Store.state g.S.Store.may g.C.Clock.is_read g.met.S.Store.steady now now.targets refl)
+    broke-after-err g.S.Store.durable g.S.Store.state g.S.Store.may g.C.Clock.is_read g.met.S.Store.steady (some_rounds c.args.settling) (stage_now c.args.stage.now) now now.targets c.from_residual.result (rounds-are-run c.args.settling) c.loop.invariant (broke-between g.S.Store.durable g.S.Store.state g.S.Store.may g.C.Clock.is_read g.met.S.Store.steady now now.targets refl)
 
 pub returns-in_err-round-clause-broke : goal.returns-in_err-round-clause-broke
 returns-in_err-round-clause-broke g c =
-    broke-after-err g.S.Store.durable g.S.Store.state g.S.Store.may g.C.Clock.is_read g.met.S.Store.steady (Rounds c.args.settling) (stage_now c.args.stage.now) (stage_now c.loop.stage) c.round.new.stage.targets.items c.from_residual-in_err-round.result (rounds-are-run c.args.settling) c.loop.invariant c.in_err-round.ensures.broke
+    broke-after-err g.S.Store.durable g.S.Store.state g.S.Store.may g.C.Clock.is_read g.met.S.Store.steady (some_rounds c.args.settling) (stage_now c.args.stage.now) (stage_now c.loop.stage) c.round.new.stage.targets.items c.from_residual-in_err-round.result (rounds-are-run c.args.settling) c.loop.invariant c.in_err-round.ensures.broke

@@ -1,15 +1,15 @@
-use Rattle.run_stage.specs.Below.{AreServed, GoesOn, Nobody, broke-after-err, broke-between, can-turn, client-turn-goes, first_targets, goes-none, served-then, target-turn-breaks, target-turn-goes, turns-are-run}
-use Rattle.std.specs.Prelude.{[], length}
+use Rattle.run_stage.specs.Below.{AreServed, GoesOn, Nobody, broke-after-err, broke-between, can-turn, client-turn-goes, first_targets, goes-none, served-then, target-turn-breaks, target-turn-goes, turned, turns-are-run}
+use Rattle.std.specs.Prelude.{refl, [], length}
 use Rattle.std.proofs.Common.{◌∙◌, add-one, ap, subst, suc, sym}
 use Rattle.run_base.specs.Picks.{numbered}
-use Rattle.run_loop.specs.Loops.{at-end, client-had-none, client-had-turn, round-whole, target-had-none, target-had-turn, turned, within-now}
+use Rattle.run_loop.specs.Loops.{at-end, client-had-none, client-had-turn, round-whole, target-had-none, target-had-turn, within-now}
 use Rattle.run_stage.specs.Now.{stage_now}
 use Rattle.world_base.specs.Letters.{client}
 use Rattle.run_loop.proofs.order.round.Goals as goal
 use Rattle.run_loop.proofs.order.round.Goals.{then-is_client_due+in_ok-client_turn, else-is_client_due, then-is_target_due+in_ok-target_turn, else-is_target_due}
 
 pub loop-n-init : goal.loop-n-init
-loop-n-init g c = goes-none g.S.Store.durable g.S.Store.state g.S.Store.may g.C.Clock.is_read (turned c.args.settling []) (stage_now c.args.stage.now) (λ r w. Nobody) c.requires.going
+loop-n-init g c = goes-none g.S.Store.durable g.S.Store.state g.S.Store.may g.C.Clock.is_read (turned c.args.settling []) (stage_now c.args.stage.now) (λ r w. (Nobody, λ t. refl)) c.requires.going
 
 pub loop-n-preserved : goal.loop-n-preserved
 loop-n-preserved g c =

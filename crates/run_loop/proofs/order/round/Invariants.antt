@@ -1,7 +1,6 @@
 use Rattle.std.specs.Prelude.{length}
 use Rattle.run_base.specs.Picks.{numbered}
-use Rattle.run_loop.specs.Loops.{turned}
-use Rattle.run_stage.specs.Below.{GoesOn, first_targets}
+use Rattle.run_stage.specs.Below.{GoesOn, first_targets, turned}
 use Rattle.run_stage.specs.Now.{stage_now}
 use Rattle.world_base.specs.Letters.{client}
 use Rattle.run_loop.proofs.order.round.Given as goal
