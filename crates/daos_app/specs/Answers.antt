@@ -15,7 +15,7 @@ use Rattle.daos_model.specs.Opening.{Given, fresh}
 use Rattle.report_writer.specs.Forms.{IsReportOf}
 use Rattle.script_traits.specs.Plain.{IsPlain}
 use Rattle.report_writer.specs.Reports.{report_text}
-use Rattle.model_reports.specs.Rooms.{FindsRoom, HasRoom}
+use Rattle.model_reports.specs.Rooms.{FindsRoom, HasPlaces, HasRoom, SnapshotsFindPlaces}
 use Rattle.daos_run.specs.Alone.{IsOfLoneClient}
 use Rattle.daos_run.specs.Back.{IsReadBack}
 use Rattle.daos_run.specs.Comes.{FindsPlaces, FollowsFromZeros}
@@ -30,8 +30,9 @@ use Rattle.world_plain.specs.lone.LoneRuns.{AreIssuedThere}
 -- What the report of a run is: legal for the script by the headline, over regions of zeros that nothing disturbs, whichever attempts are taken
 -- as resolved; and in the form in which a text determines its report, which is read back of its text.
 -- It tells of turns in the order asked; the targets of the run issued all epochs; and where there is room for all that the script writes, and places for
--- its snapshots, no attempt is refused for want of these. The order of epochs is that of real time where the clocks keep the bound. A client that is
--- alone is never told to restart where the script asks for no stop, and of a script without snapshots more is said of it.
+-- its snapshots, no attempt is refused for want of these, nor one to make a snapshot where there are places, whatever room there is. The order of epochs is
+-- that of real time where the clocks keep the bound. A client that is alone is never told to restart where the script asks for no stop, and of a script
+-- without snapshots more is said of it.
 pub record IsRunReport (g : Given) (q : Report) : Type 0 where
   pub form : IsReportOf g.script q
   pub back : IsReadBack g.script q
@@ -40,6 +41,7 @@ pub record IsRunReport (g : Given) (q : Report) : Type 0 where
   pub issued : AreIssuedThere q
   pub in_real_time : IsInRealTime g q
   pub room : FindsPlaces g.script g.job.attempts 0 → HasRoom g.script g.job.attempts g.opening.free → FindsRoom q
+  pub places : HasPlaces g.script g.job.attempts 0 → SnapshotsFindPlaces g.script q
   pub alone : HasOneClient g.script → g.script.stops ≡ [] → TellsOfOnlyClient g.script q
   pub lone : IsPlain g.script → HasOneClient g.script → g.script.stops ≡ [] → IsOfLoneClient g q
 
