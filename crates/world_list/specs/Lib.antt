@@ -3,3 +3,4 @@ pub mod Fitting
 pub mod Following
 pub mod RunLists
 pub mod Taken
+pub mod WorldLists
