@@ -1,7 +1,8 @@
 -- What is chosen in an event of a run, and what its turn tells of what it left open.
-use Rattle.std.specs.Prelude.{ℕ, ◌≡◌, ◌⊎◌, Bool, true, false, List, [], length, slice_get, Some}
+use Rattle.std.specs.Prelude.{ℕ, ◌≡◌, ◌⊎◌, Bool, true, false, List, [], slice_get, Some}
 use Rattle.std.proofs.Common.{inl, inr}
 use Rattle.base_types.specs.declared.outcome.Outcome.{Outcome}
+use Rattle.world_base.specs.declared.letter.Letter.{Letter}
 use Rattle.world_base.specs.declared.target.TargetPlan.{TargetPlan}
 use Rattle.world_base.specs.declared.target.TargetState.{TargetState}
 use Rattle.world_base.specs.declared.world.Numbers.{Numbers}
@@ -21,18 +22,17 @@ use Rattle.world_determined.specs.Open.{left_open}
 
 -- what was in hand where a turn was cut, and where in it that was
 pub data CutWork : Type 0 where
-  InHearing : (place reading number : ℕ) (at : CutPlace) → CutWork
+  InHearing : (l : Letter) (reading number : ℕ) (at : CutPlace) → CutWork
   InIdling : (at : CutPlace) → CutWork
 
--- Whose turn it is, and what it does in it. A letter that is heard is chosen by its place among all in flight; a target reads its clock. An
--- aggregation and an opening take a number. A turn is cut at a place. An opening fails before the incarnation was raised, or after. Or numbers are
--- drawn.
+-- Whose turn it is, and what it does in it. A letter is heard, and others are left in flight; a target reads its clock. An aggregation and an
+-- opening take a number. A turn is cut at a place. An opening fails before the incarnation was raised, or after. Or numbers are drawn.
 pub data Choice : Type 0 where
   ClientGoes : (n : ℕ) → Choice
-  ClientHears : (n place : ℕ) → Choice
-  TargetHears : (t place reading : ℕ) → Choice
+  ClientHears : (n : ℕ) (l : Letter) (rest : List Letter) → Choice
+  TargetHears : (t : ℕ) (l : Letter) (rest : List Letter) (reading : ℕ) → Choice
   TargetIdles : (t : ℕ) (settling : Bool) → Choice
-  HearsFurther : (t place reading number : ℕ) → Choice
+  HearsFurther : (t : ℕ) (l : Letter) (rest : List Letter) (reading number : ℕ) → Choice
   IsCut : (t : ℕ) (work : CutWork) → Choice
   Opens : (t number : ℕ) → Choice
   OpeningFails : (t : ℕ) (raised : Bool) → Choice
@@ -41,7 +41,7 @@ pub data Choice : Type 0 where
 
 abbrev pub cut_work : (w : World) (t : ℕ) (p : TargetPlan) (s : TargetState) (work : AtWork) (cut : Cutting) → IsInHand w t work → CutOf p s work cut → CutWork
 cut_work w t p s (Hearing l reading number) cut hand turn =
-    InHearing (length hand.0.1.before) reading number (hearing_place is_prepared number p s.opening s.memory reading l.from l.message (kept s) cut turn)
+    InHearing l reading number (hearing_place is_prepared number p s.opening s.memory reading l.from l.message (kept s) cut turn)
 cut_work w t p s IdleWork cut hand turn = InIdling (place_of turn)
 
 abbrev pub was_raised : {A B : Type 0} → A ⊎ B → Bool
@@ -51,10 +51,10 @@ was_raised (inr after) = true
 -- what is chosen in an event
 abbrev pub choice_of : (r : Rules) → {w u : World} → Happening r w u → Choice
 choice_of r (stop.Plainly (event.ByClient g) up) = ClientGoes g.n
-choice_of r (stop.Plainly (event.ToClient g) up) = ClientHears g.n (length g.takes.before)
-choice_of r (stop.Plainly (event.ToTarget g) up) = TargetHears g.t (length g.takes.before) g.reading
+choice_of r (stop.Plainly (event.ToClient g) up) = ClientHears g.n g.l g.rest
+choice_of r (stop.Plainly (event.ToTarget g) up) = TargetHears g.t g.l g.rest g.reading
 choice_of r (stop.Plainly (event.ByTarget g) up) = TargetIdles g.t g.settling
-choice_of r (stop.Further g) = HearsFurther g.hears.t (length g.hears.takes.before) g.hears.reading g.number
+choice_of r (stop.Further g) = HearsFurther g.hears.t g.hears.l g.hears.rest g.hears.reading g.number
 choice_of r {w = w} (stop.IsCut g) = IsCut g.t (cut_work w g.t (target_plan r g.t) g.s g.work g.cut g.in_hand g.turn)
 choice_of r (stop.Opens g) = Opens g.t g.number
 choice_of r (stop.Fails g) = OpeningFails g.t (was_raised g.left)

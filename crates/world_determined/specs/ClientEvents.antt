@@ -1,5 +1,5 @@
 -- A client's turn leads from worlds that are the same but for free blocks to such worlds.
-use Rattle.std.specs.Prelude.{ℕ, ◌≡◌, List, length, slice_get, Some}
+use Rattle.std.specs.Prelude.{ℕ, ◌≡◌, List, slice_get, Some}
 use Rattle.std.proofs.Common.{sym, ◌∙◌, ap, subst, subst₂}
 use Rattle.world_base.specs.declared.client.ClientState.{ClientState}
 use Rattle.world_base.specs.declared.did.Did.{Did}
@@ -10,7 +10,7 @@ use Rattle.world_base.specs.Events.{ClientGoes, ClientHears, Rules, after_turn, 
 use Rattle.world_base.specs.Letters.{client}
 use Rattle.world_determined.specs.Clients.{one_hear, one_next}
 use Rattle.world_determined.specs.Clients as clients
-use Rattle.world_determined.specs.Worlds.{SameButFree, but_free, letter-same, rest-same}
+use Rattle.world_determined.specs.Worlds.{SameButFree, but_free}
 
 module _ (r : Rules) (w v w' v' : World) (same : SameButFree w v) where
   -- a world after a client's turn
@@ -35,12 +35,9 @@ module _ (r : Rules) (w v w' v' : World) (same : SameButFree w v) where
       ap but_free g.after ∙ client-after g.n h.n g.d h.d g.did h.did w.messages v.messages number one.state_same one.did_same (ap (λ (x : World). x.messages) same) ∙ sym (ap but_free h.after)
 
   -- a client hears a message
-  pub client-hears-one : (g : ClientHears r w w') (h : ClientHears r v v') → g.n ≡ h.n → length g.takes.before ≡ length h.takes.before → SameButFree w' v'
-  client-hears-one g h number place =
-      let letters : w.messages ≡ v.messages = ap (λ (x : World). x.messages) same in
+  pub client-hears-one : (g : ClientHears r w w') (h : ClientHears r v v') → g.n ≡ h.n → g.l ≡ h.l → g.rest ≡ h.rest → SameButFree w' v'
+  client-hears-one g h number heard others =
       let state = client-here g.n h.n g.c h.c number g.here h.here in
-      let heard = letter-same w.messages v.messages g.l h.l g.rest h.rest g.takes h.takes letters place in
-      let others = rest-same w.messages v.messages g.l h.l g.rest h.rest g.takes h.takes letters place in
       let one : clients.OneTurn g.did h.did g.d h.d =
       one_hear (client_plan r g.n) g.c g.l.message g.did h.did g.d h.d g.turn
       (subst (λ (l : Letter). HearTurn (client_plan r g.n) g.c l.message h.did h.d) (sym heard) (subst₂ (λ (n : ℕ) (c : ClientState). HearTurn (client_plan r n) c h.l.message h.did h.d) (sym number) (sym state) h.turn)) in

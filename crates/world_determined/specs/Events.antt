@@ -22,10 +22,10 @@ EventsAreOne =
 
 pub events-are_one : EventsAreOne
 events-are_one r w v w' v' (stop.Plainly (event.ByClient g) up) (stop.Plainly (event.ByClient h) up') led same chosen told = goes-one r w v w' v' same g h (cc)
-events-are_one r w v w' v' (stop.Plainly (event.ToClient g) up) (stop.Plainly (event.ToClient h) up') led same chosen told = client-hears-one r w v w' v' same g h (cc) (cc)
-events-are_one r w v w' v' (stop.Plainly (event.ToTarget g) up) (stop.Plainly (event.ToTarget h) up') led same chosen told = hears-one r w v w' v' same led g h (cc) (cc) (cc) told
+events-are_one r w v w' v' (stop.Plainly (event.ToClient g) up) (stop.Plainly (event.ToClient h) up') led same chosen told = client-hears-one r w v w' v' same g h (cc) (cc) (cc)
+events-are_one r w v w' v' (stop.Plainly (event.ToTarget g) up) (stop.Plainly (event.ToTarget h) up') led same chosen told = hears-one r w v w' v' same led g h (cc) (cc) (cc) (cc) told
 events-are_one r w v w' v' (stop.Plainly (event.ByTarget g) up) (stop.Plainly (event.ByTarget h) up') led same chosen told = idles-one r w v w' v' same g h (cc) (cc)
-events-are_one r w v w' v' (stop.Further g) (stop.Further h) led same chosen told = further-one r w v w' v' same g h (cc) (cc) (cc) (cc)
+events-are_one r w v w' v' (stop.Further g) (stop.Further h) led same chosen told = further-one r w v w' v' same g h (cc) (cc) (cc) (cc) (cc)
 events-are_one r w v w' v' (stop.IsCut g) (stop.IsCut h) led same chosen told = cuts-one r w v w' v' same led g h (cc) (cc)
 events-are_one r w v w' v' (stop.Opens g) (stop.Opens h) led same chosen told = opens-one r w v w' v' same g h (cc) (cc)
 events-are_one r w v w' v' (stop.Fails g) (stop.Fails h) led same chosen told = fails-one r w v w' v' same g h (cc) (cc)

@@ -22,3 +22,4 @@ pub mod StopEvents
 pub mod Events
 pub mod Runs
 pub mod Leading
+pub mod Picks

@@ -1,5 +1,5 @@
 -- What becomes of targets leads from worlds that are the same but for free blocks to such worlds: a cut at one place, an opening, and their ends.
-use Rattle.std.specs.Prelude.{ℕ, ◌≡◌, ◌⊎◌, ◌++◌, true, false, List, [], ◌∷◌, length, slice_get}
+use Rattle.std.specs.Prelude.{ℕ, ◌≡◌, ◌⊎◌, ◌++◌, true, false, List, [], ◌∷◌, slice_get}
 use Rattle.std.proofs.Common.{inl, inr, sym, ◌∙◌, ap, ap₂, subst₂}
 use Rattle.base_types.specs.declared.epoch.Epoch.{Epoch}
 use Rattle.base_types.specs.declared.id.AttemptId.{AttemptId}
@@ -21,7 +21,7 @@ use Rattle.world_determined.specs.Choices.{LeadDecided, cut_work, was_raised}
 use Rattle.world_determined.specs.Cuts.{OneCut, place_of}
 use Rattle.world_determined.specs.CutTurns.{cut-hearing_is_one, cut-idling_is_one, hearing_place}
 use Rattle.world_determined.specs.Fetches.{NoneLedElsewhere}
-use Rattle.world_determined.specs.Worlds.{SameButFree, but_free, letter-same, target-same, target-set, target_but_free}
+use Rattle.world_determined.specs.Worlds.{SameButFree, but_free, target-same, target-set, target_but_free}
 use Rattle.world_determined.specs.TargetEvents.{Setting, one-setting}
 
 module _ (r : Rules) (w v w' v' : World) (same : SameButFree w v) where
@@ -48,11 +48,11 @@ module _ (r : Rules) (w v w' v' : World) (same : SameButFree w v) where
       → NoneLedElsewhere (target_plan r t) s.memory.leader.decided s.durable → t ≡ u → target_but_free s ≡ target_but_free z
       → cut_work w t (target_plan r t) s work cut hand turn ≡ cut_work v u (target_plan r u) z work' cut' hand' turn' → OneCut cut cut'
   cut-one t u s z (Hearing l reading number) (Hearing m other drawn) cut cut' hand hand' turn turn' led number_same state chosen =
-      let place : length hand.0.1.before ≡ length hand'.0.1.before = cc in
+      let heard : l ≡ m = cc in
       let clock : reading ≡ other = cc in
       let drawn_same : number ≡ drawn = cc in
       let at : hearing_place is_prepared number (target_plan r t) s.opening s.memory reading l.from l.message (kept s) cut turn ≡ hearing_place is_prepared drawn (target_plan r u) z.opening z.memory other m.from m.message (kept z) cut' turn' = cc in
-      let where_it_is = one-setting t u s z reading other l m number_same state clock (letter-same w.messages v.messages l m hand.0.0 hand'.0.0 hand.0.1 hand'.0.1 (ap (λ (x : World). x.messages) same) place) in
+      let where_it_is = one-setting t u s z reading other l m number_same state clock heard in
       subst₂ (λ (n : ℕ) (x : Setting).
       (d : HearingIsCut is_prepared n (target_plan r x.t) x.s.opening x.s.memory x.reading x.l.from x.l.message (kept z) cut')
       → hearing_place is_prepared number (target_plan r t) s.opening s.memory reading l.from l.message (kept s) cut turn ≡ hearing_place is_prepared n (target_plan r x.t) x.s.opening x.s.memory x.reading x.l.from x.l.message (kept z) cut' d

@@ -1,5 +1,5 @@
 -- A target's whole turn leads from worlds that are the same but for free blocks to such worlds, where it hears the same at the same reading.
-use Rattle.std.specs.Prelude.{ℕ, ◌≡◌, Bool, List, length, slice_get, Some}
+use Rattle.std.specs.Prelude.{ℕ, ◌≡◌, Bool, List, slice_get, Some}
 use Rattle.std.proofs.Common.{sym, ◌∙◌, ap, subst, subst₂}
 use Rattle.world_base.specs.declared.did.Did.{Did}
 use Rattle.world_base.specs.declared.letter.Letter.{Letter}
@@ -16,7 +16,7 @@ use Rattle.world_determined.specs.Choices.{LeadDecided}
 use Rattle.world_determined.specs.Open.{left_open}
 use Rattle.world_determined.specs.Turns.{further-is_one, hearing-is_one, idling-is_one}
 use Rattle.world_determined.specs.Wholes.{OneTurn}
-use Rattle.world_determined.specs.Worlds.{SameButFree, after-same, but_free, letter-same, rest-same, target-same, target-set, target_but_free}
+use Rattle.world_determined.specs.Worlds.{SameButFree, after-same, but_free, target-same, target-set, target_but_free}
 
 -- a target in a turn: its number, what it is, the reading of its clock, and what it hears
 pub record Setting : Type 0 where
@@ -50,39 +50,38 @@ module _ (r : Rules) (w v w' v' : World) (same : SameButFree w v) where
   target-here t u s z number here there = target-same w v t s z same here (ap (slice_get v.targets) number ∙ there)
 
   -- where the turns are one
-  heard-one : (Turn Other : Turning) (g : TargetHearsBy Turn r w w') (h : TargetHearsBy Other r v v') → g.t ≡ h.t → length g.takes.before ≡ length h.takes.before → OneTurn {R = TargetMemory × Did} g.new h.new (g.memory, g.did) (h.memory, h.did) → SameButFree w' v'
-  heard-one Turn Other g h number place one =
+  heard-one : (Turn Other : Turning) (g : TargetHearsBy Turn r w w') (h : TargetHearsBy Other r v v') → g.t ≡ h.t → g.rest ≡ h.rest → OneTurn {R = TargetMemory × Did} g.new h.new (g.memory, g.did) (h.memory, h.did) → SameButFree w' v'
+  heard-one Turn Other g h number others one =
       ap but_free g.after
       ∙ target-after g.t h.t g.s h.s g.new h.new g.memory h.memory g.did h.did g.rest h.rest number (target-here g.t h.t g.s h.s number g.here h.here) one.kept_same
       (ap (λ (x : TargetMemory × Did). x.0) one.left_same) (ap (λ (x : TargetMemory × Did). x.1) one.left_same)
-      (rest-same w.messages v.messages g.l h.l g.rest h.rest g.takes h.takes (ap (λ (x : World). x.messages) same) place)
+      others
       ∙ sym (ap but_free h.after)
 
   -- what it is in both
-  hears-setting : (Turn Other : Turning) (g : TargetHearsBy Turn r w w') (h : TargetHearsBy Other r v v') → g.t ≡ h.t → length g.takes.before ≡ length h.takes.before → g.reading ≡ h.reading
+  hears-setting : (Turn Other : Turning) (g : TargetHearsBy Turn r w w') (h : TargetHearsBy Other r v v') → g.t ≡ h.t → g.l ≡ h.l → g.reading ≡ h.reading
       → setting g.t g.s g.reading g.l ≡ setting h.t h.s h.reading h.l
-  hears-setting Turn Other g h number place clock =
-      one-setting g.t h.t g.s h.s g.reading h.reading g.l h.l number (target-here g.t h.t g.s h.s number g.here h.here) clock
-      (letter-same w.messages v.messages g.l h.l g.rest h.rest g.takes h.takes (ap (λ (x : World). x.messages) same) place)
+  hears-setting Turn Other g h number heard clock =
+      one-setting g.t h.t g.s h.s g.reading h.reading g.l h.l number (target-here g.t h.t g.s h.s number g.here h.here) clock heard
 
   -- a target hears a message
-  pub hears-one : LeadDecided r w → (g : TargetHears r w w') (h : TargetHears r v v') → g.t ≡ h.t → length g.takes.before ≡ length h.takes.before → g.reading ≡ h.reading → left_open g.l.message g.did ≡ left_open h.l.message h.did → SameButFree w' v'
-  hears-one led g h number place clock told =
-      let at = hears-setting Hears Hears g h number place clock in
+  pub hears-one : LeadDecided r w → (g : TargetHears r w w') (h : TargetHears r v v') → g.t ≡ h.t → g.l ≡ h.l → g.rest ≡ h.rest → g.reading ≡ h.reading → left_open g.l.message g.did ≡ left_open h.l.message h.did → SameButFree w' v'
+  hears-one led g h number heard others clock told =
+      let at = hears-setting Hears Hears g h number heard clock in
       let turn : Hears (target_plan r g.t) g.s.opening g.s.memory g.reading g.l.from g.l.message (kept h.s) h.new (h.memory, h.did) =
       subst (λ (x : Setting). Hears (target_plan r x.t) x.s.opening x.s.memory x.reading x.l.from x.l.message (kept h.s) h.new (h.memory, h.did)) (sym at) h.turn in
       let tells : left_open g.l.message g.did ≡ left_open g.l.message h.did = told ∙ ap (λ (x : Setting). left_open x.l.message h.did) (sym at) in
-      heard-one Hears Hears g h number place
+      heard-one Hears Hears g h number others
       (hearing-is_one (target_plan r g.t) g.s.opening g.s.memory g.reading g.l.from g.l.message (kept g.s) (kept h.s) g.new h.new (g.memory, g.did) (h.memory, h.did) (led g.t g.s g.here)
       (ap (λ (x : Setting). x.s.durable) at) tells g.turn turn)
 
   -- a target hears a further message
-  pub further-one : (g : HearsMore r w w') (h : HearsMore r v v') → g.hears.t ≡ h.hears.t → length g.hears.takes.before ≡ length h.hears.takes.before → g.hears.reading ≡ h.hears.reading → g.number ≡ h.number → SameButFree w' v'
-  further-one g h number place clock drawn =
-      let at = hears-setting (HearsFurther g.number) (HearsFurther h.number) g.hears h.hears number place clock in
+  pub further-one : (g : HearsMore r w w') (h : HearsMore r v v') → g.hears.t ≡ h.hears.t → g.hears.l ≡ h.hears.l → g.hears.rest ≡ h.hears.rest → g.hears.reading ≡ h.hears.reading → g.number ≡ h.number → SameButFree w' v'
+  further-one g h number heard others clock drawn =
+      let at = hears-setting (HearsFurther g.number) (HearsFurther h.number) g.hears h.hears number heard clock in
       let turn : HearsFurther g.number (target_plan r g.hears.t) g.hears.s.opening g.hears.s.memory g.hears.reading g.hears.l.from g.hears.l.message (kept h.hears.s) h.hears.new (h.hears.memory, h.hears.did) =
       subst₂ (λ (n : ℕ) (x : Setting). HearsFurther n (target_plan r x.t) x.s.opening x.s.memory x.reading x.l.from x.l.message (kept h.hears.s) h.hears.new (h.hears.memory, h.hears.did)) (sym drawn) (sym at) h.hears.turn in
-      heard-one (HearsFurther g.number) (HearsFurther h.number) g.hears h.hears number place
+      heard-one (HearsFurther g.number) (HearsFurther h.number) g.hears h.hears number others
       (further-is_one g.number (target_plan r g.hears.t) g.hears.s.opening g.hears.s.memory g.hears.reading g.hears.l.from g.hears.l.message (kept g.hears.s) (kept h.hears.s) g.hears.new h.hears.new
       (g.hears.memory, g.hears.did) (h.hears.memory, h.hears.did) (ap (λ (x : Setting). x.s.durable) at) g.hears.turn turn)
 

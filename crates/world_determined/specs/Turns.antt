@@ -1,6 +1,6 @@
 -- A target's turn is determined by its plan and opening, what it knows and keeps, what it hears and when, but for what is open.
 use Rattle.std.specs.Prelude.{ℕ, ◌≡◌, ◌++◌, Bool, List, filter, Some, None, refl}
-use Rattle.std.proofs.Common.{sym, ap, subst}
+use Rattle.std.proofs.Common.{sym, ◌∙◌, ap, subst}
 use Rattle.base_types.specs.declared.entry.Verdict.{Verdict}
 use Rattle.base_types.specs.declared.entry.Verdict.TheVariants as verdict
 use Rattle.base_types.specs.declared.epoch.Epoch.{Epoch}
@@ -29,7 +29,7 @@ use Rattle.world_base.specs.Turns.{Whole}
 use Rattle.world_determined.specs.Commits.{commits_are_one, downs_are_one}
 use Rattle.world_determined.specs.Fetches.{NoneLedElsewhere, fetches_are_one}
 use Rattle.world_determined.specs.Makings.{aggregates_are_one, freezes_are_one, helds_are_one, prunes_are_one, snaps_are_one}
-use Rattle.world_determined.specs.Open.{left_open}
+use Rattle.world_determined.specs.Open.{Look, all_of_it, but_shown, did-seen, left_open, none_of_it, seen_did, seen_left}
 use Rattle.world_determined.specs.Prepares.{prepares_are_one}
 use Rattle.world_determined.specs.Settlings.{GoesByKept, acks_are_one, at_once_are_one, idle_is_one, marked_are_one, marks_are_one, queries_are_one}
 use Rattle.world_determined.specs.Verdicts.{verdicts_are_one}
@@ -44,6 +44,20 @@ HearingIsOne =
     (t : TargetPlan) (opening : Epoch × FloorWhy) (m : TargetMemory) (reading : ℕ) (from : ActorId) (q : Message) (old old' new new' : Kept) (left left' : TargetMemory × Did)
     → NoneLedElsewhere t m.leader.decided old.durable → old.durable ≡ old'.durable → left_open q left.1 ≡ left_open q left'.1
     → Hears t opening m reading from q old new left → Hears t opening m reading from q old' new' left' → OneTurn new new' left left'
+
+-- two turns are alike: they come to one, whichever later read is shown and however many blocks are free
+pub record AlikeTurns (new new' : Kept) (left left' : TargetMemory × Did) : Type 0 where
+  pub kept_same : new.durable ≡ new'.durable
+  pub known_same : left.0 ≡ left'.0
+  pub told_alike : but_shown left.1 ≡ but_shown left'.1
+
+-- Where two turns are refused by a later read, whichever it is, or both for want of space, however many blocks are free, or neither is, they are
+-- alike.
+abbrev pub HearingIsAlike : Type 0
+HearingIsAlike =
+    (t : TargetPlan) (opening : Epoch × FloorWhy) (m : TargetMemory) (reading : ℕ) (from : ActorId) (q : Message) (old old' new new' : Kept) (left left' : TargetMemory × Did)
+    → NoneLedElsewhere t m.leader.decided old.durable → old.durable ≡ old'.durable → left_open q (but_shown left.1) ≡ left_open q (but_shown left'.1)
+    → Hears t opening m reading from q old new left → Hears t opening m reading from q old' new' left' → AlikeTurns new new' left left'
 
 -- so is one in which it hears what comes of stops, or what makes snapshots and aggregates; nothing of that is open
 abbrev pub FurtherIsOne : Type 0
@@ -69,23 +83,46 @@ led-told t verdict.Undecided a m d led = led
 
 -- ---- hearing
 
+one-seen : (look : Look) (new new' : Kept) (left left' : TargetMemory × Did) → OneTurn new new' left left' → OneTurn new new' (seen_left look left) (seen_left look left')
+one-seen look new new' left left' one = record { kept_same = one.kept_same; left_same = ap (seen_left look) one.left_same }
+
+-- what is seen of a turn is determined by what is seen of what it tells of what is open
+hearing-seen :
+    (look : Look) (t : TargetPlan) (opening : Epoch × FloorWhy) (m : TargetMemory) (reading : ℕ) (from : ActorId) (q : Message) (old old' new new' : Kept) (left left' : TargetMemory × Did)
+    → NoneLedElsewhere t m.leader.decided old.durable → old.durable ≡ old'.durable → left_open q (seen_did look left.1) ≡ left_open q (seen_did look left'.1)
+    → Hears t opening m reading from q old new left → Hears t opening m reading from q old' new' left' → OneTurn new new' (seen_left look left) (seen_left look left')
+hearing-seen look t opening m reading from (message.Fetch x op group ep first tracker r snapshot) old old' new new' left left' led same told h h' =
+    one-seen look new new' left left' (fetches_are_one t m reading (fetch_request x op group ep first tracker r snapshot) from old old' new new' left left' led same h h')
+hearing-seen look t opening m reading from (message.Commit x ep first tracker ws) old old' new new' left left' led same told h h' =
+    commits_are_one t opening m reading (commit_request x ep first tracker ws) from look old old' new new' left left' same told h h'
+hearing-seen look t opening m reading from (message.Prepare e first ws inc) old old' new new' left left' led same told h h' =
+    prepares_are_one t opening m (prepare_request e first ws inc) look old old' new new' left left' same told h h'
+hearing-seen look t opening m reading from (message.Ack x inc refusal) old old' new new' left left' led same told h h' =
+    one-seen look new new' left left' (acks_are_one t m from.number x inc refusal old old' new new' left left' same h h')
+hearing-seen look t opening m reading from (message.Mark inc marks) old old' new new' left left' led same told h h' =
+    one-seen look new new' left left' (marks_are_one is_prepared (told_of_all (attempts_of marks) m) from inc marks old old' new new' left left' same h h')
+hearing-seen look t opening m reading from (message.Marked inc ids) old old' new new' left left' led same told h h' =
+    one-seen look new new' left left' (marked_are_one t m from.number inc ids (ack.to_confirm inc ids old.durable) old old' new new' left left' same h
+    (subst (λ d. Whole (ack.MarkedNext t m from.number) (ack.MarkedEnds t m from.number inc ids) (ack.to_confirm inc ids d) old' new' left') (sym same) h'))
+hearing-seen look t opening m reading from (message.Query x ask) old old' new new' left left' led same told h h' =
+    one-seen look new new' left left' (queries_are_one t m from x ask old old' new new' left left' same h h')
+hearing-seen look t opening m reading from (message.Verdict x ask inc v) old old' new new' left left' led same told h h' =
+    one-seen look new new' left left' (verdicts_are_one is_prepared t (told_by v x m) reading x ask v old old' new new' left left' (led-told t v x m old.durable led) same h h')
+hearing-seen look t opening m reading from q old old' new new' left left' led same told h h' = absurd h
+
 pub hearing-is_one : HearingIsOne
-hearing-is_one t opening m reading from (message.Fetch x op group ep first tracker r snapshot) old old' new new' left left' led same told h h' =
-    fetches_are_one t m reading (fetch_request x op group ep first tracker r snapshot) from old old' new new' left left' led same h h'
-hearing-is_one t opening m reading from (message.Commit x ep first tracker ws) old old' new new' left left' led same told h h' =
-    commits_are_one t opening m reading (commit_request x ep first tracker ws) from old old' new new' left left' same told h h'
-hearing-is_one t opening m reading from (message.Prepare e first ws inc) old old' new new' left left' led same told h h' =
-    prepares_are_one t opening m (prepare_request e first ws inc) old old' new new' left left' same told h h'
-hearing-is_one t opening m reading from (message.Ack x inc refusal) old old' new new' left left' led same told h h' = acks_are_one t m from.number x inc refusal old old' new new' left left' same h h'
-hearing-is_one t opening m reading from (message.Mark inc marks) old old' new new' left left' led same told h h' =
-    marks_are_one is_prepared (told_of_all (attempts_of marks) m) from inc marks old old' new new' left left' same h h'
-hearing-is_one t opening m reading from (message.Marked inc ids) old old' new new' left left' led same told h h' =
-    marked_are_one t m from.number inc ids (ack.to_confirm inc ids old.durable) old old' new new' left left' same h
-    (subst (λ d. Whole (ack.MarkedNext t m from.number) (ack.MarkedEnds t m from.number inc ids) (ack.to_confirm inc ids d) old' new' left') (sym same) h')
-hearing-is_one t opening m reading from (message.Query x ask) old old' new new' left left' led same told h h' = queries_are_one t m from x ask old old' new new' left left' same h h'
-hearing-is_one t opening m reading from (message.Verdict x ask inc v) old old' new new' left left' led same told h h' =
-    verdicts_are_one is_prepared t (told_by v x m) reading x ask v old old' new new' left left' (led-told t v x m old.durable led) same h h'
-hearing-is_one t opening m reading from q old old' new new' left left' led same told h h' = absurd h
+hearing-is_one t opening m reading from q old old' new new' left left' led same told h h' =
+    let tells : left_open q (seen_did all_of_it left.1) ≡ left_open q (seen_did all_of_it left'.1) = ap (left_open q) (did-seen left.1) ∙ told ∙ sym (ap (left_open q) (did-seen left'.1)) in
+    let one = hearing-seen all_of_it t opening m reading from q old old' new new' left left' led same tells h h' in
+    record {
+      kept_same = one.kept_same;
+      left_same = sym (ap (λ (did : Did). (left.0, did)) (did-seen left.1)) ∙ one.left_same ∙ ap (λ (did : Did). (left'.0, did)) (did-seen left'.1);
+    }
+
+pub hearing-is_alike : HearingIsAlike
+hearing-is_alike t opening m reading from q old old' new new' left left' led same told h h' =
+    let one = hearing-seen none_of_it t opening m reading from q old old' new new' left left' led same told h h' in
+    record { kept_same = one.kept_same; known_same = ap (λ (x : TargetMemory × Did). x.0) one.left_same; told_alike = ap (λ (x : TargetMemory × Did). x.1) one.left_same }
 
 -- ---- further
 

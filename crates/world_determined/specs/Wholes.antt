@@ -56,10 +56,10 @@ pub record OneTurn {R : Type 0} (new new' : Kept) (left left' : R) : Type 0 wher
   pub kept_same : new.durable ≡ new'.durable
   pub left_same : left ≡ left'
 
-module _ {S R A : Type 0} (Next : S → Kept → Option Change → S → Type 0) (Ends : S → Kept → R → Type 0) (Fits : S → Durable → Type 0) (told : R → A) where
-  -- what a turn ends with at a stage is one, where the same is told
+module _ {S R A B : Type 0} (Next : S → Kept → Option Change → S → Type 0) (Ends : S → Kept → R → Type 0) (Fits : S → Durable → Type 0) (told : R → A) (seen : R → B) where
+  -- what is seen of what a turn ends with at a stage is one, where the same is told
   abbrev pub HasOneEndAs : Type 0
-  HasOneEndAs = (s : S) (k l : Kept) (left left' : R) → Fits s k.durable → k.durable ≡ l.durable → told left ≡ told left' → Ends s k left → Ends s l left' → left ≡ left'
+  HasOneEndAs = (s : S) (k l : Kept) (left left' : R) → Fits s k.durable → k.durable ≡ l.durable → told left ≡ told left' → Ends s k left → Ends s l left' → seen left ≡ seen left'
 
   -- where a turn ends no other goes on that tells the same
   abbrev pub IsLastAs : Type 0
@@ -67,13 +67,13 @@ module _ {S R A : Type 0} (Next : S → Kept → Option Change → S → Type 0)
       (s : S) (k l new : Kept) (left left' : R) (o : Option Change) (u : S) (j : Kept)
       → Fits s k.durable → k.durable ≡ l.durable → told left ≡ told left' → Ends s k left → Next s l o u → Whole Next Ends u j new left' → ⊥
 
-  -- then a turn is determined by what it tells
+  -- then what is seen of a turn is determined by what it tells
   pub whole-one_as :
       HasOneStep Next Fits → FitsOn Next Fits → HasOneEndAs → IsLastAs → (start : S) (old old' new new' : Kept) (left left' : R)
-      → Fits start old.durable → old.durable ≡ old'.durable → told left ≡ told left' → Whole Next Ends start old new left → Whole Next Ends start old' new' left' → OneTurn new new' left left'
+      → Fits start old.durable → old.durable ≡ old'.durable → told left ≡ told left' → Whole Next Ends start old new left → Whole Next Ends start old' new' left' → OneTurn new new' (seen left) (seen left')
   whole-one_as one on end over start old old' new new' left left' fits same tells w v = by (whole-beside Next Ends Fits one on start old old' new new' left left' fits same w v)
     where
-      by : Beside Next Ends Fits new new' left left' → OneTurn new new' left left'
+      by : Beside Next Ends Fits new new' left left' → OneTurn new new' (seen left) (seen left')
       by (Together s so alike ends ends') = record { kept_same = alike; left_same = end s new new' left left' so alike tells ends ends' }
       by (EndsFirst s k o u l so alike ends next steps rest) = absurd (over s new k new' left left' o u l so alike tells ends next rest)
       by (GoesOn s k o u l so alike ends next steps rest) = absurd (over s new' k new left' left o u l so alike (sym tells) ends next rest)
@@ -92,5 +92,5 @@ module _ {S R : Type 0} (Next : S → Kept → Option Change → S → Type 0) (
       HasOneStep Next Fits → FitsOn Next Fits → HasOneEnd → IsLast → (start : S) (old old' new new' : Kept) (left left' : R)
       → Fits start old.durable → old.durable ≡ old'.durable → Whole Next Ends start old new left → Whole Next Ends start old' new' left' → OneTurn new new' left left'
   whole-one one on end over start old old' new new' left left' fits same w v =
-      whole-one_as Next Ends Fits (λ x. tt {0}) one on (λ s k l x y so alike tells ends ends'. end s k l x y so alike ends ends')
+      whole-one_as Next Ends Fits (λ x. tt {0}) (λ x. x) one on (λ s k l x y so alike tells ends ends'. end s k l x y so alike ends ends')
       (λ s k l n x y o u j so alike tells ends next rest. over s k l x o u so alike ends next) start old old' new new' left left' fits same (refl {0}) w v

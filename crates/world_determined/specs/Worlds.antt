@@ -1,7 +1,7 @@
 -- Worlds that are the same but for free blocks.
-use Rattle.std.specs.Prelude.{ℕ, zero, suc, ◌≡◌, ◌++◌, ◌&&◌, not, Bool, true, List, [], ◌∷◌, length, map, filter, slice_get, Some, refl}
+use Rattle.std.specs.Prelude.{ℕ, zero, suc, ◌≡◌, ◌++◌, ◌&&◌, not, Bool, true, List, [], ◌∷◌, map, filter, slice_get, Some, refl}
 use Rattle.std.specs.Option.{option_map}
-use Rattle.std.proofs.Common.{sym, ◌∙◌, ap, ap₂, arith}
+use Rattle.std.proofs.Common.{sym, ◌∙◌, ap, ap₂}
 use mathlib.Core.Path.{fun_ext}
 use Rattle.std.proofs.lemmas.List.{map-set}
 use Rattle.std.proofs.lemmas.Option.{slice_get-map}
@@ -12,7 +12,6 @@ use Rattle.world_base.specs.declared.target.TargetState.{TargetState}
 use Rattle.world_base.specs.declared.world.World.{World}
 use Rattle.world_base.specs.Changes.{Kept}
 use Rattle.world_base.specs.Events.{target_after, with_target}
-use Rattle.world_base.specs.Letters.{Takes}
 use Rattle.world_base.specs.Stops.{is_down_at, reset_letter, swept}
 
 -- ---- the definitions
@@ -49,29 +48,6 @@ pub after-same : (s z : TargetState) (k l : Kept) (m n : TargetMemory) → targe
 after-same s z k l m n same kept known =
     ap (λ (x : TargetState). record x { durable = k.durable; memory = m }) same ∙ ap (λ (d : Durable). record z { durable = d; free = 0; memory = m }) kept
     ∙ ap (λ (x : TargetMemory). record z { durable = l.durable; free = 0; memory = x }) known
-
--- ---- letters
-
--- the letter at a place, and those that are left
-record OneTaken (l m : Letter) (rest left : List Letter) : Type 0 where
-  letter_same : l ≡ m
-  rest_same : rest ≡ left
-
-taken-from : (before after before' after' : List Letter) (l m : Letter) → before ++ l ∷ after ≡ before' ++ m ∷ after' → length before ≡ length before' → OneTaken l m (before ++ after) (before' ++ after')
-taken-from [] after [] after' l m same place = record { letter_same = cc; rest_same = cc }
-taken-from [] after (y ∷ ys) after' l m same place = let no : ⊥ = omega (arith, place) in absurd no
-taken-from (x ∷ xs) after [] after' l m same place = let no : ⊥ = omega (arith, place) in absurd no
-taken-from (x ∷ xs) after (y ∷ ys) after' l m same place =
-    let one : x ≡ y = cc in
-    let more : xs ++ l ∷ after ≡ ys ++ m ∷ after' = cc in
-    let so = taken-from xs after ys after' l m more (omega (arith, place)) in
-    record { letter_same = so.letter_same; rest_same = ap₂ (λ (z : Letter) (zs : List Letter). z ∷ zs) one so.rest_same }
-
-pub letter-same : (letters others : List Letter) (l m : Letter) (rest left : List Letter) (g : Takes letters l rest) (h : Takes others m left) → letters ≡ others → length g.before ≡ length h.before → l ≡ m
-letter-same letters others l m rest left g h same place = (taken-from g.before g.after h.before h.after l m (sym g.among ∙ same ∙ h.among) place).letter_same
-
-pub rest-same : (letters others : List Letter) (l m : Letter) (rest left : List Letter) (g : Takes letters l rest) (h : Takes others m left) → letters ≡ others → length g.before ≡ length h.before → rest ≡ left
-rest-same letters others l m rest left g h same place = g.left ∙ (taken-from g.before g.after h.before h.after l m (sym g.among ∙ same ∙ h.among) place).rest_same ∙ sym h.left
 
 -- ---- what is lost since targets are given up
 

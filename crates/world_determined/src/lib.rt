@@ -5,9 +5,10 @@ ghost use Rattle.world_determined.specs.Clients.{HearIsOne, NextIsOne};
 ghost use Rattle.world_determined.specs.CutTurns.{CutHearingIsOne, CutIdlingIsOne};
 ghost use Rattle.world_determined.specs.Events.{EventsAreOne};
 ghost use Rattle.world_determined.specs.Leading.{AttemptsLeadDecided};
+ghost use Rattle.world_determined.specs.Picks.{PicksAreOne, SameAreDue};
 ghost use Rattle.world_determined.specs.Readings.{CutReadingsAreOne, FurtherReadingsAreOne, ReadingsAreOne};
 ghost use Rattle.world_determined.specs.Runs.{RunsAreOne};
-ghost use Rattle.world_determined.specs.Turns.{FurtherIsOne, HearingIsOne, IdlingIsOne};
+ghost use Rattle.world_determined.specs.Turns.{FurtherIsOne, HearingIsAlike, HearingIsOne, IdlingIsOne};
 ghost use Rattle.world_determined.specs.Worlds.{SameTellOne};
 
 /// Says that a client's turn is determined by what it has to do, its state and the message that it
@@ -20,12 +21,15 @@ pub fn laws_of_client_turns()
 /// Says that a target's turn is determined: by its plan and its opening, by what it knows and keeps, and
 /// by what it hears, from whom, and at which reading of its clock. Two such turns keep the same but for
 /// free blocks, know the same and tell the same, however many blocks were free before. Of a Commit and of
-/// a Prepare it is open whether a later read that is only near refuses it, which later read is shown, and
-/// whether there is space; so these are one where they tell the same of that. It is asked that no other
-/// target leads an attempt that this one decided and hasn't settled. What comes of stops, what makes
-/// snapshots and aggregates, and idle work leave nothing open.
+/// a Prepare it is open whether a later read that is only near refuses it, which later read is shown,
+/// whether there is space, and how many blocks are free where there is none. So these are one where they
+/// tell the same of that; and where both are refused by a later read, or both for want of space, or
+/// neither is, they are one but for which read is shown and how many blocks are free. It is asked that no
+/// other target leads an attempt that this one decided and hasn't settled. What comes of stops, what
+/// makes snapshots and aggregates, and idle work leave nothing open.
 pub fn laws_of_target_turns()
     ensures hearing { HearingIsOne }
+    ensures alike { HearingIsAlike }
     ensures further { FurtherIsOne }
     ensures idling { IdlingIsOne }
 {}
@@ -62,4 +66,12 @@ pub fn laws_of_choices()
     ensures runs { RunsAreOne }
     ensures told { SameTellOne }
     ensures led { AttemptsLeadDecided }
+{}
+
+/// Says that in worlds that are the same but for free blocks the same actors have something to do, and
+/// that of the letters in flight to an actor the one of a number is one. So an order of turns chooses the
+/// same in both.
+pub fn laws_of_picks()
+    ensures due { SameAreDue }
+    ensures letters { PicksAreOne }
 {}
