@@ -1,3 +1,4 @@
+pub mod Changes
 pub mod Letters
 pub mod Numbers
 pub mod OrderLaws

@@ -51,7 +51,7 @@ impl Between {
     /// # Errors
     ///
     /// For want of memory; nothing is changed then.
-    pub fn cut(
+    pub(crate) fn cut(
         &mut self,
         alloc: Global,
         target: TargetId,
@@ -82,7 +82,7 @@ impl Between {
     /// # Errors
     ///
     /// For want of memory; nothing is changed then.
-    pub fn give_up(&mut self, alloc: Global, target: TargetId) -> Result<(), Memory>
+    pub(crate) fn give_up(&mut self, alloc: Global, target: TargetId) -> Result<(), Memory>
         ensures messages { OnOk result (self.new.messages ≡ filter (is_not_to target) self.old.messages ++ resets target true self.old.asked) }
         ensures asked { OnOk result (self.new.asked ≡ filter (is_not_to target) self.old.asked) }
         ensures issued { self.new.issued ≡ self.old.issued }

@@ -3,6 +3,7 @@
 
 pub mod asked;
 pub mod between;
+mod changing;
 mod cutting;
 pub mod lines;
 mod losing;

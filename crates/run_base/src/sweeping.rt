@@ -65,7 +65,7 @@ impl Between {
     /// # Errors
     ///
     /// For want of memory; nothing is changed then.
-    pub fn sweep(&mut self, alloc: Global, lives: &[Life]) -> Result<(), Memory>
+    pub(crate) fn sweep(&mut self, alloc: Global, lives: &[Life]) -> Result<(), Memory>
         requires few { length lives.now ≤ 256 }
         ensures messages { OnOk result (self.new.messages ≡ filter (is_left_by lives.now) (self.old.messages ++ map (reset_letter true) (filter (is_lost_by lives.now) self.old.asked))) }
         ensures asked { OnOk result (self.new.asked ≡ filter (is_left_by lives.now) self.old.asked) }

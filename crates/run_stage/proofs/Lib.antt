@@ -2,3 +2,4 @@
 pub mod Stopping
 pub mod Opening
 pub mod Working
+pub mod Following

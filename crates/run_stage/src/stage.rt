@@ -1,5 +1,5 @@
 // The actors of a run, and what lies between them.
-ghost use Rattle.std.specs.Prelude.{◌≡◌, ◌≤◌, length, OnOk};
+ghost use Rattle.std.specs.Prelude.{◌≡◌, ◌≤◌, length, IfErr, OnOk};
 ghost use Rattle.run_laws.specs.shows.Turned.{followed, swept_stage, with_between};
 ghost use Rattle.run_stage.specs.Now.{stage_now};
 
@@ -29,25 +29,19 @@ pub struct Stage<S: Store, C: Clock> {
 }
 
 impl<S: Store, C: Clock> Stage<S, C> {
-    // What goes to targets that are given up is lost.
-    pub(crate) fn sweep(&mut self) -> Result<(), Memory>
-        requires few { length self.old.watch.lives ≤ 256 }
-        ensures swept { OnOk result (stage_now self.new ≡ swept_stage (stage_now self.old)) }
-        ensures targets { self.new.targets ≡ self.old.targets }
-    {
-        if self.watch.some_down() {
-            return self.between.sweep(self.alloc, self.watch.lives());
-        }
-        Ok(())
-    }
-
-    // What follows from an actor's turn comes about, and what goes to targets that are given up is lost.
+    // What follows from an actor's turn comes about, and what goes to targets that are given up is lost. Where memory is wanting, all that lies
+    // between actors is as before.
     pub(crate) fn follow(&mut self, from: ActorId, did: Did) -> Result<(), Memory>
         requires few { length self.old.watch.lives ≤ 256 }
         ensures followed { OnOk result (stage_now self.new ≡ swept_stage (with_between (followed from did self.old.between) (stage_now self.old))) }
         ensures targets { self.new.targets ≡ self.old.targets }
+        ensures kept { IfErr result (λ no. self.new.between ≡ self.old.between) }
     {
-        self.between.follow(from, did)?;
-        self.sweep()
+        if self.watch.some_down() {
+            return self
+                .between
+                .follow_swept(self.alloc, self.watch.lives(), from, did);
+        }
+        self.between.follow(from, did)
     }
 }

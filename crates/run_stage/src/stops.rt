@@ -1,5 +1,5 @@
 // A target stops, or is given up.
-ghost use Rattle.std.specs.Prelude.{◌≡◌, ◌≤◌, ◌<◌, length, OnOk, Some, slice_get};
+ghost use Rattle.std.specs.Prelude.{◌≡◌, ◌≤◌, ◌<◌, length, IfErr, OnOk, Some, slice_get};
 ghost use Rattle.run_laws.specs.shows.Turned.{AfterCut, AfterStop, given_up_stage, stopped_stage, swept_stage};
 ghost use Rattle.run_stage.specs.Now.{stage_now};
 ghost use Rattle.target_core.specs.Targets.{TargetOf};
@@ -16,16 +16,17 @@ use vos_store::store::Store;
 use world_base::target::Life;
 
 impl<S: Store, C: Clock> Stage<S, C> {
-    // A target is given up.
+    // A target is given up. Where memory is wanting, all that lies between actors is as before.
     pub(crate) fn give_up(&mut self, t: usize) -> Result<(), Memory>
         requires within { t < length self.old.watch.lives }
         requires few { length self.old.watch.lives ≤ 256 }
         ensures given_up { OnOk result (stage_now self.new ≡ swept_stage (given_up_stage t (stage_now self.old))) }
         ensures targets { self.new.targets ≡ self.old.targets }
+        ensures kept { IfErr result (λ no. self.new.between ≡ self.old.between) }
     {
-        self.between.give_up(self.alloc, t as u8)?;
         self.watch.set(t, Life::Down);
-        self.sweep()
+        self.between
+            .give_up_swept(self.alloc, self.watch.lives(), t as u8)
     }
 
     // A target's store stopped in a turn, before which the outside had failed it so often: where it did again, for the ninth time, the
@@ -46,7 +47,7 @@ impl<S: Store, C: Clock> Stage<S, C> {
         Ok(())
     }
 
-    // A target's turn was cut: it stops.
+    // A target's turn was cut: it stops. Where memory is wanting, all that lies between actors is as before.
     fn stop(
         &mut self,
         t: usize,
@@ -57,10 +58,11 @@ impl<S: Store, C: Clock> Stage<S, C> {
         requires few { length self.old.watch.lives ≤ 256 }
         ensures stopped { OnOk result (stage_now self.new ≡ swept_stage (stopped_stage t issued lines (stage_now self.old))) }
         ensures targets { self.new.targets ≡ self.old.targets }
+        ensures kept { IfErr result (λ no. self.new.between ≡ self.old.between) }
     {
-        self.between.cut(self.alloc, t as u8, issued, lines)?;
         self.watch.set(t, Life::Stopped);
-        self.sweep()
+        self.between
+            .cut_swept(self.alloc, self.watch.lives(), t as u8, issued, lines)
     }
 
     // A target's turn isn't whole.

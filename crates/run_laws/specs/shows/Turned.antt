@@ -1,16 +1,14 @@
 -- What a part of a turn leaves of a target and of what lies between actors.
-use Rattle.std.specs.Prelude.{ℕ, ◌≡◌, ◌≤◌, ◌<◌, ◌^◌, ◌++◌, ◌∷◌, Bool, true, false, List, [], filter, map, slice_get, slice_set, Option, Some, Result}
-use Rattle.base_messages.specs.declared.actor.ActorId.{ActorId}
+use Rattle.std.specs.Prelude.{ℕ, ◌≡◌, ◌≤◌, ◌<◌, ◌^◌, Bool, true, List, slice_get, slice_set, Option, Some, Result}
 use Rattle.base_types.specs.declared.epoch.Epoch.{Epoch}
 use Rattle.base_types.specs.declared.id.AttemptId.{AttemptId}
 use Rattle.base_types.specs.declared.report.Line.{Line}
-use Rattle.base_types.specs.declared.report.Line.TheVariants as line
 use Rattle.client_core.specs.Clients.{ClientNow}
 use Rattle.daos_model.specs.declared.durable.Durable.{Durable}
+pub use Rattle.run_base.specs.Changes.{cut_between, followed, given_up_between, swept_between}
 use Rattle.run_base.specs.Letters.{BetweenNow, IsPicked}
 use Rattle.run_base.specs.Numbers.{next_aggregate}
 use Rattle.run_base.specs.Picks.{count_to}
-use Rattle.run_base.specs.Sweeps.{is_left_by, is_lost_by}
 use Rattle.run_laws.specs.shows.Stages.{StageNow}
 use Rattle.target_core.specs.Targets.{HearsOrStops, IdlesOrStops, TargetOf}
 use Rattle.run_watch.specs.Watches.{after_fault, with_life}
@@ -19,47 +17,11 @@ use Rattle.target_parts.specs.declared.stop.TargetStop.TheVariants as stops
 use Rattle.vos_store.specs.Calls.{State}
 use Rattle.world_base.specs.declared.did.Did.{Did}
 use Rattle.world_base.specs.declared.letter.Letter.{Letter}
-use Rattle.world_base.specs.declared.target.Life.{Life}
 use Rattle.world_base.specs.declared.target.Life.TheVariants.{Down, Stopped}
-use Rattle.world_base.specs.CutTurns.{listed_issue}
-use Rattle.world_base.specs.Events.{listed, with_epoch}
-use Rattle.world_base.specs.Letters.{asked_after, letters_of, target}
-use Rattle.world_base.specs.Stops.{is_not_to, is_prune_message, reset_letter, resets, stops_so_far}
+use Rattle.world_base.specs.Letters.{target}
+use Rattle.world_base.specs.Stops.{is_prune_message}
 
 -- ---- between actors
-
--- what follows from an actor's turn came about
-abbrev pub followed : ActorId → Did → BetweenNow → BetweenNow
-followed from did b = record {
-  messages = b.messages ++ letters_of from did.posts;
-  asked = asked_after b.asked (letters_of from did.posts);
-  issued = b.issued ++ listed did.issued;
-  lines = b.lines ++ map (with_epoch b.issued) did.lines;
-}
-
--- what goes to targets that are given up was lost
-abbrev pub swept_between : List Life → BetweenNow → BetweenNow
-swept_between lives b = record b {
-  messages = filter (is_left_by lives) (b.messages ++ map (reset_letter true) (filter (is_lost_by lives) b.asked));
-  asked = filter (is_left_by lives) b.asked;
-}
-
--- a target's turn was cut, in which it issued this epoch and told these lines
-abbrev pub cut_between : ℕ → Option (AttemptId × Epoch) → List Line → BetweenNow → BetweenNow
-cut_between t issued lines b = record {
-  messages = filter (is_not_to t) b.messages ++ resets t false b.asked;
-  asked = filter (is_not_to t) b.asked;
-  issued = b.issued ++ listed_issue issued;
-  lines = b.lines ++ lines ++ line.Stop (stops_so_far b.lines) t ∷ [];
-}
-
--- a target was given up
-abbrev pub given_up_between : ℕ → BetweenNow → BetweenNow
-given_up_between t b = record b {
-  messages = filter (is_not_to t) b.messages ++ resets t true b.asked;
-  asked = filter (is_not_to t) b.asked;
-  lines = b.lines ++ line.Down t ∷ [];
-}
 
 -- this lies between the actors from now on
 abbrev pub with_between : {S C : Type 0} → BetweenNow → StageNow S C → StageNow S C
