@@ -10,7 +10,7 @@ use Rattle.base_types.specs.declared.entry.Settle.{Settle}
 use Rattle.base_types.specs.declared.entry.Settle.TheVariants.{Commit, Abort, Confirm, Forget}
 use Rattle.base_types.specs.declared.id.AttemptId.{AttemptId}
 use Rattle.daos_model.specs.Answers.{is_before}
-use Rattle.daos_model.specs.BoolLaws.{and_left, and_right}
+use Rattle.daos_model.specs.BoolLaws.{and_left, and_right, clash}
 use Rattle.daos_model.specs.Changes.{committed_at, confirmed_at, is_other}
 use Rattle.daos_model.specs.Durables.{attempt_key, entry_key, is_entry_of, same_attempt}
 use Rattle.daos_model.specs.OrderLaws.{before-itself, rising-map}
@@ -32,6 +32,17 @@ both-pass p q (x ∷ xs) = by (p x) (q x) refl refl (both-pass p q xs)
     by true true e f more = ap (λ (b : Bool). if b then x ∷ filter q (filter p xs) else filter q (filter p xs)) f ∙ ap (λ z. x ∷ z) more ∙ sym (ap (λ (b : Bool). if b then x ∷ filter p (filter q xs) else filter p (filter q xs)) e)
     by true false e f more = ap (λ (b : Bool). if b then x ∷ filter q (filter p xs) else filter q (filter p xs)) f ∙ more
     by false true e f more = more ∙ sym (ap (λ (b : Bool). if b then x ∷ filter p (filter q xs) else filter p (filter q xs)) e)
+    by false false e f more = more
+
+-- where what passes one test passes another, those that pass the one are alike among those that pass the other
+pub among-passing : {T : Type 0} (p q : T → Bool) → ((x : T) → p x ≡ true → q x ≡ true) → (xs : List T) → filter p (filter q xs) ≡ filter p xs
+among-passing p q follows [] = refl
+among-passing p q follows (x ∷ xs) = by (p x) (q x) refl refl (among-passing p q follows xs)
+  where
+    by : (b c : Bool) → p x ≡ b → q x ≡ c → filter p (filter q xs) ≡ filter p xs → filter p (if c then x ∷ filter q xs else filter q xs) ≡ (if b then x ∷ filter p xs else filter p xs)
+    by true true e f more = ap (λ (b : Bool). if b then x ∷ filter p (filter q xs) else filter p (filter q xs)) e ∙ ap (λ z. x ∷ z) more
+    by true false e f more = clash (q x) (follows x e) f
+    by false true e f more = ap (λ (b : Bool). if b then x ∷ filter p (filter q xs) else filter p (filter q xs)) e ∙ more
     by false false e f more = more
 
 pub none-filter : {T : Type 0} (p q : T → Bool) (xs : List T) → list_any p xs ≡ false → list_any p (filter q xs) ≡ false
@@ -182,14 +193,14 @@ module _ (a : AttemptId) (s : Settle) (q : Entry → Bool) where
           let lt : is_before (entry_key u) (entry_key r) ≡ true = found-after (entry_key u) (is_entry_of a) us r (and_left (all_after entry_key (entry_key u) us) (is_rising entry_key us) rising) f in
           later-followed u us r apart (subst (λ b. is_before (entry_key u) (attempt_key b) ≡ true) (sym (keeps_attempt s r)) lt) (more f)
 
-pub owing-follows : (a : AttemptId) (s : Settle) (es : List Entry) (r : Entry) → is_rising entry_key es ≡ true → find (is_entry_of a) es ≡ Some r → filter is_owing (map (changed_at a s) es) ≡ owing_with (changed s r) (filter is_owing es)
-owing-follows a s es r rising found =
-    followed a s is_owing es r rising found
-    ∙ ap (λ x. if is_owing (changed s r) then put entry_key (changed s r) (filter (is_other x) (filter is_owing es)) else filter (is_other x) (filter is_owing es)) (sym (keeps_attempt s r ∙ found-is a es r found))
+pub owing-follows : (me : Option ℕ) (a : AttemptId) (s : Settle) (es : List Entry) (r : Entry) → is_rising entry_key es ≡ true → find (is_entry_of a) es ≡ Some r → filter (is_owing me) (map (changed_at a s) es) ≡ owing_with me (changed s r) (filter (is_owing me) es)
+owing-follows me a s es r rising found =
+    followed a s (is_owing me) es r rising found
+    ∙ ap (λ x. if is_owing me (changed s r) then put entry_key (changed s r) (filter (is_other x) (filter (is_owing me) es)) else filter (is_other x) (filter (is_owing me) es)) (sym (keeps_attempt s r ∙ found-is a es r found))
 
-pub room-follows : (a : AttemptId) (s : Settle) (es : List Entry) (r : Entry) → find (is_entry_of a) es ≡ Some r → length (filter (is_other (changed s r).attempt) (filter is_owing es)) < length es
-room-follows a s es r found =
-    subst (λ x. length (filter (is_other x) (filter is_owing es)) < length es) (sym (keeps_attempt s r ∙ found-is a es r found)) (one-less (is_entry_of a) is_owing es r found)
+pub room-follows : (me : Option ℕ) (a : AttemptId) (s : Settle) (es : List Entry) (r : Entry) → find (is_entry_of a) es ≡ Some r → length (filter (is_other (changed s r).attempt) (filter (is_owing me) es)) < length es
+room-follows me a s es r found =
+    subst (λ x. length (filter (is_other x) (filter (is_owing me) es)) < length es) (sym (keeps_attempt s r ∙ found-is a es r found)) (one-less (is_entry_of a) (is_owing me) es r found)
 
 -- ---- what a change of an attempt's entry tells
 
@@ -209,19 +220,19 @@ none-found p (e ∷ es) found = by (p e) found (none-found p es)
     by true f more = let no : ⊥ = cc in absurd no
     by false f more = more f
 
-module _ (a : AttemptId) (s : Settle) (es os : List Entry) where
+module _ (me : Option ℕ) (a : AttemptId) (s : Settle) (es os : List Entry) where
   -- the owing ones follow the entry that changed
-  pub follows : (e : Entry) → is_rising entry_key es ≡ true → os ≡ filter is_owing es → Some e ≡ option_map (changed s) (find (is_entry_of a) es) → owing_with e os ≡ filter is_owing (map (changed_at a s) es)
+  pub follows : (e : Entry) → is_rising entry_key es ≡ true → os ≡ filter (is_owing me) es → Some e ≡ option_map (changed s) (find (is_entry_of a) es) → owing_with me e os ≡ filter (is_owing me) (map (changed_at a s) es)
   follows e rising owing told =
       let r = found-changed s (find (is_entry_of a) es) e told in
-      ap (λ x. owing_with x os) (sym r.2) ∙ ap (owing_with (changed s r.0)) owing ∙ sym (owing-follows a s es r.0 rising r.1)
+      ap (λ x. owing_with me x os) (sym r.2) ∙ ap (owing_with me (changed s r.0)) owing ∙ sym (owing-follows me a s es r.0 rising r.1)
 
   -- and there is room for it
-  pub follows-room : (e : Entry) → os ≡ filter is_owing es → Some e ≡ option_map (changed s) (find (is_entry_of a) es) → length (filter (is_other e.attempt) os) < length es
+  pub follows-room : (e : Entry) → os ≡ filter (is_owing me) es → Some e ≡ option_map (changed s) (find (is_entry_of a) es) → length (filter (is_other e.attempt) os) < length es
   follows-room e owing told =
       let r = found-changed s (find (is_entry_of a) es) e told in
       subst (λ x. length (filter (is_other x.attempt) os) < length es) r.2
-      (subst (λ x. length (filter (is_other (changed s r.0).attempt) x) < length es) (sym owing) (room-follows a s es r.0 r.1))
+      (subst (λ x. length (filter (is_other (changed s r.0).attempt) x) < length es) (sym owing) (room-follows me a s es r.0 r.1))
 
   -- where the attempt has no entry nothing changes
   pub unchanged : None ≡ option_map (changed s) (find (is_entry_of a) es) → map (changed_at a s) es ≡ es

@@ -10,17 +10,20 @@ ghost use Rattle.dtx_entries.specs.Settling.{IsStep, entries_settled};
 use crate::owing::find_owing;
 use crate::{halves, loops, owing};
 use base_types::entry::{Entry, Settle};
+use base_types::epoch::TargetId;
 use base_types::id::AttemptId;
 use base_types::items::Memory;
 use std::alloc::Global;
 use std::marker::Model;
 
 /// Entries, in the order of attempts where no attempt has two, found by halves; and, apart, those that
-/// are committed and not surely confirmed by all other members. It keeps other lists too, slowly.
+/// a target leads, where it is known which one asks, and that are committed and not surely confirmed by
+/// all other members. It keeps other lists too, slowly.
 #[derive(Drop)]
 pub struct EntryTable {
     rows: Vec<Entry>,
     owing: Vec<Entry>,
+    me: Option<TargetId>,
     rises: bool,
 }
 
@@ -32,33 +35,40 @@ impl Model for EntryTable {
 
     ghost view = { λ t. record { items = t.rows.items; room = nat_lt (vec_len t.rows) (vec_capacity t.rows) && nat_lt (vec_len t.rows) (vec_capacity t.owing) } };
 
-    ghost invariant = { λ t. IsTable t.rows.items t.owing.items (vec_capacity t.owing) t.rises };
+    ghost invariant = { λ t. IsTable t.me t.rows.items t.owing.items (vec_capacity t.owing) t.rises };
 }
 
 impl EntryTable {
-    /// A table without entries.
+    /// A table without entries, which knows no target.
     pub fn new(alloc: Global) -> EntryTable
         ensures { result.items ≡ [] }
     {
         EntryTable {
             rows: Vec::new(alloc),
             owing: Vec::new(alloc),
+            me: None,
             rises: true,
         }
     }
 
-    /// The table of these entries.
+    /// The table of these entries, which a target keeps.
     ///
     /// # Errors
     ///
     /// For want of memory.
-    pub fn of_rows(alloc: Global, rows: Vec<Entry>) -> Result<EntryTable, Memory>
+    pub fn of_rows(alloc: Global, me: TargetId, rows: Vec<Entry>) -> Result<EntryTable, Memory>
         ensures { IfOk result (λ table. table.items ≡ rows.items) }
     {
+        let me = Some(me);
         let mut owing = Vec::with_capacity(alloc, rows.len())?;
-        find_owing(&mut owing, &rows);
+        find_owing(me, &mut owing, &rows);
         let rises = loops::is_rising(&rows);
-        Ok(EntryTable { rows, owing, rises })
+        Ok(EntryTable {
+            rows,
+            owing,
+            me,
+            rises,
+        })
     }
 
     /// The entries.
@@ -68,11 +78,17 @@ impl EntryTable {
         &self.rows
     }
 
-    /// The entries that are owing, in the same order.
-    pub fn owing(&self) -> &[Entry]
-        ensures { result.now ≡ filter is_owing self.now.items }
+    /// Entries among which stand all that a target owes, in the same order: those alone, where the table is
+    /// this target's.
+    pub fn owing(&self, me: TargetId) -> &[Entry]
+        ensures { filter (is_owing (Some me)) result.now ≡ filter (is_owing (Some me)) self.now.items }
     {
-        &self.owing
+        if let Some(mine) = self.me {
+            if mine == me {
+                return &self.owing;
+            }
+        }
+        &self.rows
     }
 
     /// The first entry of an attempt, if there is one.
@@ -117,9 +133,9 @@ impl EntryTable {
         ensures { self.new.items ≡ put entry_key entry self.old.items }
     {
         if self.rises && halves::row_at(&self.rows, entry.attempt).is_none() {
-            owing::put(&mut self.rows, &mut self.owing, entry);
+            owing::put(self.me, &mut self.rows, &mut self.owing, entry);
         } else {
-            owing::put_anywhere(&mut self.rows, &mut self.owing, entry);
+            owing::put_anywhere(self.me, &mut self.rows, &mut self.owing, entry);
             self.rises = false;
         }
     }
@@ -145,9 +161,9 @@ impl EntryTable {
         ensures { self.new.items ≡ entries_settled attempt step self.old.items }
     {
         if self.rises {
-            owing::settle(&mut self.rows, &mut self.owing, attempt, step);
+            owing::settle(self.me, &mut self.rows, &mut self.owing, attempt, step);
         } else {
-            owing::settle_anywhere(&mut self.rows, &mut self.owing, attempt, step);
+            owing::settle_anywhere(self.me, &mut self.rows, &mut self.owing, attempt, step);
         }
     }
 }

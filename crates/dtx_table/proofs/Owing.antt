@@ -1,5 +1,5 @@
 -- What a leader does by some entries alone: the owing ones, or those of one attempt.
-use Rattle.std.proofs.Common.{◌≡◌, ℕ, Bool, true, false, ◌&&◌, not, List, [], ◌∷◌, ◌++◌, Option, Some, None, filter, find, refl, sym, ◌∙◌, ap, subst, arith}
+use Rattle.std.proofs.Common.{◌≡◌, ℕ, Bool, true, false, ◌&&◌, not, List, ◌++◌, Option, Some, None, filter, find, refl, sym, ◌∙◌, ap, subst, arith}
 use Rattle.std.specs.Prelude.{◌==◌, ◌^◌, bit_or, if◌then◌else◌, nat_lt}
 use Rattle.std.specs.List.{list_any}
 use Rattle.std.proofs.lemmas.Bool.Decides.{nat_tests}
@@ -15,6 +15,7 @@ use Rattle.dtx_base.specs.Members.{all_targets, are_all_counted, is_other_member
 use Rattle.dtx_base.specs.Rows.{is_among}
 use Rattle.dtx_entries.specs.Owing.{is_confirmed, is_owing}
 use Rattle.dtx_entries.specs.Places.{IsAlike}
+use Rattle.dtx_entries.proofs.Followed.{among-passing}
 use Rattle.dtx_table.specs.declared.seat.Seat.{Seat}
 use Rattle.dtx_table.specs.Due.{bit_of, is_owed_somewhere, may_owe}
 use Rattle.dtx_table.specs.Seats.{came, leader_of}
@@ -23,17 +24,19 @@ use Rattle.dtx_table.proofs.Dues.{due-somewhere, marks_same, names_same, somewhe
 -- ---- the owing ones
 
 -- what a leader may have to tell others is owing
-may_owe-owing : (me : ℕ) (e : Entry) → may_owe me e ≡ true → is_owing e ≡ true
+may_owe-owing : (me : ℕ) (e : Entry) → may_owe me e ≡ true → is_owing (Some me) e ≡ true
 unfolding may_owe is_owing is_confirmed
 may_owe-owing me e may =
-    both e.committed (not (nat_lt e.leader 64 && (e.members == bit_or e.confirmed (2 ^ e.leader))))
+    both (is_led me e) (e.committed && not (nat_lt e.leader 64 && (e.members == bit_or e.confirmed (2 ^ e.leader)))) led
+    (both e.committed (not (nat_lt e.leader 64 && (e.members == bit_or e.confirmed (2 ^ e.leader))))
     (and_right (not (e.members == bit_or e.confirmed (bit_of me)) && is_led me e) e.committed may)
-    (ap not (false_of (nat_lt e.leader 64 && (e.members == bit_or e.confirmed (2 ^ e.leader))) sure))
+    (ap not (false_of (nat_lt e.leader 64 && (e.members == bit_or e.confirmed (2 ^ e.leader))) sure)))
   where
+    led : is_led me e ≡ true
+    led = and_right (not (e.members == bit_or e.confirmed (bit_of me))) (is_led me e) (and_left (not (e.members == bit_or e.confirmed (bit_of me)) && is_led me e) e.committed may)
+
     leads : e.leader ≡ me
-    leads =
-        let led : is_led me e ≡ true = and_right (not (e.members == bit_or e.confirmed (bit_of me))) (is_led me e) (and_left (not (e.members == bit_or e.confirmed (bit_of me)) && is_led me e) e.committed may) in
-        grind (arith, nat_tests)
+    leads = let is : is_led me e ≡ true = led in grind (arith, nat_tests)
 
     apart : (e.members == bit_or e.confirmed (bit_of me)) ≡ false
     apart = not_true (e.members == bit_or e.confirmed (bit_of me)) (and_left (not (e.members == bit_or e.confirmed (bit_of me))) (is_led me e) (and_left (not (e.members == bit_or e.confirmed (bit_of me)) && is_led me e) e.committed may))
@@ -46,46 +49,39 @@ may_owe-owing me e may =
         ∙ and_right (nat_lt me 64) (e.members == bit_or e.confirmed (2 ^ me)) own)
         apart
 
-among-passing : {T : Type 0} (p q : T → Bool) → ((x : T) → p x ≡ true → q x ≡ true) → (xs : List T) → filter p (filter q xs) ≡ filter p xs
-among-passing p q follows [] = refl
-among-passing p q follows (x ∷ xs) = by (p x) (q x) refl refl (among-passing p q follows xs)
-  where
-    by : (b c : Bool) → p x ≡ b → q x ≡ c → filter p (filter q xs) ≡ filter p xs → filter p (if c then x ∷ filter q xs else filter q xs) ≡ (if b then x ∷ filter p xs else filter p xs)
-    by true true e f more = ap (λ (b : Bool). if b then x ∷ filter p (filter q xs) else filter p (filter q xs)) e ∙ ap (λ z. x ∷ z) more
-    by true false e f more = clash (q x) (follows x e) f
-    by false true e f more = ap (λ (b : Bool). if b then x ∷ filter p (filter q xs) else filter p (filter q xs)) e ∙ more
-    by false false e f more = more
+owing-may_owe : (me : ℕ) (es : List Entry) → filter (may_owe me) (filter (is_owing (Some me)) es) ≡ filter (may_owe me) es
+owing-may_owe me es = among-passing (may_owe me) (is_owing (Some me)) (may_owe-owing me) es
 
-owing-may_owe : (me : ℕ) (es : List Entry) → filter (may_owe me) (filter is_owing es) ≡ filter (may_owe me) es
-owing-may_owe me es = among-passing (may_owe me) is_owing (may_owe-owing me) es
+module _ (s : Seat) (some es : List Entry) (m : LeaderMemory) (same : filter (is_owing (Some s.me)) some ≡ filter (is_owing (Some s.me)) es) where
+  may_owe-same : filter (may_owe s.me) some ≡ filter (may_owe s.me) es
+  may_owe-same = sym (owing-may_owe s.me some) ∙ ap (filter (may_owe s.me)) same ∙ owing-may_owe s.me es
 
-module _ (s : Seat) (es : List Entry) (m : LeaderMemory) where
-  marks-owing : (ts : List ℕ) → marks_for s.incarnation m.down m.named (filter (is_led s.me) (filter is_owing es)) ts ≡ marks_for s.incarnation m.down m.named (filter (is_led s.me) es) ts
+  marks-owing : (ts : List ℕ) → marks_for s.incarnation m.down m.named (filter (is_led s.me) some) ts ≡ marks_for s.incarnation m.down m.named (filter (is_led s.me) es) ts
   marks-owing ts =
-      sym (marks_same s.me s.incarnation m.down m.named (filter is_owing es) ts)
-      ∙ ap (λ x. marks_for s.incarnation m.down m.named x ts) (owing-may_owe s.me es)
+      sym (marks_same s.me s.incarnation m.down m.named some ts)
+      ∙ ap (λ x. marks_for s.incarnation m.down m.named x ts) may_owe-same
       ∙ marks_same s.me s.incarnation m.down m.named es ts
 
-  names-owing : (ts : List ℕ) → names_for s.incarnation m.down m.named (filter (is_led s.me) (filter is_owing es)) ts ≡ names_for s.incarnation m.down m.named (filter (is_led s.me) es) ts
+  names-owing : (ts : List ℕ) → names_for s.incarnation m.down m.named (filter (is_led s.me) some) ts ≡ names_for s.incarnation m.down m.named (filter (is_led s.me) es) ts
   names-owing ts =
-      sym (names_same s.me s.incarnation m.down m.named (filter is_owing es) ts)
-      ∙ ap (λ x. names_for s.incarnation m.down m.named x ts) (owing-may_owe s.me es)
+      sym (names_same s.me s.incarnation m.down m.named some ts)
+      ∙ ap (λ x. names_for s.incarnation m.down m.named x ts) may_owe-same
       ∙ names_same s.me s.incarnation m.down m.named es ts
 
   -- a batch is of the owing ones
-  pub batched-owing : came (batched (leader_of s (filter is_owing es) m)) ≡ came (batched (leader_of s es m))
+  pub batched-owing : came (batched (leader_of s some m)) ≡ came (batched (leader_of s es m))
   unfolding batched
   batched-owing =
-      ap (λ ns. (record m { named = m.named ++ ns }, marks_for s.incarnation m.down m.named (filter (is_led s.me) (filter is_owing es)) all_targets)) (names-owing all_targets)
+      ap (λ ns. (record m { named = m.named ++ ns }, marks_for s.incarnation m.down m.named (filter (is_led s.me) some) all_targets)) (names-owing all_targets)
       ∙ ap (λ ps. (record m { named = m.named ++ names_for s.incarnation m.down m.named (filter (is_led s.me) es) all_targets }, ps)) (marks-owing all_targets)
 
   -- and is due where one of them is
-  pub due-owing : is_batch_due (leader_of s (filter is_owing es) m) ≡ is_batch_due (leader_of s es m)
+  pub due-owing : is_batch_due (leader_of s some m) ≡ is_batch_due (leader_of s es m)
   unfolding is_batch_due
   due-owing =
-      sym (due-somewhere m.down m.named (filter (is_led s.me) (filter is_owing es)))
-      ∙ sym (somewhere-same s.me m.down m.named (filter is_owing es))
-      ∙ ap (list_any (is_owed_somewhere m.down m.named)) (owing-may_owe s.me es)
+      sym (due-somewhere m.down m.named (filter (is_led s.me) some))
+      ∙ sym (somewhere-same s.me m.down m.named some)
+      ∙ ap (list_any (is_owed_somewhere m.down m.named)) may_owe-same
       ∙ somewhere-same s.me m.down m.named es
       ∙ due-somewhere m.down m.named (filter (is_led s.me) es)
 

@@ -75,14 +75,14 @@ fn batch(leader: &mut Decisions, seat: Seat, entries: &EntryTable) -> Result<Pos
     ensures ok { IfOk result (λ posts. (leader.new, posts) ≡ came (batched (leader_of seat entries.now.items leader.old))) }
     ensures err { OnErr result (leader.new ≡ leader.old) }
 {
-    leader.batch(seat, entries.owing())
+    leader.batch(seat, entries.owing(seat.me))
 }
 
 // Whether the leader has a commit to tell of.
 fn has_batch(leader: &Decisions, seat: Seat, entries: &EntryTable) -> bool
     ensures { result ≡ is_batch_due (leader_of seat entries.now.items leader.now) }
 {
-    leader.has_batch(seat, entries.owing())
+    leader.has_batch(seat, entries.owing(seat.me))
 }
 
 // What it tells and asks, once all that it decided is settled.

@@ -48,7 +48,7 @@ pub fn first_knows(
         stamps: Stamps::new(alloc)?,
         leader: Decisions::new(alloc, plan.me, &entries)?,
         member: Member::new(alloc, plan.me, plan.targets)?,
-        entries: EntryTable::of_rows(alloc, entries)?,
+        entries: EntryTable::of_rows(alloc, plan.me, entries)?,
     })
 }
 

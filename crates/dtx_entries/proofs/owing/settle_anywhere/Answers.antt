@@ -16,7 +16,7 @@ returns-clause-is c =
     let rows = c.args.rows.now.items in
     let same : length c.settle_rows.new.rows.items ≡ length (entries_settled c.args.attempt c.args.step rows) = ap length c.settle_rows.ensures.items in
     record {
-      owing = c.find_owing.ensures.items ∙ ap (filter is_owing) c.deref.ensures.value;
+      owing = c.find_owing.ensures.items ∙ ap (filter (is_owing c.args.me)) c.deref.ensures.value;
       memory = omega (arith, same, settled-fewer c.args.attempt c.args.step rows, c.args.rows.now.ok.0, c.requires.room, c.find_owing.ensures.capacity);
       rising = λ h. absurd (false≢true h);
     }
