@@ -5,3 +5,5 @@ pub mod Newest
 pub mod Stretches
 pub mod Marking
 pub mod Naming
+pub mod Apart
+pub mod NamePlaces

@@ -8,3 +8,4 @@ pub mod Laws
 pub mod Layers
 pub mod Marks
 pub mod Names
+pub mod Paths

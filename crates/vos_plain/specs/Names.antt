@@ -5,6 +5,7 @@ use Rattle.base_types.specs.declared.operation.Write.TheVariants.{Single, Extent
 use Rattle.base_types.specs.declared.path.Path.{Path}
 use Rattle.daos_model.specs.declared.durable.Version.{Version}
 use Rattle.daos_model.specs.Answers.{dkey_under, option_among}
+use Rattle.daos_model.specs.Ordered.{is_rising}
 use Rattle.daos_model.specs.Prunes.{is_punch}
 use Rattle.daos_model.specs.Versions.{sees}
 use Rattle.vos_plain.specs.Marks.{mark_at}
@@ -29,3 +30,11 @@ is_seen_punch e v = sees e v && is_punch v.write
 abbrev pub names_from : Path → ℕ → List Version → List (List ℕ) → List (List ℕ)
 names_from p e [] ns = ns
 names_from p e (v ∷ vs) ns = names_from p e vs (option_among (dkey_by p e v) ns)
+
+-- a name's place among others goes by its bytes
+abbrev pub name_key : List ℕ → List ℕ
+name_key n = n
+
+-- names stand in byte order, none of them twice
+abbrev pub are_in_order : List (List ℕ) → Bool
+are_in_order ns = is_rising name_key ns

@@ -5,6 +5,7 @@ ghost use Rattle.daos_model.specs.Answers.{pieces};
 ghost use Rattle.daos_model.specs.Versions.{map_below};
 ghost use Rattle.vos_plain.specs.Layers.{covers, covers_at, is_about, is_layer, lent, meets, record_by};
 
+use crate::paths::{leads_to, same};
 use crate::pieces::add_index;
 use base_types::answer::Piece;
 use base_types::epoch::Epoch;
@@ -31,9 +32,9 @@ fn is_about(write: &Write, path: &Path, low: u32, len: u32) -> bool
     match write {
         Write::Single(_, _) => false,
         Write::Extent(at, first, bytes) => {
-            meets(*first, count_records(at, bytes.len()), low, len) && at.same(path)
+            meets(*first, count_records(at, bytes.len()), low, len) && same(at, path)
         }
-        Write::PunchObject(at) | Write::PunchDkey(at) | Write::PunchAkey(at) => at.leads_to(path),
+        Write::PunchObject(at) | Write::PunchDkey(at) | Write::PunchAkey(at) => leads_to(at, path),
     }
 }
 

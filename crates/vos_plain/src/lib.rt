@@ -9,6 +9,7 @@ mod layers;
 mod marks;
 mod names;
 mod objects;
+mod paths;
 mod pieces;
 mod plain;
 pub mod reads;

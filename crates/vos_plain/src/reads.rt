@@ -1,19 +1,20 @@
 // What reads are answered on versions in a row.
 ghost use Rattle.std.specs.Prelude.{◌≡◌, true, false, find, reverse, IfOk};
-ghost use Rattle.std.specs.List.{list_all, list_any};
+ghost use Rattle.std.specs.List.{list_all};
 ghost use Rattle.std.specs.Option.{option_copied};
 ghost use Rattle.base_types.specs.declared.operation.Read.TheVariants.{Dkeys};
 ghost use Rattle.daos_model.specs.Answers.{answer, value_answer};
 ghost use Rattle.daos_model.specs.Cells.{single_cell};
 ghost use Rattle.daos_model.specs.Durables.{is_version_in_form};
+ghost use Rattle.daos_model.specs.Prunes.{touches};
 ghost use Rattle.daos_model.specs.Versions.{map_below};
 ghost use Rattle.vos_plain.specs.Marks.{asks_names};
-ghost use Rattle.vos_plain.specs.Names.{is_seen_punch};
 ghost use Rattle.vos_plain.specs.Newest.{says_at, single_of};
 
 use crate::layers::pieces_below;
 use crate::marks::marks_below;
-use crate::names::{dkeys_by, is_punched};
+use crate::names::dkeys_by;
+use crate::paths::{leads_to, same};
 use base_types::answer::Answer;
 use base_types::epoch::Epoch;
 use base_types::items::{Items, Memory};
@@ -21,14 +22,26 @@ use base_types::operation::{Read, Write};
 use base_types::path::Path;
 use daos_model::answers::answer_of;
 use daos_model::durable::Version;
-use daos_model::prunes::{is_seen, touches};
+use daos_model::prunes::is_seen;
 use std::alloc::Global;
 
-// Whether a version below an epoch says what the single value at a path holds.
+// Whether a write says what the single value at a path holds.
+#[tactic(auto, unfolding(daos_model::specs::Prunes::touches))]
+fn touches(write: &Write, path: &Path) -> bool
+    ensures { result ≡ touches (single_cell path.now) write.now }
+{
+    match write {
+        Write::Single(at, _) => same(at, path),
+        Write::Extent(_, _, _) => false,
+        Write::PunchObject(at) | Write::PunchDkey(at) | Write::PunchAkey(at) => leads_to(at, path),
+    }
+}
+
+// Whether a version below an epoch does.
 fn says(row: &Version, path: &Path, below: Epoch) -> bool
     ensures { result ≡ says_at (single_cell path.now) below.0 row.now }
 {
-    is_seen(row, u128::from(below.0)) && touches(&row.write, path, None)
+    is_seen(row, u128::from(below.0)) && touches(&row.write, path)
 }
 
 // The last version that does.
@@ -66,25 +79,7 @@ fn answer_by_marks(
     answer_of(alloc, &marks, read)
 }
 
-// What a read of dkeys is answered where no punch is seen: they are those of the updates.
-fn answer_unpunched(
-    alloc: Global,
-    rows: &[Version],
-    read: &Read,
-    path: &Path,
-    below: Epoch,
-) -> Result<Answer, Memory>
-    requires form { list_all is_version_in_form rows.now ≡ true }
-    requires dkeys { read.now ≡ Dkeys path.now }
-    requires unpunched { list_any (is_seen_punch below.0) rows.now ≡ false }
-    ensures { IfOk result (λ a. a ≡ answer read.now (map_below rows.now below.0)) }
-{
-    let _read = read;
-    let names = dkeys_by(alloc, rows, path, below)?;
-    Ok(Answer::Names(Items::from_vec(names)))
-}
-
-// What a read of dkeys is answered.
+// What a read of dkeys is answered: where no punch is seen, they are those of the updates.
 fn answer_dkeys(
     alloc: Global,
     rows: &[Version],
@@ -96,10 +91,9 @@ fn answer_dkeys(
     requires dkeys { read.now ≡ Dkeys path.now }
     ensures { IfOk result (λ a. a ≡ answer read.now (map_below rows.now below.0)) }
 {
-    if is_punched(rows, below) {
-        answer_by_marks(alloc, rows, read, below)
-    } else {
-        answer_unpunched(alloc, rows, read, path, below)
+    match dkeys_by(alloc, rows, path, below)? {
+        Some(names) => Ok(Answer::Names(Items::from_vec(names))),
+        None => answer_by_marks(alloc, rows, read, below),
     }
 }
 
