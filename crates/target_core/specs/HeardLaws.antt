@@ -22,7 +22,7 @@ use Rattle.world_base.specs.Further.{CommitDown}
 use Rattle.world_base.specs.Statuses.{down_of}
 use Rattle.world_base.specs.TargetTurns.{Hears, commit_request}
 use Rattle.world_base.specs.Turns.{Reached}
-use Rattle.target_core.specs.Targets.{Further, HasForm, Heard, Plainly, is_held, is_of_client}
+use Rattle.target_core.specs.Targets.{Further, HasForm, Heard, Plainly, has_epoch, is_held, is_making, is_of_client, is_of_command}
 
 -- ---- where nothing stopped
 
@@ -111,3 +111,25 @@ held-of_target (message.Status x inc) held = let no : ⊥ = cc in absurd no
 held-of_target (message.StatusIs x inc how) held = let no : ⊥ = cc in absurd no
 held-of_target (message.Freeze x c s) held = let no : ⊥ = cc in absurd no
 held-of_target (message.Reset' by down place asked) held = let no : ⊥ = cc in absurd no
+
+-- what is no command of a client, and makes nothing, has its epoch
+pub others-have-epoch : (m : Message) → is_of_command m ≡ false → is_making m ≡ false → has_epoch m ≡ true
+others-have-epoch (message.Held x refusal) other none = refl
+others-have-epoch (message.Fetch x op group ep first tracker r snapshot) other none = let no : ⊥ = cc in absurd no
+others-have-epoch (message.Fetched x op group ep reply) other none = refl
+others-have-epoch (message.Commit x ep first tracker ws) other none = let no : ⊥ = cc in absurd no
+others-have-epoch (message.Ask x) other none = refl
+others-have-epoch (message.Snap x c name tracker) other none = let no : ⊥ = cc in absurd no
+others-have-epoch (message.Prune x c tracker e) other none = let no : ⊥ = cc in absurd no
+others-have-epoch (message.Ended x ep how) other none = refl
+others-have-epoch (message.Tell tracker) other none = refl
+others-have-epoch (message.Prepare e first ws inc) other none = refl
+others-have-epoch (message.Ack x inc refusal) other none = refl
+others-have-epoch (message.Mark inc marks) other none = refl
+others-have-epoch (message.Marked inc ids) other none = refl
+others-have-epoch (message.Query x ask) other none = refl
+others-have-epoch (message.Verdict x ask inc v) other none = refl
+others-have-epoch (message.Status x inc) other none = refl
+others-have-epoch (message.StatusIs x inc how) other none = refl
+others-have-epoch (message.Freeze x c s) other none = refl
+others-have-epoch (message.Reset' by down place asked) other none = refl

@@ -8,7 +8,7 @@ ghost use Rattle.daos_model.specs.declared.durable.Durable.{Durable};
 ghost use Rattle.world_contents.specs.posts.Forms.{AreWrites, PostsInForm};
 ghost use Rattle.snap_core.specs.Snaps.{SnapOf, remembered};
 ghost use Rattle.target_parts.specs.Knowing.{memory_of};
-ghost use Rattle.target_parts.specs.Readings.{IsReadUpTo, most_readings};
+ghost use Rattle.target_parts.specs.Readings.{IsReadBy};
 ghost use Rattle.target_parts.specs.Standing.{IsTarget, TurnRuns};
 ghost use Rattle.target_core.specs.Targets.{HearsOrStops};
 ghost use Rattle.target_writes.specs.Checks.{CanCommit};
@@ -49,7 +49,7 @@ pub(crate) fn hear_any_commit<S: Store, C: Clock>(
     ensures ends { (asked : Asked) → asked request.now.attempt ≡ true → IfOk result (λ did. EndsAsked asked knows.old.leader knows.new.leader did.posts) }
     ensures target { IsTarget plan (S.state store.new) (S.durable store.new) knows.new }
     ensures stopped { TurnRuns result (S.state store.old) (S.state store.new) (S.durable store.old) (S.durable store.new) }
-    ensures clock { IsReadUpTo C.is_read (most_readings (is_some request.now.ep)) clock.old clock.new }
+    ensures clock { IsReadBy C.is_read (is_some request.now.ep) result clock.old clock.new }
 {
     let members = members_of(alloc, request.writes.as_slice(), plan.targets)?;
     match knows.leader.down_among(members) {

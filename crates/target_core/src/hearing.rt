@@ -15,7 +15,7 @@ ghost use Rattle.target_parts.specs.Standing.{IsTarget, TurnRuns};
 ghost use Rattle.target_parts.specs.Stops.{IsSilent, stop_foreign, stop_store};
 ghost use Rattle.target_snaps.specs.Following.{IsWithin, TellsNoAttempt};
 ghost use Rattle.target_snaps.specs.HeldTurns.{AreFrozenHere, IsSnapsOf};
-ghost use Rattle.target_parts.specs.Readings.{IsReadUpTo, most_readings};
+ghost use Rattle.target_parts.specs.Readings.{IsReadBy};
 
 use crate::after_stops::{hear_after_stops, is_after_stops};
 use crate::commits::hear_any_commit;
@@ -61,7 +61,7 @@ fn hear_client<S: Store, C: Clock>(
     ensures ends { (asked : Asked) → GoesWith asked message → IfOk result (λ did. EndsAsked asked knows.old.leader knows.new.leader did.posts) }
     ensures target { IsTarget plan (S.state store.new) (S.durable store.new) knows.new }
     ensures stopped { TurnRuns result (S.state store.old) (S.state store.new) (S.durable store.old) (S.durable store.new) }
-    ensures clock { IsReadUpTo C.is_read (most_readings (has_epoch message)) clock.old clock.new }
+    ensures clock { IsReadBy C.is_read (has_epoch message) result clock.old clock.new }
 {
     match message {
         Message::Fetch {
@@ -267,7 +267,7 @@ fn hear_led<S: Store, C: Clock>(
     ensures ends { (asked : Asked) → GoesWith asked message → IfOk result (λ did. EndsAsked asked knows.old.leader knows.new.leader did.posts) }
     ensures target { IsTarget plan (S.state store.new) (S.durable store.new) knows.new }
     ensures stopped { TurnRuns result (S.state store.old) (S.state store.new) (S.durable store.old) (S.durable store.new) }
-    ensures clock { IsReadUpTo C.is_read (most_readings (has_epoch message)) clock.old clock.new }
+    ensures clock { IsReadBy C.is_read (has_epoch message) result clock.old clock.new }
 {
     if is_of_command(&message) {
         hear_client(alloc, plan, store, clock, knows, from, message)
@@ -308,7 +308,7 @@ pub(crate) fn hear_message<S: Store, C: Clock>(
     ensures target { IsTarget plan (S.state store.new) (S.durable store.new) knows.new }
     ensures runs { Runs stop_store result (S.state store.old) (S.state store.new) (S.durable store.old) (S.durable store.new) }
     ensures native { says stop_foreign result ≡ false }
-    ensures clock { IsReadUpTo C.is_read (most_readings (has_epoch message)) clock.old clock.new }
+    ensures clock { IsReadBy C.is_read (has_epoch message) result clock.old clock.new }
 {
     if is_making(&message) {
         hear_making(

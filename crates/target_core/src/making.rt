@@ -12,7 +12,7 @@ ghost use Rattle.world_ended.specs.Asking.{Asked, GoesWith, TurnsEndAsked};
 ghost use Rattle.world_letters.specs.kinds.Loads.{AnswersOnce};
 ghost use Rattle.target_parts.specs.Knowing.{memory_of};
 ghost use Rattle.target_parts.specs.Parts.{Runs};
-ghost use Rattle.target_parts.specs.Readings.{IsReadUpTo, most_readings};
+ghost use Rattle.target_parts.specs.Readings.{IsReadBy};
 ghost use Rattle.target_parts.specs.Standing.{IsTarget};
 ghost use Rattle.target_parts.specs.Stops.{stop_foreign, stop_store};
 ghost use Rattle.target_snaps.specs.Following.{IsWithin, TellsNoAttempt};
@@ -79,7 +79,7 @@ fn hear_any_prune<S: Store, C: Clock>(
     ensures target { IsTarget plan (S.state store.new) (S.durable store.new) knows.new }
     ensures runs { Runs stop_store result (S.state store.old) (S.state store.new) (S.durable store.old) (S.durable store.new) }
     ensures native { says stop_foreign result ≡ false }
-    ensures clock { IsReadUpTo C.is_read (most_readings (has_epoch (asked.Prune request.attempt request.cont tracker epoch))) clock.old clock.new }
+    ensures clock { IsReadBy C.is_read (has_epoch (asked.Prune request.attempt request.cont tracker epoch)) result clock.old clock.new }
 {
     match tracker {
         Some(tracker) => hear_aggregate(
@@ -123,7 +123,7 @@ pub(crate) fn hear_making<S: Store, C: Clock>(
     ensures target { IsTarget plan (S.state store.new) (S.durable store.new) knows.new }
     ensures runs { Runs stop_store result (S.state store.old) (S.state store.new) (S.durable store.old) (S.durable store.new) }
     ensures native { says stop_foreign result ≡ false }
-    ensures clock { IsReadUpTo C.is_read (most_readings (has_epoch message.now)) clock.old clock.new }
+    ensures clock { IsReadBy C.is_read (has_epoch message.now) result clock.old clock.new }
 {
     match message {
         Message::Snap {

@@ -14,8 +14,8 @@ ghost use Rattle.world_base.specs.Idle.{has_idle};
 ghost use Rattle.world_contents.specs.posts.Forms.{TurnFollows, TurnsPostInForm};
 ghost use Rattle.target_parts.specs.Knowing.{IsHeard};
 ghost use Rattle.target_parts.specs.Parts.{Runs};
-ghost use Rattle.target_parts.specs.Readings.{IsReadUpTo, most_readings};
-ghost use Rattle.target_parts.specs.Stops.{IsSilent, stop_foreign, stop_store};
+ghost use Rattle.target_parts.specs.Readings.{AreReadings, IsReadUpTo, most_readings};
+ghost use Rattle.target_parts.specs.Stops.{IsSilent, stop_foreign, stop_store, stop_wanting};
 ghost use Rattle.target_snaps.specs.Following.{TellsNoAttempt};
 ghost use Rattle.target_resync.specs.Openings.{IsBare, Left, Reopens, TellsRestart};
 ghost use Rattle.target_core.specs.Targets.{CanHear, HearsOrStops, IdlesOrStops, IsInForm, OpensAs, has_epoch, is_held, is_making, is_of_client};
@@ -142,7 +142,7 @@ impl<S: Store, C: Clock> Target<S, C> {
     }
 
     /// It hears a message, and tells what follows. Its clock is read once at most, and only where an
-    /// epoch is issued. The number is one drawn for this turn, for an aggregation; a Prune uses it.
+    /// epoch is to be issued; there just once, unless memory is wanting. The number is one drawn for this turn, for an aggregation; a Prune uses it.
     ///
     /// # Errors
     ///
@@ -169,6 +169,7 @@ impl<S: Store, C: Clock> Target<S, C> {
         ensures told { TellsNoAttempt result }
         ensures silent { is_making message ≡ false → IsSilent result }
         ensures clock { IsReadUpTo C.is_read (most_readings (has_epoch message)) self.old.clock self.new.clock }
+        ensures read { says stop_wanting result ≡ false → AreReadings C.is_read (most_readings (has_epoch message)) self.old.clock self.new.clock }
         ensures unread { has_epoch message ≡ true → self.new.clock ≡ self.old.clock }
         ensures posts { is_of_client message ≡ from.client → IfOk result (λ did. TurnsPostInForm self.old.plan.targets self.old.memory self.new.memory did.posts) }
         ensures reads { IfOk result (λ did. AnswersOnce (message ∷ []) self.old.memory.member self.new.memory.member did.posts) }

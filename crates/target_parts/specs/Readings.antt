@@ -1,7 +1,12 @@
 -- How often a turn reads its clock.
-use Rattle.std.proofs.Common.{ℕ, ◌≡◌, ◌≤◌, ◌+◌, refl, sym, subst, Bool, true, false, Option, None, is_some, arith}
-use Rattle.base_outside.specs.Clocks.{AreReadings, ReadOn, Unread, both-readings}
+use Rattle.std.proofs.Common.{ℕ, ◌≡◌, ◌≤◌, ◌+◌, refl, sym, ap, subst, Bool, true, false, Option, None, is_some, arith}
+use Rattle.std.specs.Prelude.{Result}
+pub use Rattle.base_outside.specs.Clocks.{AreReadings, ReadOn, Unread}
+use Rattle.base_outside.specs.Clocks.{both-readings}
 use Rattle.base_types.specs.declared.epoch.Epoch.{Epoch}
+use Rattle.target_parts.specs.declared.stop.TargetStop.{TargetStop}
+use Rattle.target_parts.specs.Stops.{stop_wanting}
+use Rattle.vos_store.specs.Refusals.{says}
 
 -- a clock was read so often at most
 pub record IsReadUpTo {C : Type 0} (IsRead : C → C → Type 0) (most : ℕ) (c d : C) : Type 0 where
@@ -14,11 +19,28 @@ abbrev pub most_readings : (known : Bool) → ℕ
 most_readings true = 0
 most_readings false = 1
 
-pub not-read : {C : Type 0} (IsRead : C → C → Type 0) (most : ℕ) (c : C) → IsReadUpTo IsRead most c c
-not-read IsRead most c = record { times = 0; few = omega arith; readings = Unread }
+-- A turn read its clock just as often, unless memory was wanting in it, and never more often.
+pub record IsReadBy {C T : Type 0} (IsRead : C → C → Type 0) (known : Bool) (result : Result T TargetStop) (c d : C) : Type 0 where
+  pub few : IsReadUpTo IsRead (most_readings known) c d
+  pub just : says stop_wanting result ≡ false → AreReadings IsRead (most_readings known) c d
 
-pub read-once : {C : Type 0} (IsRead : C → C → Type 0) (ep : Option Epoch) (c d : C) → ep ≡ None → IsRead c d → IsReadUpTo IsRead (most_readings (is_some ep)) c d
-read-once IsRead ep c d none one = subst (λ o. IsReadUpTo IsRead (most_readings (is_some o)) c d) (sym none) (record { times = 1; few = omega arith; readings = ReadOn Unread one })
+-- where the epoch is known the clock wasn't read
+pub not-read : {C : Type 0} (IsRead : C → C → Type 0) (known : Bool) (c : C) → known ≡ true → AreReadings IsRead (most_readings known) c c
+not-read IsRead known c is = subst (λ b. AreReadings IsRead (most_readings b) c c) (sym is) Unread
+
+pub read-once : {C : Type 0} (IsRead : C → C → Type 0) (ep : Option Epoch) (c d : C) → ep ≡ None → IsRead c d → AreReadings IsRead (most_readings (is_some ep)) c d
+read-once IsRead ep c d none one = subst (λ o. AreReadings IsRead (most_readings (is_some o)) c d) (sym none) (ReadOn Unread one)
+
+-- a turn that read its clock just so often
+pub read-by : {C T : Type 0} (IsRead : C → C → Type 0) (known : Bool) (result : Result T TargetStop) (c d : C) → AreReadings IsRead (most_readings known) c d → IsReadBy IsRead known result c d
+read-by IsRead known result c d k = record { few = record { times = most_readings known; few = omega arith; readings = k }; just = λ whole. k }
+
+pub not-read-by : {C T : Type 0} (IsRead : C → C → Type 0) (known : Bool) (result : Result T TargetStop) (c : C) → known ≡ true → IsReadBy IsRead known result c c
+not-read-by IsRead known result c is = read-by IsRead known result c c (not-read IsRead known c is)
+
+-- one in which memory was wanting before it read its clock
+pub wanting-by : {C T : Type 0} (IsRead : C → C → Type 0) (known : Bool) (result : Result T TargetStop) (c : C) → says stop_wanting result ≡ true → IsReadBy IsRead known result c c
+wanting-by IsRead known result c wants = record { few = record { times = 0; few = omega arith; readings = Unread }; just = λ whole. let no : ⊥ = cc in absurd no }
 
 -- a clock that was read no time is as it was
 pub unread : {C : Type 0} (IsRead : C → C → Type 0) (known : Bool) (c d : C) → IsReadUpTo IsRead (most_readings known) c d → known ≡ true → d ≡ c

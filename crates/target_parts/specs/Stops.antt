@@ -31,6 +31,11 @@ stop_foreign (stop.Store issued lines) = false
 stop_foreign (stop.Foreign at byte) = true
 stop_foreign stop.Memory = false
 
+abbrev pub stop_wanting : TargetStop → Bool
+stop_wanting (stop.Store issued lines) = false
+stop_wanting (stop.Foreign at byte) = false
+stop_wanting stop.Memory = true
+
 abbrev pub stop_memory : TargetStop
 stop_memory = stop.Memory
 

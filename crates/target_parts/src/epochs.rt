@@ -5,7 +5,7 @@ ghost use Rattle.vos_store.specs.Refusals.{always_stop};
 ghost use Rattle.target_parts.specs.Covers.{CoversOrCut, ReadiesOrCut, epoch_for, heard_of};
 ghost use Rattle.target_parts.specs.KnowsLaws.{with_clock};
 ghost use Rattle.target_parts.specs.Parts.{Runs};
-ghost use Rattle.target_parts.specs.Readings.{IsReadUpTo, most_readings};
+ghost use Rattle.target_parts.specs.Readings.{AreReadings, most_readings};
 ghost use Rattle.target_parts.specs.Standing.{IsTarget};
 
 use crate::knows::Knows;
@@ -27,7 +27,7 @@ pub fn request_epoch<C: Clock>(
 ) -> Option<Epoch>
     ensures epoch { (reading : ℕ) × IfSome (C.next clock.old) (λ r. r ≡ reading) × (result ≡ epoch_for hlc.old reading tracker ep) }
     ensures heard { hlc.new ≡ heard_of result hlc.old }
-    ensures clock { IsReadUpTo C.is_read (most_readings (is_some ep)) clock.old clock.new }
+    ensures clock { AreReadings C.is_read (most_readings (is_some ep)) clock.old clock.new }
 {
     match ep {
         Some(epoch) => {
@@ -73,7 +73,7 @@ pub fn ready<S: Store, C: Clock>(
     ensures heard { IfOk result (λ epoch. knows.new ≡ with_clock (heard_of epoch knows.old.hlc) knows.old) }
     ensures runs { Runs always_stop result (S.state store.old) (S.state store.new) (S.durable store.old) (S.durable store.new) }
     ensures target { IsTarget plan (S.state store.new) (S.durable store.new) knows.new }
-    ensures clock { IsReadUpTo C.is_read (most_readings (is_some ep)) clock.old clock.new }
+    ensures clock { AreReadings C.is_read (most_readings (is_some ep)) clock.old clock.new }
 {
     let _plan = plan;
     match request_epoch(clock, &mut knows.hlc, tracker, ep) {

@@ -18,7 +18,7 @@ ghost use Rattle.target_parts.specs.Stops.{IsSilent, stop_memory};
 ghost use Rattle.target_reads.specs.Fetches.{FetchTurn};
 ghost use Rattle.target_reads.specs.Meets.{told_of};
 ghost use Rattle.target_parts.specs.Standing.{IsTarget, TurnRuns};
-ghost use Rattle.target_parts.specs.Readings.{IsReadUpTo, most_readings};
+ghost use Rattle.target_parts.specs.Readings.{AreReadings, most_readings};
 
 use crate::reads::{Served, serve};
 use base_messages::actor::ActorId;
@@ -212,7 +212,7 @@ fn hear_new<S: Store, C: Clock>(
     ensures ends { (wanted : Asked) → IfOk result (λ did. EndsAsked wanted knows.old.leader knows.new.leader did.posts) }
     ensures target { IsTarget plan (S.state store.new) (S.durable store.new) knows.new }
     ensures stopped { TurnRuns result (S.state store.old) (S.state store.new) (S.durable store.old) (S.durable store.new) }
-    ensures clock { IsReadUpTo C.is_read (most_readings (is_some request.now.ep)) clock.old clock.new }
+    ensures clock { AreReadings C.is_read (most_readings (is_some request.now.ep)) clock.old clock.new }
 {
     match ready(plan, store, clock, knows, request.tracker, None) {
         Ok(Some(epoch)) => read_at(alloc, plan, store, knows, from, request, epoch),
@@ -250,7 +250,7 @@ pub fn hear_fetch<S: Store, C: Clock>(
     ensures ends { (wanted : Asked) → IfOk result (λ did. EndsAsked wanted knows.old.leader knows.new.leader did.posts) }
     ensures target { IsTarget plan (S.state store.new) (S.durable store.new) knows.new }
     ensures stopped { TurnRuns result (S.state store.old) (S.state store.new) (S.durable store.old) (S.durable store.new) }
-    ensures clock { IsReadUpTo C.is_read (most_readings (is_some request.now.ep)) clock.old clock.new }
+    ensures clock { AreReadings C.is_read (most_readings (is_some request.now.ep)) clock.old clock.new }
 {
     match request.ep {
         Some(epoch) => hear_known(alloc, plan, store, knows, from, request, epoch),

@@ -12,7 +12,7 @@ ghost use Rattle.world_base.specs.Requests.{with_ticks};
 ghost use Rattle.world_base.specs.Snapshots.{PruneStage};
 ghost use Rattle.target_parts.specs.Knowing.{memory_of};
 ghost use Rattle.target_parts.specs.Parts.{Runs, kept};
-ghost use Rattle.target_parts.specs.Readings.{IsReadUpTo, most_readings};
+ghost use Rattle.target_parts.specs.Readings.{AreReadings, most_readings};
 ghost use Rattle.target_parts.specs.Standing.{IsTarget};
 ghost use Rattle.target_parts.specs.Stops.{stop_foreign, stop_store};
 ghost use Rattle.target_snaps.specs.AggregateTurns.{AggregateComes, AggregateTurn};
@@ -133,7 +133,7 @@ pub fn hear_aggregate<S: Store, C: Clock>(
     ensures ends { (given : Asked) → given request.attempt ≡ true → IfOk result (λ did. MakesAsked given snaps.old.collecting snaps.new.collecting did.posts) }
     ensures told { TellsNoAttempt result }
     ensures within { OnErr result (IsWithin snaps.new.collecting snaps.old.collecting) }
-    ensures clock { IsReadUpTo C.is_read (most_readings false) clock.old clock.new }
+    ensures clock { AreReadings C.is_read (most_readings false) clock.old clock.new }
 {
     match ready(plan, store, clock, knows, tracker, None) {
         Ok(Some(epoch)) => aggregate_at(

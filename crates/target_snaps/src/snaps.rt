@@ -17,7 +17,7 @@ ghost use Rattle.world_ended.specs.Asking.{Asked};
 ghost use Rattle.world_letters.specs.kinds.Loads.{AnswersOnce};
 ghost use Rattle.target_parts.specs.Knowing.{memory_of};
 ghost use Rattle.target_parts.specs.Parts.{Runs, kept};
-ghost use Rattle.target_parts.specs.Readings.{IsReadUpTo, most_readings};
+ghost use Rattle.target_parts.specs.Readings.{AreReadings, most_readings};
 ghost use Rattle.target_parts.specs.Standing.{IsTarget};
 ghost use Rattle.target_parts.specs.Stops.{stop_foreign, stop_memory, stop_store};
 ghost use Rattle.target_snaps.specs.FreezeTurns.{freeze_lines};
@@ -245,7 +245,7 @@ pub fn hear_snap<S: Store, C: Clock>(
     ensures ends { (given : Asked) → given request.attempt ≡ true → IfOk result (λ did. MakesAsked given snaps.old.collecting snaps.new.collecting did.posts) }
     ensures told { TellsNoAttempt result }
     ensures within { OnErr result (IsWithin snaps.new.collecting snaps.old.collecting) }
-    ensures clock { IsReadUpTo C.is_read (most_readings false) clock.old clock.new }
+    ensures clock { AreReadings C.is_read (most_readings false) clock.old clock.new }
 {
     match ready(plan, store, clock, knows, tracker, None) {
         Ok(Some(epoch)) => snap_at(

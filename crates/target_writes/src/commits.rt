@@ -15,7 +15,7 @@ ghost use Rattle.target_parts.specs.Stops.{IsSilent, stop_memory};
 ghost use Rattle.target_writes.specs.Checks.{AreWrites, CanCommit, CanStore};
 ghost use Rattle.target_writes.specs.Turns.{CommitTurn, begun_of};
 ghost use Rattle.target_parts.specs.Standing.{IsTarget, TurnRuns};
-ghost use Rattle.target_parts.specs.Readings.{IsReadUpTo, most_readings};
+ghost use Rattle.target_parts.specs.Readings.{AreReadings, most_readings};
 
 use crate::checks::prepare;
 use base_messages::actor::ActorId;
@@ -171,7 +171,7 @@ pub fn hear_commit<S: Store, C: Clock>(
     ensures ends { (wanted : Asked) → wanted request.now.attempt ≡ true → IfOk result (λ did. EndsAsked wanted knows.old.leader knows.new.leader did.posts) }
     ensures target { IsTarget plan (S.state store.new) (S.durable store.new) knows.new }
     ensures stopped { TurnRuns result (S.state store.old) (S.state store.new) (S.durable store.old) (S.durable store.new) }
-    ensures clock { IsReadUpTo C.is_read (most_readings (is_some request.now.ep)) clock.old clock.new }
+    ensures clock { AreReadings C.is_read (most_readings (is_some request.now.ep)) clock.old clock.new }
 {
     match ready(plan, store, clock, knows, request.tracker, request.ep) {
         Ok(Some(epoch)) => commit_at(alloc, plan, store, knows, from, request, epoch),

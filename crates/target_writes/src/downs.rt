@@ -8,7 +8,7 @@ ghost use Rattle.world_base.specs.Commits as commit;
 ghost use Rattle.world_base.specs.Statuses.{down_of};
 ghost use Rattle.world_contents.specs.posts.Forms.{PostsInForm};
 ghost use Rattle.target_parts.specs.Knowing.{memory_of};
-ghost use Rattle.target_parts.specs.Readings.{IsReadUpTo, most_readings};
+ghost use Rattle.target_parts.specs.Readings.{AreReadings, most_readings};
 ghost use Rattle.target_parts.specs.Standing.{IsTarget, TurnRuns};
 ghost use Rattle.target_writes.specs.Turns.{DownTurn};
 
@@ -57,7 +57,7 @@ pub fn hear_commit_down<S: Store, C: Clock>(
     ensures ends { (asked : Asked) → IfOk result (λ did. EndsAsked asked knows.old.leader knows.new.leader did.posts) }
     ensures target { IsTarget plan (S.state store.new) (S.durable store.new) knows.new }
     ensures stopped { TurnRuns result (S.state store.old) (S.state store.new) (S.durable store.old) (S.durable store.new) }
-    ensures clock { IsReadUpTo C.is_read (most_readings (is_some request.now.ep)) clock.old clock.new }
+    ensures clock { AreReadings C.is_read (most_readings (is_some request.now.ep)) clock.old clock.new }
 {
     match ready(plan, store, clock, knows, request.tracker, request.ep) {
         Ok(Some(epoch)) => {

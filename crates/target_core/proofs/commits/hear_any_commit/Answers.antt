@@ -1,13 +1,14 @@
-use Rattle.std.proofs.Common.{◌≡◌, ◌∙◌, Err, None, Some, ap, refl, rules, subst, sym}
+use Rattle.std.proofs.Common.{◌≡◌, ◌∙◌, Err, None, Some, ap, is_some, refl, rules, subst, sym}
 use Rattle.base_messages.specs.declared.message.Message.TheVariants.{Commit}
 use Rattle.base_types.specs.declared.epoch.Epoch.{Epoch}
 use Rattle.base_types.specs.Placement.{writes_members}
 use Rattle.dtx_base.specs.Leading.{first_down}
 use Rattle.target_parts.specs.Ending.{some_reading}
 use Rattle.target_parts.specs.Knowing.{memory_of}
-use Rattle.target_parts.specs.Readings.{not-read}
-use Rattle.target_parts.specs.Stops.{stop_memory}
+use Rattle.target_parts.specs.Readings.{read-by, wanting-by}
+use Rattle.target_parts.specs.Stops.{stop_memory, stop_wanting}
 use Rattle.target_core.specs.Targets.{HearsOrStops}
+use Rattle.vos_store.specs.Refusals.{says}
 use Rattle.snap_core.specs.Snaps.{remembered}
 use Rattle.target_core.proofs.Beside.{commit-beside, down-beside}
 use Rattle.target_core.proofs.Heard.{commit-not_begun, hears-commit, hears-commit_down}
@@ -28,7 +29,15 @@ returns-in_err-members-clause-turn g c =
     )
 
 pub returns-in_err-members-clause-clock : goal.returns-in_err-members-clause-clock
-returns-in_err-members-clause-clock g c = not-read g.C.Clock.is_read _ c.args.clock.now
+returns-in_err-members-clause-clock g c =
+    let is : c.from_residual.result ≡ Err stop_memory = search rules in
+    wanting-by g.C.Clock.is_read (is_some c.args.request.now.ep) c.from_residual.result c.args.clock.now (ap (says stop_wanting) is)
+
+pub returns-in-Some-clause-clock : goal.returns-in-Some-clause-clock
+returns-in-Some-clause-clock g c = read-by g.C.Clock.is_read (is_some c.args.request.now.ep) c.hear_commit_down.result c.args.clock.now c.hear_commit_down.new.clock c.hear_commit_down.ensures.clock
+
+pub returns-in-None-clause-clock : goal.returns-in-None-clause-clock
+returns-in-None-clause-clock g c = read-by g.C.Clock.is_read (is_some c.args.request.now.ep) c.hear_commit.result c.args.clock.now c.hear_commit.new.clock c.hear_commit.ensures.clock
 
 pub hear_commit_down-requires-clause-down : goal.hear_commit_down-requires-clause-down
 hear_commit_down-requires-clause-down g c e =

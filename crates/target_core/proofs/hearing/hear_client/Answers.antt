@@ -1,7 +1,8 @@
 use Rattle.world_ended.specs.Asking.{GoesWith}
-use Rattle.std.proofs.Common.{subst, sym, ◌∷◌, []}
+use Rattle.std.proofs.Common.{is_some, subst, sym, ◌∷◌, []}
+use Rattle.target_parts.specs.Readings.{IsReadBy, read-by}
 use Rattle.target_parts.specs.Knowing.{memory_of}
-use Rattle.target_core.specs.Targets.{CanHear, HearsOrStops}
+use Rattle.target_core.specs.Targets.{CanHear, HearsOrStops, has_epoch}
 use Rattle.snap_core.specs.Snaps.{remembered}
 use Rattle.world_base.specs.TargetTurns.{fetch_request}
 use Rattle.target_core.proofs.Beside.{fetch-beside}
@@ -26,6 +27,11 @@ returns-in-Fetch-clause-turn g c = (
       (hears-fetch n c.args.plan (remembered (memory_of c.args.knows.now) snaps) c.hear_fetch.ensures.turn.0 c.args.from d (g.S.Store.state c.args.store.now) (g.S.Store.durable c.hear_fetch.new.store) (g.S.Store.state c.hear_fetch.new.store) (g.S.Store.may c.hear_fetch.new.store) (remembered (memory_of c.hear_fetch.new.knows) snaps) c.in-Fetch.attempt c.in-Fetch.op c.in-Fetch.group c.in-Fetch.ep c.in-Fetch.first c.in-Fetch.tracker c.in-Fetch.read c.in-Fetch.snapshot c.hear_fetch.result
       (fetch-beside snaps c.args.plan (memory_of c.args.knows.now) c.hear_fetch.ensures.turn.0 (fetch_request c.in-Fetch.attempt c.in-Fetch.op c.in-Fetch.group c.in-Fetch.ep c.in-Fetch.first c.in-Fetch.tracker c.in-Fetch.read c.in-Fetch.snapshot) c.args.from d (g.S.Store.state c.args.store.now) (g.S.Store.durable c.hear_fetch.new.store) (g.S.Store.state c.hear_fetch.new.store) (g.S.Store.may c.hear_fetch.new.store) (memory_of c.hear_fetch.new.knows) c.hear_fetch.result (c.hear_fetch.ensures.turn.2 d at))),
 )
+
+pub returns-in-Fetch-clause-clock : goal.returns-in-Fetch-clause-clock
+returns-in-Fetch-clause-clock g c =
+    subst (λ m. IsReadBy g.C.Clock.is_read (has_epoch m) c.hear_fetch.result c.args.clock.now c.hear_fetch.new.clock) (sym c.in-Fetch.is)
+    (read-by g.C.Clock.is_read (is_some c.in-Fetch.ep) c.hear_fetch.result c.args.clock.now c.hear_fetch.new.clock c.hear_fetch.ensures.clock)
 
 pub returns-in-Commit-clause-turn : goal.returns-in-Commit-clause-turn
 returns-in-Commit-clause-turn g c = (

@@ -1,9 +1,9 @@
-use Rattle.std.proofs.Common.{◌∙◌, ap, refl, subst, sym}
+use Rattle.std.proofs.Common.{◌∙◌, ap, false, refl, subst, sym}
 use Rattle.snap_core.specs.Snaps.{remembered}
 use Rattle.target_parts.specs.Ending.{some_reading}
 use Rattle.target_parts.specs.Knowing.{memory_of}
-use Rattle.target_parts.specs.Readings.{not-read}
-use Rattle.target_core.specs.Targets.{HearsOrStops, is_of_client}
+use Rattle.target_parts.specs.Readings.{IsReadBy, not-read-by, read-by}
+use Rattle.target_core.specs.Targets.{HearsOrStops, has_epoch, is_of_client}
 use Rattle.target_core.proofs.Heard.{hears-aggregate, hears-prune}
 use Rattle.target_core.proofs.Posting.{answers-end, answers-post, client-prune, makes-end, makes-post, target-prune}
 use Rattle.target_core.proofs.making.hear_any_prune.Goals as goal
@@ -42,4 +42,10 @@ pub returns-in-Some-epoch-clause-ends : goal.returns-in-Some-epoch-clause-ends
 returns-in-Some-epoch-clause-ends g c given asked = makes-end given (memory_of c.args.knows.now) (memory_of c.hear_prune.new.knows) c.args.snaps.now c.args.snaps.now c.hear_prune.result c.hear_prune.ensures.waiting (answers-end given c.args.snaps.now c.hear_prune.result (c.hear_prune.ensures.ends given))
 
 pub returns-in-Some-epoch-clause-clock : goal.returns-in-Some-epoch-clause-clock
-returns-in-Some-epoch-clause-clock g c = not-read g.C.Clock.is_read _ c.args.clock.now
+returns-in-Some-epoch-clause-clock g c = not-read-by g.C.Clock.is_read _ c.hear_prune.result c.args.clock.now (ap has_epoch (target-prune c.args.request.attempt c.args.request.cont c.args.tracker c.args.epoch c.in-Some-epoch.epoch c.in-None.is c.in-Some-epoch.is))
+
+pub returns-in-Some-clause-clock : goal.returns-in-Some-clause-clock
+returns-in-Some-clause-clock g c =
+    subst (λ m. IsReadBy g.C.Clock.is_read (has_epoch m) c.hear_aggregate.result c.args.clock.now c.hear_aggregate.new.clock)
+    (sym (client-prune c.args.request.attempt c.args.request.cont c.args.tracker c.args.epoch c.in-Some.tracker c.in-Some.is c.requires.form))
+    (read-by g.C.Clock.is_read false c.hear_aggregate.result c.args.clock.now c.hear_aggregate.new.clock c.hear_aggregate.ensures.clock)

@@ -1,14 +1,14 @@
-use Rattle.std.proofs.Common.{[], ◌∙◌, ap, refl, subst, sym}
+use Rattle.std.proofs.Common.{[], ◌∙◌, ap, false, refl, subst, sym}
 use Rattle.base_messages.specs.declared.message.Message.{Reset}
 use Rattle.snap_core.specs.Snaps.{remembered}
 use Rattle.world_contents.specs.posts.Forms.{IsCollecting}
 use Rattle.world_ended.specs.Asking.{AsksSo, GoesWith}
 use Rattle.target_parts.specs.Ending.{some_reading}
 use Rattle.target_parts.specs.Knowing.{memory_of}
-use Rattle.target_parts.specs.Readings.{not-read}
+use Rattle.target_parts.specs.Readings.{IsReadBy, not-read-by, read-by}
 use Rattle.target_snaps.specs.HeldTurns.{HeldTurn}
 use Rattle.world_letters.specs.kinds.TurnLaws.{turn-carries}
-use Rattle.target_core.specs.Targets.{CanHear, HasFormOfMaking, HearsOrStops, is_collecting, is_of_client}
+use Rattle.target_core.specs.Targets.{CanHear, HasFormOfMaking, HearsOrStops, has_epoch, is_collecting, is_of_client}
 use Rattle.target_core.proofs.Heard.{collects-so, hears-freeze, hears-held, hears-loss, hears-snap, making-form, reset-goes_with}
 use Rattle.target_core.proofs.Posting.{always, answers-end, answers-post, makes-end, makes-post, waits-still}
 use Rattle.target_core.proofs.making.hear_making.Goals as goal
@@ -43,6 +43,11 @@ returns-in-Snap-clause-posts g c kind = makes-post c.args.plan.targets (memory_o
 pub returns-in-Snap-clause-ends : goal.returns-in-Snap-clause-ends
 returns-in-Snap-clause-ends g c given goes = makes-end given (memory_of c.args.knows.now) (memory_of c.hear_snap.new.knows) c.args.snaps.now c.hear_snap.new.snaps c.hear_snap.result (waits-still c.hear_snap.result c.args.knows.now.leader c.hear_snap.new.knows.leader c.hear_snap.ensures.leader) (c.hear_snap.ensures.ends given (subst (GoesWith given) c.in-Snap.is goes))
 
+pub returns-in-Snap-clause-clock : goal.returns-in-Snap-clause-clock
+returns-in-Snap-clause-clock g c =
+    subst (λ m. IsReadBy g.C.Clock.is_read (has_epoch m) c.hear_snap.result c.args.clock.now c.hear_snap.new.clock) (sym c.in-Snap.is)
+    (read-by g.C.Clock.is_read false c.hear_snap.result c.args.clock.now c.hear_snap.new.clock c.hear_snap.ensures.clock)
+
 pub returns-in-Freeze-clause-turn : goal.returns-in-Freeze-clause-turn
 returns-in-Freeze-clause-turn g c =
     let r = some_reading (g.C.Clock.next c.args.clock.now) in (
@@ -60,7 +65,7 @@ pub returns-in-Freeze-clause-ends : goal.returns-in-Freeze-clause-ends
 returns-in-Freeze-clause-ends g c given goes = makes-end given (memory_of c.args.knows.now) (memory_of c.hear_freeze.new.knows) c.args.snaps.now c.args.snaps.now c.hear_freeze.result (always c.hear_freeze.result _ (ap (λ l. l.undecided) c.hear_freeze.ensures.leader)) (answers-end given c.args.snaps.now c.hear_freeze.result (c.hear_freeze.ensures.ends given))
 
 pub returns-in-Freeze-clause-clock : goal.returns-in-Freeze-clause-clock
-returns-in-Freeze-clause-clock g c = not-read g.C.Clock.is_read _ c.args.clock.now
+returns-in-Freeze-clause-clock g c = not-read-by g.C.Clock.is_read _ c.hear_freeze.result c.args.clock.now (ap has_epoch c.in-Freeze.is)
 
 pub returns-in-Held-clause-turn : goal.returns-in-Held-clause-turn
 returns-in-Held-clause-turn g c =
@@ -83,7 +88,7 @@ pub returns-in-Held-clause-ends : goal.returns-in-Held-clause-ends
 returns-in-Held-clause-ends g c given goes = makes-end given (memory_of c.args.knows.now) (memory_of c.args.knows.now) c.args.snaps.now c.hear_held.new.snaps c.hear_held.result (always c.hear_held.result _ refl) (c.hear_held.ensures.ends given goes)
 
 pub returns-in-Held-clause-clock : goal.returns-in-Held-clause-clock
-returns-in-Held-clause-clock g c = not-read g.C.Clock.is_read _ c.args.clock.now
+returns-in-Held-clause-clock g c = not-read-by g.C.Clock.is_read _ c.hear_held.result c.args.clock.now (ap has_epoch c.in-Held.is)
 
 pub returns-in-Reset-clause-turn : goal.returns-in-Reset-clause-turn
 returns-in-Reset-clause-turn g c =
@@ -104,4 +109,4 @@ returns-in-Reset-clause-ends g c given goes =
     (c.hear_collection_reset.ensures.ends given (subst (AsksSo given) (sym c.get.ensures) (reset-goes_with given c.in-Reset.target c.in-Reset.down c.in-Reset.message (subst (GoesWith given) c.in-Reset.is goes))))
 
 pub returns-in-Reset-clause-clock : goal.returns-in-Reset-clause-clock
-returns-in-Reset-clause-clock g c = not-read g.C.Clock.is_read _ c.args.clock.now
+returns-in-Reset-clause-clock g c = not-read-by g.C.Clock.is_read _ c.hear_collection_reset.result c.args.clock.now (ap has_epoch c.in-Reset.is)

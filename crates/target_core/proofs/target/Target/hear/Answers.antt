@@ -6,7 +6,7 @@ use Rattle.snap_core.specs.Snaps.{remembered}
 use Rattle.world_base.specs.Stops.{is_prune_message}
 use Rattle.world_contents.specs.posts.Forms.{TurnsPostInForm}
 use Rattle.target_parts.specs.Knowing.{memory_of}
-use Rattle.target_parts.specs.Readings.{IsReadUpTo, most_readings, unread}
+use Rattle.target_parts.specs.Readings.{AreReadings, IsReadUpTo, most_readings, unread}
 use Rattle.target_parts.specs.Running.{for_some_on}
 use Rattle.target_snaps.specs.HeldTurns.{AreFrozenHere}
 use Rattle.target_core.specs.Targets.{HearsOrStops, has_epoch, is_of_client}
@@ -25,10 +25,13 @@ returns-clause-turn g c =
     (c.hear_message.ensures.turn.0, c.hear_message.ensures.turn.1, λ n is d at. c.hear_message.ensures.turn.2 n (λ p. c.drawn-number.ensures n (is p)) d at)
 
 pub returns-clause-clock : goal.returns-clause-clock
-returns-clause-clock g c = subst (λ x. IsReadUpTo g.C.Clock.is_read (most_readings (has_epoch c.args.message)) x.clock c.hear_message.new.clock) c.self.view_is c.hear_message.ensures.clock
+returns-clause-clock g c = subst (λ x. IsReadUpTo g.C.Clock.is_read (most_readings (has_epoch c.args.message)) x.clock c.hear_message.new.clock) c.self.view_is c.hear_message.ensures.clock.few
+
+pub returns-clause-read : goal.returns-clause-read
+returns-clause-read g c whole = subst (λ x. AreReadings g.C.Clock.is_read (most_readings (has_epoch c.args.message)) x.clock c.hear_message.new.clock) c.self.view_is (c.hear_message.ensures.clock.just whole)
 
 pub returns-clause-unread : goal.returns-clause-unread
-returns-clause-unread g c known = unread g.C.Clock.is_read (has_epoch c.args.message) _ _ c.hear_message.ensures.clock known ∙ ap (λ x. x.clock) c.self.view_is
+returns-clause-unread g c known = unread g.C.Clock.is_read (has_epoch c.args.message) _ _ c.hear_message.ensures.clock.few known ∙ ap (λ x. x.clock) c.self.view_is
 
 pub returns-clause-posts : goal.returns-clause-posts
 returns-clause-posts g c =
