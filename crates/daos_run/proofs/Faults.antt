@@ -6,7 +6,7 @@ use Rattle.base_outside.specs.Causes.{Rose}
 use Rattle.daos_model.specs.declared.durable.Durable.{Durable}
 use Rattle.daos_run.specs.declared.stop.RunStop.{RunStop}
 use Rattle.daos_run.specs.declared.stop.RunStop.TheVariants as stop
-use Rattle.daos_run.specs.Slots.{AreSet, ClocksAreRead, ClocksStay, FromTo, FusesAreGone, HasNoFuse, IsAt, StoresAreServed}
+use Rattle.daos_run.specs.Slots.{AreClocksIn, AreSet, ClocksAreRead, ClocksStay, FromTo, FusesAreGone, HasNoFuse, IsAt, StoresAreServed}
 use Rattle.daos_run.specs.Stops.{HasRisen, IsOpeningFault, is_fault_of}
 use Rattle.daos_run.proofs.Places.{at-low}
 use Rattle.model_laws.specs.TargetLaws.{same_number}
@@ -47,6 +47,12 @@ module _ {S C : Type 0} (durable : S → Option Durable) (state : S → State) (
   read-through is_read k l t x y at to =
       let m = meanwhile t x at in
       subst (λ c. IsReadOn is_read c y.1) (k t x m.0 at m.1) (l t m.0 y m.1 to)
+
+  -- clocks that stay in the meantime
+  pub clocks-through : ClocksStay old mid → (t : ℕ) (c d : C) → AreClocksIn old new t c d → AreClocksIn mid new t c d
+  clocks-through stay t c d k =
+      let m = meanwhile t k.before k.at in
+      record { before = m.0; after = k.after; at = m.1; there = k.there; first = k.first ∙ sym (stay t k.before m.0 k.at m.1); last = k.last }
 
   -- a store that isn't opened was failed by the outside, or doesn't tell its fuse
   pub opening-fault : {T : Type 0} (may : S → Durable → Type 0) (stop : RunStop) → FromTo old mid (λ t a b. HasNoFuse durable state may a b)

@@ -6,11 +6,12 @@ use Rattle.std.proofs.lemmas.Option.{slice_get_within}
 use Rattle.base_types.specs.declared.job.Job.{Job}
 use Rattle.model_laws.specs.Lists.{at-within}
 use Rattle.daos_model.specs.declared.durable.Durable.{Durable}
-use Rattle.daos_run.specs.Slots.{AreAsBefore, AreBack, AreSet, AreTaken, ClocksAreRead, FusesAreGone, IsAt, StoresAreServed}
+use Rattle.daos_run.specs.Slots.{AreAsBefore, AreBack, AreClocksIn, AreSet, AreTaken, ClocksAreRead, FusesAreGone, IsAt, StoresAreServed}
 use Rattle.daos_run.specs.Starts.{AreStarted, StartsOver}
 use Rattle.daos_run.proofs.Places.{at-low}
 use Rattle.daos_run.proofs.Slots.{at-end, length-end, same-pair}
 use Rattle.daos_run.proofs.Taking.{none-taken, one-taken}
+use Rattle.run_targets.specs.Ends.{AreClocksAt}
 use Rattle.run_targets.specs.Below.{AreServed, IsServed, TargetOf, length-set}
 use Rattle.target_parts.specs.Readings.{IsReadOn}
 use Rattle.vos_store.specs.Calls.{State}
@@ -131,6 +132,14 @@ module _ {S C : Type 0} (durable : S → Option Durable) (j : Job) where
           let a = at-within xs t (subst (λ n. t < n) (sym A.many) within) in
           let b = at-within ys t (subst (λ n. t < n) (sym (many ∙ A.many)) within) in
           subst (IsReadOn is_read x.1) (sym (ap (λ p. p.1) (its-parts t z b.0 to b.1))) (subst (λ d. IsReadOn is_read d b.0.clock) (A.each t a.0 x a.1 at).clock (V.clocks t a.0 b.0 a.1 b.1))
+
+    -- the clocks at the places are those of the targets
+    pub run-clocks : (t : ℕ) (c d : C) → AreClocksIn old new t c d → AreClocksAt xs ys t c d
+    run-clocks t c d k =
+        let within = at-low j.targets old before t k.before k.at in
+        let a = at-within xs t (subst (λ n. t < n) (sym A.many) within) in
+        let b = at-within ys t (subst (λ n. t < n) (sym (many ∙ A.many)) within) in
+        record { before = a.0; after = b.0; at = a.1; there = b.1; first = k.first ∙ sym (A.each t a.0 k.before a.1 k.at).clock; last = k.last ∙ ap (λ p. p.1) (its-parts t k.after b.0 k.there b.1) }
 
     pub run-gone : (state : S → State) → ((t : ℕ) (y : TargetOf S C) → slice_get ys t ≡ Some y → (state y.store).tells_fuse ≡ true → (state y.store).fused ≡ false) → FusesAreGone state new
     run-gone state gone t z to =

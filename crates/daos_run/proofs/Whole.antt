@@ -1,5 +1,6 @@
 -- A run of targets that started over stores which were opened for it, from the clients' first turns to the report.
 use Rattle.std.specs.Prelude.{ℕ, ◌≡◌, ◌≤◌, ◌<◌, ◌+◌, ◌^◌, Bool, true, false, List, [], length, map, slice_get, Option, Some, None, is_some, Ok, refl}
+use Rattle.std.proofs.Math.Path.{path_j, subst_refl}
 use Rattle.std.proofs.Common.{inr, sym, ◌∙◌, ap, subst, arith}
 use Rattle.std.proofs.lemmas.Bool.{true≢false}
 use Rattle.std.proofs.lemmas.Option.{slice_get_within}
@@ -27,7 +28,7 @@ use Rattle.daos_run.proofs.Disarmed.{kept-from, unfused-free, unfused-may_run, u
 use Rattle.daos_run.proofs.Places.{at-low, in-place, store-at, stores-back, stores-many}
 use Rattle.daos_run.proofs.Slots.{same-pair}
 use Rattle.model_laws.specs.Lists.{at-within}
-use Rattle.run_targets.specs.Ends.{AllTell, BeginsSo, BreaksOffSo, ComesTo, HaveStarted, IsOutside, IsSoundAgain, RunsPlainly, first_world, from-map, given_by, one-there, or_empty, same-lists, state_now, stores_of}
+use Rattle.run_targets.specs.Ends.{AllTell, BeginsSo, BreaksOffSo, ClocksGave, ComesTo, HaveStarted, IsOutside, IsSoundAgain, RunsPlainly, first_world, from-map, given_by, one-there, or_empty, same-lists, state_now, stores_of}
 use Rattle.run_opening.specs.All.{AreKept, FromTo as ListsFromTo, MayBeFound}
 use Rattle.run_opening.specs.Opened.{lasting_snaps}
 use Rattle.run_targets.specs.Below.{AreAlike, TargetOf, served-by-runs, served-on}
@@ -73,6 +74,10 @@ told-first durable targets slots set some B k =
 -- an opening of stores of which nothing is told
 abbrev untold : ℕ → Opening
 untold lease = record { stand = empty_stand; lease = lease; free = λ t. 0 }
+
+-- what holds of what stands for one thing holds of what stands for another, which is the same
+kept-over : {A : Type 0} (P : A → Type 0) (Q : (x : A) → P x → Type 0) {x y : A} (same : x ≡ y) (p : P x) → Q x p → Q y (subst P same p)
+kept-over P Q {x = x} same p q = path_j (λ z e. Q z (subst P e p)) (subst (Q x) (sym (subst_refl P p)) q) same
 
 module _ {S C : Type 0} (durable : S → Option Durable) (state : S → State) (may : S → Durable → Type 0) (s : Script) (j : Job) (old mid opened : List (Option (S × C))) (F : IsInForm j.targets s)
     (some : 1 ≤ j.targets) (few : j.targets ≤ 64) (least : 1 ≤ j.attempts) (before : AreSet j.targets old) (between : AreSet j.targets mid) (D : FromTo old mid (λ t a b. HasNoFuse durable state may a b))
@@ -340,6 +345,15 @@ module _ {S C : Type 0} (durable : S → Option Durable) (state : S → State) (
         sound = λ E k can lasts found.
             again-so lasts ((ends-so L free q c).sound (begun_family s E) (record { many = (O E (now-kept E k)).kept.many; each = (O E (now-kept E k)).kept.each }) (O E (now-kept E k)).begins.sound lasts found);
       }
+
+      -- and the clocks gave what they gave
+      pub come-by_clocks : (is_read : C → C → Type 0) (next_reading : C → Option ℕ) (L : List Durable) (free : ℕ → ℕ) (q : Report) (kept : AreKept durable (stores_in old) L) (room : AreFree state old free) (c : ComesTo durable state may (given s j L free) (stores_of xs) (stores_of ys) q) (AreOf : ℕ → C → C → Type 0)
+          → ClocksGave is_read next_reading (given s j L free) q c.ordered.follows AreOf → ClocksGave is_read next_reading (given s j L free) q (come-from L free q kept room c).comes.ordered.follows AreOf
+      unfolding come-from ends-so
+      come-by_clocks is_read next_reading L free q kept room c AreOf gave =
+          kept-over (λ l. ComesTo durable state may (given s j L free) (stores_in opened) l q) (λ l k. ClocksGave is_read next_reading (given s j L free) q k.ordered.follows AreOf) (stores-back j.targets ys slots new after (many ∙ A.many) B)
+          (subst (λ l. ComesTo durable state may (given s j L free) l (stores_of ys) q) their-stores c)
+          (kept-over (λ l. ComesTo durable state may (given s j L free) l (stores_of ys) q) (λ l k. ClocksGave is_read next_reading (given s j L free) q k.ordered.follows AreOf) their-stores c gave)
 
       -- it broke off
       pub break-off : (L : List Durable) (free : ℕ → ℕ) → AreKept durable (stores_in old) L → CanOpen L → BreaksOffSo durable may (given s j L free) (stores_of xs) (stores_of ys)

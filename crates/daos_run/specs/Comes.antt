@@ -8,7 +8,8 @@ use Rattle.daos_model.specs.Durables.{empty_durable}
 use Rattle.daos_model.specs.Opening.{Given, Outside}
 use Rattle.daos_model.specs.Finals.{opening_of}
 use Rattle.model_reports.specs.Rooms.{HasPlaces}
-use Rattle.run_targets.specs.Ends.{ComesTo, FollowsOrder, IsOutside, RunsPlainly, StandsForAttempts, memory_at_first}
+use Rattle.daos_run.specs.Slots.{AreClocksIn, stores_in}
+use Rattle.run_targets.specs.Ends.{ClocksGave, ComesTo, FollowsOrder, IsOutside, RunsPlainly, StandsForAttempts, memory_at_first}
 use Rattle.run_opening.specs.All.{AreKept, FromTo, MayBeFound}
 use Rattle.run_opening.specs.Left.{IsLeftOf}
 use Rattle.run_opening.specs.Opened.{lasting_snaps}
@@ -42,6 +43,12 @@ pub record ComesFrom {S : Type 0} (durable : S → Option Durable) (state : S �
   pub comes : ComesTo durable state may g opened new q
   pub plain : (B : List Durable) (free : ℕ → ℕ) → AreKept durable old B → g.opening ≡ opening_of g.script B free → lasting_snaps g.script B ≡ [] → IsSimple (rules_of g) → RunsPlainly durable g opened
   pub sound : (B : List Durable) → AreKept durable old B → CanOpen B → (lasts : List Durable) → MayBeFound may new lasts → CanOpen lasts
+
+-- So it comes from these stores with their clocks; and in the run that the report follows, the clock at each place gave just the readings at which its
+-- target issued epochs, or found that none are left, and no others.
+pub record ComesFromClocks {S C : Type 0} (durable : S → Option Durable) (state : S → State) (may : S → Durable → Type 0) (is_read : C → C → Type 0) (next_reading : C → Option ℕ) (g : Given) (old new : List (Option (S × C))) (q : Report) : Type 0 where
+  pub from : ComesFrom durable state may g (stores_in old) (stores_in new) q
+  pub clocks : ClocksGave is_read next_reading g q from.comes.ordered.follows (AreClocksIn old new)
 
 -- What the next openings find, of stores that kept B, after a run that gives no report. Either its opening came to no more than a part of what an opening
 -- leaves, and that stands for what B stood for; or the run broke off, and it stands for the opening, the attempts that are resolved there, and snapshots

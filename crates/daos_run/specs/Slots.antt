@@ -41,6 +41,15 @@ ClocksStay {S} {C} old new = (t : ℕ) (x y : S × C) → IsAt old t x → IsAt 
 abbrev pub ClocksAreRead : {S C : Type 0} → (C → C → Type 0) → List (Option (S × C)) → List (Option (S × C)) → Type 0
 ClocksAreRead {S} {C} is_read old new = (t : ℕ) (x y : S × C) → IsAt old t x → IsAt new t y → IsReadOn is_read x.1 y.1
 
+-- the clocks at the place of a target, before a run and after it
+pub record AreClocksIn {S C : Type 0} (old new : List (Option (S × C))) (t : ℕ) (c d : C) : Type 0 where
+  pub before : S × C
+  pub after : S × C
+  pub at : IsAt old t before
+  pub there : IsAt new t after
+  pub first : c ≡ before.1
+  pub last : d ≡ after.1
+
 -- at least so many blocks are free on each target
 abbrev pub AreFree : {S C : Type 0} → (S → State) → List (Option (S × C)) → (ℕ → ℕ) → Type 0
 AreFree state slots free = EachStore (λ t store. free t ≤ (state store).free) slots

@@ -3,7 +3,7 @@ ghost use Rattle.std.specs.Prelude.{◌≡◌, ◌≤◌, ℕ, List, [], length,
 ghost use Rattle.daos_model.specs.declared.durable.Durable.{Durable};
 ghost use Rattle.daos_model.specs.Stops.{stop_numbers};
 ghost use Rattle.daos_run.specs.Back.{IsReadBack};
-ghost use Rattle.daos_run.specs.Comes.{BreaksOff, ComesFrom, FindsPlaces};
+ghost use Rattle.daos_run.specs.Comes.{BreaksOff, ComesFrom, ComesFromClocks, FindsPlaces};
 ghost use Rattle.daos_run.specs.Opens.{MayRun, given};
 ghost use Rattle.daos_run.specs.Slots.{AreFree, AreSet, ClocksAreRead, FusesAreGone, HaveStores, StoresAreServed, stores_in};
 ghost use Rattle.daos_run.specs.Stops.{IsOpeningFault, MayStop};
@@ -45,7 +45,7 @@ use vos_store::store::Fuse;
 /// script doesn't drop; clients may read those that the script names. Fuses that are set are taken away; while
 /// the script runs, a store has those of its target's stop lines, one after another; in the end it has none. The
 /// stores and the clocks are set again at every ending, each at its place; a clock is then the one that was
-/// given, after so many readings. Where a store tells nothing of what it keeps, only `told`, `in_turn`, `kinds`,
+/// given, after so many readings: by `read`, after just those at which its target issued epochs. Where a store tells nothing of what it keeps, only `told`, `in_turn`, `kinds`,
 /// `ends`, `in_order` and `bytes` bind what the report tells; the run is safe, and errors are told as of any
 /// others.
 ///
@@ -78,6 +78,8 @@ pub fn run_on<R: Threads + Wait + Sync, S: Fuse + Send, C: Clock + Send, G: Gate
     requires sound { (B : List Durable) → AreKept S.durable (stores_in parts.old) B → CanOpen B }
     ensures comes { (B : List Durable) → AreKept S.durable (stores_in parts.old) B → (free : ℕ → ℕ) → AreFree S.state parts.old free → IfOk result
         (ComesFrom S.durable S.state S.may (given script.now job.now B free) (stores_in parts.old) (stores_in parts.new)) }
+    ensures read { (B : List Durable) → AreKept S.durable (stores_in parts.old) B → (free : ℕ → ℕ) → AreFree S.state parts.old free → IfOk result
+        (ComesFromClocks S.durable S.state S.may C.is_read C.next (given script.now job.now B free) parts.old parts.new) }
     ensures broke { (B : List Durable) → AreKept S.durable (stores_in parts.old) B → (free : ℕ → ℕ) → AreFree S.state parts.old free → IfErr result
         (λ stop. (lasts : List Durable) → MayBeFound S.may (stores_in parts.new) lasts → BreaksOff (given script.now job.now B free) B lasts) }
     ensures room { (B : List Durable) → AreKept S.durable (stores_in parts.old) B → (free : ℕ → ℕ) → AreFree S.state parts.old free

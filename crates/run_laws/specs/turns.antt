@@ -6,6 +6,7 @@ pub mod Faults
 pub mod Keeping
 pub mod Staying
 pub mod OrderLaws
+pub mod Readings
 pub mod Numbers
 pub mod Drawn
 pub mod StopLines

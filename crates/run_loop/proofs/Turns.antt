@@ -24,13 +24,13 @@ target-number actor t message letters kind named few = subst (λ x. message < ma
 pub few-targets : {S C : Type 0} (durable : S → Option Durable) (state : S → State) (may : S → Durable → Type 0) (a : StageNow S C) → CanGo durable state may a → length a.targets ≤ 64
 few-targets durable state may a can = let many = can.many in let most = can.form.few_targets in omega (arith, many, most)
 
-module _ {S C : Type 0} (durable : S → Option Durable) (state : S → State) (may : S → Durable → Type 0) (is_read : C → C → Type 0) (findable : AreFindable durable may) (alike : AreAlike durable) (a b : StageNow S C) (can : CanGo durable state may a) where
+module _ {S C : Type 0} (durable : S → Option Durable) (state : S → State) (may : S → Durable → Type 0) (is_read : C → C → Type 0) (next_reading : C → Option ℕ) (findable : AreFindable durable may) (alike : AreAlike durable) (a b : StageNow S C) (can : CanGo durable state may a) where
   -- an actor's turn leads on, if it comes to its end
-  pub client-goes-on : {T E : Type 0} (settling : Bool) (actor : ActorId) (n number : ℕ) (result : Result T E) → actor.client ≡ true → n ≡ actor.number → OnOk result (ClientTurned n number a b) → OnOk result (GoesOn durable state may is_read (turn_of settling actor number) a b)
-  client-goes-on settling actor n number (Ok x) kind named k = subst (λ z. GoesOn durable state may is_read (turn_of settling z number) a b) (named-client actor n kind named) (client-turn-goes durable state may is_read findable alike a b can n number k settling)
+  pub client-goes-on : {T E : Type 0} (settling : Bool) (actor : ActorId) (n number : ℕ) (result : Result T E) → actor.client ≡ true → n ≡ actor.number → OnOk result (ClientTurned n number a b) → OnOk result (GoesOn durable state may is_read next_reading (turn_of settling actor number) a b)
+  client-goes-on settling actor n number (Ok x) kind named k = subst (λ z. GoesOn durable state may is_read next_reading (turn_of settling z number) a b) (named-client actor n kind named) (client-turn-goes durable state may is_read next_reading findable alike a b can n number k settling)
   client-goes-on settling actor n number (Err e) kind named k = tt
 
-  pub target-goes-on : {T E : Type 0} (settling : Bool) (actor : ActorId) (t number : ℕ) (result : Result T E) → actor.client ≡ false → t ≡ actor.number → OnOk result (TargetTurned durable state may is_read settling t number a b)
-      → OnOk result (GoesOn durable state may is_read (turn_of settling actor number) a b)
-  target-goes-on settling actor t number (Ok x) kind named k = subst (λ z. GoesOn durable state may is_read (turn_of settling z number) a b) (named-target actor t kind named) (target-turn-goes durable state may is_read findable alike a b can settling t number k)
+  pub target-goes-on : {T E : Type 0} (settling : Bool) (actor : ActorId) (t number : ℕ) (result : Result T E) → actor.client ≡ false → t ≡ actor.number → OnOk result (TargetTurned durable state may is_read next_reading settling t number a b)
+      → OnOk result (GoesOn durable state may is_read next_reading (turn_of settling actor number) a b)
+  target-goes-on settling actor t number (Ok x) kind named k = subst (λ z. GoesOn durable state may is_read next_reading (turn_of settling z number) a b) (named-target actor t kind named) (target-turn-goes durable state may is_read next_reading findable alike a b can settling t number k)
   target-goes-on settling actor t number (Err e) kind named k = tt

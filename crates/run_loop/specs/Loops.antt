@@ -9,7 +9,7 @@ use Rattle.base_random.specs.Draws.{drawn}
 use Rattle.daos_model.specs.declared.durable.Durable.{Durable}
 use Rattle.run_base.specs.Orders.{after_pick, pick}
 use Rattle.run_base.specs.Picks.{is_due, numbered}
-use Rattle.run_stage.specs.Below.{AllAreDue, AndThen, GoesOn, HasIt, HasNone, InTurn, IsBothWays, IsRun, OneDraw, OneRound, Shows, StageNow, TurnOf, Way, all_from_draw, all_rounds, client-due-shown, count-same, draws-are-run, due-shown, fault_by, faults_in_draws, faults_in_turn, first_targets, from_draw, goes-as, goes-then, heard_in, is_due_client, many-clients, once_for, round_of, rounds-are-run, some_rounds, turn_of, turned, turns-are-run}
+use Rattle.run_stage.specs.Below.{AllAreDue, GoesOn, IsBothWays, IsRun, Shows, StageNow, Way, all-draws-way, all-rounds-way, all_from_draw, all_rounds, client-due-shown, draws-are-run, due-shown, first_targets, from_draw, goes-as, goes-then, had-none-way, had-turn-way, heard_in, is_due_client, many-clients, more-draws-way, more-rounds-way, round-way, round_of, rounds-are-run, some_rounds, turn_of, turned, turns-are-run}
 use Rattle.vos_store.specs.Calls.{State}
 use Rattle.world_base.specs.declared.world.World.{World}
 use Rattle.world_base.specs.Events.{Rules}
@@ -48,89 +48,82 @@ some-in (x ∷ xs) len some is none = cc
 -- ---- turns
 
 -- some turns and then others, if those come to their end
-pub goes-then-ok : {S C : Type 0} (durable : S → Option Durable) (state : S → State) (may : S → Durable → Type 0) (is_read : C → C → Type 0) {T E : Type 0} (one other both : Way) (a b c : StageNow S C) (result : Result T E) → IsRun one
-    → ((r : Rules) (found : ℕ → Durable) (w u v : World) → Shows durable state r found b u → (p : one.goes r w u) (q : other.goes r u v) → IsBothWays one other both r w u v p q) → GoesOn durable state may is_read one a b → OnOk result (GoesOn durable state may is_read other b c) → OnOk result (GoesOn durable state may is_read both a c)
-goes-then-ok durable state may is_read one other both a b c (Ok x) runs join k l = goes-then durable state may is_read one other both a b c runs join k l
-goes-then-ok durable state may is_read one other both a b c (Err e) runs join k l = tt
+pub goes-then-ok : {S C : Type 0} (durable : S → Option Durable) (state : S → State) (may : S → Durable → Type 0) (is_read : C → C → Type 0) (next_reading : C → Option ℕ) {T E : Type 0} (one other both : Way) (a b c : StageNow S C) (result : Result T E) → IsRun one
+    → ((r : Rules) (found : ℕ → Durable) (w u v : World) → Shows durable state r found b u → (p : one.goes r w u) (q : other.goes r u v) → IsBothWays one other both r w u v p q) → GoesOn durable state may is_read next_reading one a b → OnOk result (GoesOn durable state may is_read next_reading other b c) → OnOk result (GoesOn durable state may is_read next_reading both a c)
+goes-then-ok durable state may is_read next_reading one other both a b c (Ok x) runs join k l = goes-then durable state may is_read next_reading one other both a b c runs join k l
+goes-then-ok durable state may is_read next_reading one other both a b c (Err e) runs join k l = tt
 
-module _ {S C : Type 0} (durable : S → Option Durable) (state : S → State) (may : S → Durable → Type 0) (is_read : C → C → Type 0) (settling : Bool) (a0 a : StageNow S C) where
+module _ {S C : Type 0} (durable : S → Option Durable) (state : S → State) (may : S → Durable → Type 0) (is_read : C → C → Type 0) (next_reading : C → Option ℕ) (settling : Bool) (a0 a : StageNow S C) where
   -- an actor has something to do in each world that is shown, or in none
   abbrev DueIs : Bool → ActorId → Type 0
   DueIs is actor = (r : Rules) (found : ℕ → Durable) (w : World) → Shows durable state r found a w → is_due settling r w actor ≡ is
 
   -- ---- a round
 
-  module _ (before : List ActorId) (actor : ActorId) (k : GoesOn durable state may is_read (turned settling before) a0 a) where
+  module _ (before : List ActorId) (actor : ActorId) (k : GoesOn durable state may is_read next_reading (turned settling before) a0 a) where
     -- one has its turn
-    one-more : (b : StageNow S C) → DueIs true actor → GoesOn durable state may is_read (turn_of settling actor 0) a b → GoesOn durable state may is_read (turned settling (before ++ actor ∷ [])) a0 b
+    one-more : (b : StageNow S C) → DueIs true actor → GoesOn durable state may is_read next_reading (turn_of settling actor 0) a b → GoesOn durable state may is_read next_reading (turned settling (before ++ actor ∷ [])) a0 b
     one-more b is turn =
-        goes-then durable state may is_read (turned settling before) (turn_of settling actor 0) (turned settling (before ++ actor ∷ [])) a0 a b (turns-are-run settling before)
-        (λ r found w u v s so one. (AndThen before actor u v so (HasIt (is r found u s) one), λ t. refl)) k turn
+        goes-then durable state may is_read next_reading (turned settling before) (turn_of settling actor 0) (turned settling (before ++ actor ∷ [])) a0 a b (turns-are-run settling before)
+        (λ r found w u v s so one. had-turn-way settling r before actor w u so v one (is r found u s)) k turn
 
     -- one has none
-    none-more : DueIs false actor → GoesOn durable state may is_read (turned settling (before ++ actor ∷ [])) a0 a
+    none-more : DueIs false actor → GoesOn durable state may is_read next_reading (turned settling (before ++ actor ∷ [])) a0 a
     none-more not_due =
-        goes-as durable state may is_read (turned settling before) (turned settling (before ++ actor ∷ [])) a0 a (λ r found was w u old s so. (AndThen before actor u u so (HasNone (not_due r found u s) refl), λ t. omega arith)) k
+        goes-as durable state may is_read next_reading (turned settling before) (turned settling (before ++ actor ∷ [])) a0 a (λ r found was w u old s so. had-none-way settling r before actor w u so (not_due r found u s)) k
 
-  module _ (n : ℕ) (k : GoesOn durable state may is_read (turned settling (numbered client n)) a0 a) (within : n < length a.clients) where
+  module _ (n : ℕ) (k : GoesOn durable state may is_read next_reading (turned settling (numbered client n)) a0 a) (within : n < length a.clients) where
     module _ (due : Bool) (shown : due ≡ is_due_client a.between.messages n (slice_get a.clients n)) where
-      pub client-had-turn : (b : StageNow S C) → due ≡ true → GoesOn durable state may is_read (turn_of settling (client n) 0) a b → GoesOn durable state may is_read (turned settling (numbered client (suc n))) a0 b
+      pub client-had-turn : (b : StageNow S C) → due ≡ true → GoesOn durable state may is_read next_reading (turn_of settling (client n) 0) a b → GoesOn durable state may is_read next_reading (turned settling (numbered client (suc n))) a0 b
       client-had-turn b is = one-more (numbered client n) (client n) k b (λ r found w s. sym (client-due-shown durable state r found a w s settling n within) ∙ sym shown ∙ is)
 
-      pub client-had-none : due ≡ false → GoesOn durable state may is_read (turned settling (numbered client (suc n))) a0 a
+      pub client-had-none : due ≡ false → GoesOn durable state may is_read next_reading (turned settling (numbered client (suc n))) a0 a
       client-had-none is = none-more (numbered client n) (client n) k (λ r found w s. sym (client-due-shown durable state r found a w s settling n within) ∙ sym shown ∙ is)
 
-  module _ (m t : ℕ) (k : GoesOn durable state may is_read (turned settling (first_targets m t)) a0 a) where
+  module _ (m t : ℕ) (k : GoesOn durable state may is_read next_reading (turned settling (first_targets m t)) a0 a) where
     next : first_targets m t ++ target t ∷ [] ≡ first_targets m (suc t)
     next = append_assoc (numbered client m) (numbered target t) (target t ∷ [])
 
     module _ (due : Bool) (shown : (r : Rules) (found : ℕ → Durable) (w : World) → Shows durable state r found a w → due ≡ is_due settling r w (target t)) where
-      pub target-had-turn : (b : StageNow S C) → due ≡ true → GoesOn durable state may is_read (turn_of settling (target t) 0) a b → GoesOn durable state may is_read (turned settling (first_targets m (suc t))) a0 b
+      pub target-had-turn : (b : StageNow S C) → due ≡ true → GoesOn durable state may is_read next_reading (turn_of settling (target t) 0) a b → GoesOn durable state may is_read next_reading (turned settling (first_targets m (suc t))) a0 b
       target-had-turn b is turn =
-          subst (λ as'. GoesOn durable state may is_read (turned settling as') a0 b) next (one-more (first_targets m t) (target t) k b (λ r found w s. sym (shown r found w s) ∙ is) turn)
+          subst (λ as'. GoesOn durable state may is_read next_reading (turned settling as') a0 b) next (one-more (first_targets m t) (target t) k b (λ r found w s. sym (shown r found w s) ∙ is) turn)
 
-      pub target-had-none : due ≡ false → GoesOn durable state may is_read (turned settling (first_targets m (suc t))) a0 a
-      target-had-none is = subst (λ as'. GoesOn durable state may is_read (turned settling as') a0 a) next (none-more (first_targets m t) (target t) k (λ r found w s. sym (shown r found w s) ∙ is))
+      pub target-had-none : due ≡ false → GoesOn durable state may is_read next_reading (turned settling (first_targets m (suc t))) a0 a
+      target-had-none is = subst (λ as'. GoesOn durable state may is_read next_reading (turned settling as') a0 a) next (none-more (first_targets m t) (target t) k (λ r found w s. sym (shown r found w s) ∙ is))
 
   -- all had their turns
-  pub round-whole : GoesOn durable state may is_read (turned settling (first_targets (length a0.clients) (length a0.targets))) a0 a → GoesOn durable state may is_read (round_of settling) a0 a
+  pub round-whole : GoesOn durable state may is_read next_reading (turned settling (first_targets (length a0.clients) (length a0.targets))) a0 a → GoesOn durable state may is_read next_reading (round_of settling) a0 a
   round-whole k =
-      goes-as durable state may is_read (turned settling (first_targets (length a0.clients) (length a0.targets))) (round_of settling) a0 a
+      goes-as durable state may is_read next_reading (turned settling (first_targets (length a0.clients) (length a0.targets))) (round_of settling) a0 a
       (λ r found was w u old s so.
       let all = ap (λ n. first_targets n (length a0.targets)) (sym (many-clients durable state r was a0 w old)) ∙ ap (first_targets (length w.clients)) (sym old.many) in
-      (subst (λ as'. InTurn settling r w as' u) all so, λ t. count-same (λ as'. InTurn settling r w as' u) (λ as' k. faults_in_turn t k) all so)) k
+      round-way settling r w u (first_targets (length a0.clients) (length a0.targets)) all so) k
 
   -- ---- rounds
 
   module _ (due : List ActorId) (all : AllAreDue durable state settling a due) where
-    pub round-more : (b : StageNow S C) → (due ≡ [] → ⊥) → GoesOn durable state may is_read (some_rounds settling) a0 a → GoesOn durable state may is_read (round_of settling) a b → GoesOn durable state may is_read (some_rounds settling) a0 b
+    pub round-more : (b : StageNow S C) → (due ≡ [] → ⊥) → GoesOn durable state may is_read next_reading (some_rounds settling) a0 a → GoesOn durable state may is_read next_reading (round_of settling) a b → GoesOn durable state may is_read next_reading (some_rounds settling) a0 b
     round-more b some k round =
-        goes-then durable state may is_read (some_rounds settling) (round_of settling) (some_rounds settling) a0 a b (rounds-are-run settling)
-        (λ r found w u v s so one. (OneRound u v so (λ none. some (due-shown durable state r found a u s settling due all ∙ none)) one, λ t. refl)) k round
+        goes-then durable state may is_read next_reading (some_rounds settling) (round_of settling) (some_rounds settling) a0 a b (rounds-are-run settling)
+        (λ r found w u v s so one. more-rounds-way settling r w u v so one (λ none. some (due-shown durable state r found a u s settling due all ∙ none))) k round
 
-    pub rounds-over : due ≡ [] → GoesOn durable state may is_read (some_rounds settling) a0 a → GoesOn durable state may is_read (all_rounds settling) a0 a
+    pub rounds-over : due ≡ [] → GoesOn durable state may is_read next_reading (some_rounds settling) a0 a → GoesOn durable state may is_read next_reading (all_rounds settling) a0 a
     rounds-over quiet k =
-        goes-as durable state may is_read (some_rounds settling) (all_rounds settling) a0 a (λ r found was w u old s so. (record { rounds = so; over = sym (due-shown durable state r found a u s settling due all) ∙ quiet }, λ t. refl)) k
+        goes-as durable state may is_read next_reading (some_rounds settling) (all_rounds settling) a0 a (λ r found was w u old s so. all-rounds-way settling r w u so (sym (due-shown durable state r found a u s settling due all) ∙ quiet)) k
 
     -- ---- draws
 
-    pub draws-over : (x0 x : ℕ) → due ≡ [] → GoesOn durable state may is_read (from_draw settling x0 x) a0 a → GoesOn durable state may is_read (all_from_draw settling x0 x) a0 a
+    pub draws-over : (x0 x : ℕ) → due ≡ [] → GoesOn durable state may is_read next_reading (from_draw settling x0 x) a0 a → GoesOn durable state may is_read next_reading (all_from_draw settling x0 x) a0 a
     draws-over x0 x quiet k =
-        goes-as durable state may is_read (from_draw settling x0 x) (all_from_draw settling x0 x) a0 a (λ r found was w u old s so. (record { draws = so; over = sym (due-shown durable state r found a u s settling due all) ∙ quiet }, λ t. refl)) k
+        goes-as durable state may is_read next_reading (from_draw settling x0 x) (all_from_draw settling x0 x) a0 a (λ r found was w u old s so. all-draws-way settling r x0 x w u so (sym (due-shown durable state r found a u s settling due all) ∙ quiet)) k
 
     -- an actor is drawn, and then the letter that it hears, if it hears one
     pub draw-more : (x0 x z y p : ℕ) (actor : ActorId) (many message : ℕ) (b : StageNow S C) → slice_get due p ≡ Some actor → p ≡ drawn x % length due → z ≡ drawn x → ((r : Rules) (found : ℕ → Durable) (w : World) → Shows durable state r found a w → many ≡ heard_in w actor) → message ≡ pick z many
-        → y ≡ after_pick z many → GoesOn durable state may is_read (from_draw settling x0 x) a0 a → GoesOn durable state may is_read (turn_of settling actor message) a b → GoesOn durable state may is_read (from_draw settling x0 y) a0 b
+        → y ≡ after_pick z many → GoesOn durable state may is_read next_reading (from_draw settling x0 x) a0 a → GoesOn durable state may is_read next_reading (turn_of settling actor message) a b → GoesOn durable state may is_read next_reading (from_draw settling x0 y) a0 b
     draw-more x0 x z y p actor many message b its at next_is hears is last k turn =
-        goes-then durable state may is_read (from_draw settling x0 x) (turn_of settling actor message) (from_draw settling x0 y) a0 a b (draws-are-run settling x0 x)
+        goes-then durable state may is_read next_reading (from_draw settling x0 x) (turn_of settling actor message) (from_draw settling x0 y) a0 a b (draws-are-run settling x0 x)
         (λ r found w u v s so one.
-        let number = is ∙ ap (λ q. pick q many) next_is ∙ ap (pick (drawn x)) (hears r found u s) in (
-          OneDraw x y u v so (record {
-            actor = actor;
-            its = subst (λ as'. slice_get as' (drawn x % length as') ≡ Some actor) (due-shown durable state r found a u s settling due all) (subst (λ q. slice_get due q ≡ Some actor) at its);
-            turn = subst (λ j. TurnOf settling r actor j u v) number one;
-            last = last ∙ ap (λ q. after_pick q many) next_is ∙ ap (after_pick (drawn x)) (hears r found u s);
-          }),
-          λ t. ap (λ n. faults_in_draws t so + n) (count-same (λ j. TurnOf settling r actor j u v) (λ j turn'. once_for (fault_by turn') t) number one),
-        ))
+        more-draws-way settling r x0 x y message actor w u v so one (subst (λ as'. slice_get as' (drawn x % length as') ≡ Some actor) (due-shown durable state r found a u s settling due all) (subst (λ q. slice_get due q ≡ Some actor) at its))
+        (is ∙ ap (λ q. pick q many) next_is ∙ ap (pick (drawn x)) (hears r found u s)) (last ∙ ap (λ q. after_pick q many) next_is ∙ ap (after_pick (drawn x)) (hears r found u s)))
         k turn

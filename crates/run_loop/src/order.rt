@@ -54,7 +54,7 @@ fn turn<S: Fuse, C: Clock>(
     requires up { IsUp stage.old.watch.lives actor }
     requires few_clients { length stage.old.clients.items ≤ 65535 }
     requires message { message < max 1 (count_to actor stage.old.between.messages) }
-    ensures goes { OnOk result (GoesOn S.durable S.state S.may C.is_read (turn_of settling actor message) (stage_now stage.old) (stage_now stage.new)) }
+    ensures goes { OnOk result (GoesOn S.durable S.state S.may C.is_read C.next (turn_of settling actor message) (stage_now stage.old) (stage_now stage.new)) }
     ensures broke { OnErr result (Breaks S.durable S.state S.may (stage_now stage.old) stage.new.targets.items) }
     ensures served { AreServed S.durable S.state C.is_read stage.old.targets.items stage.new.targets.items }
 {
@@ -77,7 +77,7 @@ fn round<S: Fuse, C: Clock, G: Gate>(
     requires going { CanGo S.durable S.state S.may (stage_now stage.old) }
     requires few_clients { length stage.old.clients.items ≤ 65535 }
     requires few_targets { length stage.old.targets.items ≤ 255 }
-    ensures goes { OnOk result (GoesOn S.durable S.state S.may C.is_read (round_of settling) (stage_now stage.old) (stage_now stage.new)) }
+    ensures goes { OnOk result (GoesOn S.durable S.state S.may C.is_read C.next (round_of settling) (stage_now stage.old) (stage_now stage.new)) }
     ensures broke { OnErr result (Breaks S.durable S.state S.may (stage_now stage.old) stage.new.targets.items) }
     ensures served { AreServed S.durable S.state C.is_read stage.old.targets.items stage.new.targets.items }
 {
@@ -108,7 +108,7 @@ fn go_round<R: Wait, S: Fuse, C: Clock, G: Gate>(
     requires going { CanGo S.durable S.state S.may (stage_now stage.old) }
     requires few_clients { length stage.old.clients.items ≤ 65535 }
     requires few_targets { length stage.old.targets.items ≤ 255 }
-    ensures goes { OnOk result (GoesOn S.durable S.state S.may C.is_read (all_rounds settling) (stage_now stage.old) (stage_now stage.new)) }
+    ensures goes { OnOk result (GoesOn S.durable S.state S.may C.is_read C.next (all_rounds settling) (stage_now stage.old) (stage_now stage.new)) }
     ensures broke { OnErr result (Breaks S.durable S.state S.may (stage_now stage.old) stage.new.targets.items) }
     ensures served { AreServed S.durable S.state C.is_read stage.old.targets.items stage.new.targets.items }
 {
@@ -148,7 +148,7 @@ fn go_drawn<R: Wait, S: Fuse, C: Clock, G: Gate>(
     requires going { CanGo S.durable S.state S.may (stage_now stage.old) }
     requires few_clients { length stage.old.clients.items ≤ 65535 }
     requires few_targets { length stage.old.targets.items ≤ 255 }
-    ensures goes { OnOk result (GoesOn S.durable S.state S.may C.is_read (all_from_draw settling x.old x.new) (stage_now stage.old) (stage_now stage.new)) }
+    ensures goes { OnOk result (GoesOn S.durable S.state S.may C.is_read C.next (all_from_draw settling x.old x.new) (stage_now stage.old) (stage_now stage.new)) }
     ensures broke { OnErr result (Breaks S.durable S.state S.may (stage_now stage.old) stage.new.targets.items) }
     ensures served { AreServed S.durable S.state C.is_read stage.old.targets.items stage.new.targets.items }
 {
@@ -178,7 +178,7 @@ fn go<R: Wait, S: Fuse, C: Clock, G: Gate>(
     requires going { CanGo S.durable S.state S.may (stage_now stage.old) }
     requires few_clients { length stage.old.clients.items ≤ 65535 }
     requires few_targets { length stage.old.targets.items ≤ 255 }
-    ensures goes { OnOk result (GoesOn S.durable S.state S.may C.is_read (in_order order) (stage_now stage.old) (stage_now stage.new)) }
+    ensures goes { OnOk result (GoesOn S.durable S.state S.may C.is_read C.next (in_order order) (stage_now stage.old) (stage_now stage.new)) }
     ensures broke { OnErr result (Breaks S.durable S.state S.may (stage_now stage.old) stage.new.targets.items) }
     ensures served { AreServed S.durable S.state C.is_read stage.old.targets.items stage.new.targets.items }
 {
@@ -207,7 +207,7 @@ pub fn run_in_order<R: Wait, S: Fuse, C: Clock, G: Gate>(
     requires going { CanGo S.durable S.state S.may (stage_now stage) }
     requires few_clients { length stage.clients.items ≤ 65535 }
     ensures run { (r : Rules) (w : World) (o : Opening) → RunBegins r o w → AreDrawn w → ((found : ℕ → Durable) → Shows S.durable S.state r found (stage_now stage) w)
-        → IfOk result.2 (λ lines. HasRunWith S.durable S.state S.may r order w stage.targets.items (left_of result.0.items result.1 lines)) }
+        → IfOk result.2 (λ lines. HasRunWith S.durable S.state C.is_read C.next S.may r order w stage.targets.items (left_of result.0.items result.1 lines)) }
     ensures broke { IfErr result.2 (λ error. Breaks S.durable S.state S.may (stage_now stage) result.0.items) }
     ensures served { AreServed S.durable S.state C.is_read stage.targets.items result.0.items }
     ensures accounts { (h : ℕ → State) (stops : List StopDecl) → AreAccounted S.durable S.state h stops (stage_now stage)

@@ -100,14 +100,14 @@ module _ {S C : Type 0} (durable : S → Option Durable) (state : S → State) (
       (subst (λ n. AfterFailure t n (state y.store).faults stop (record a { targets = slice_set a.targets t y; watch = w }) b) counted came)))
   reopened-not (Err e) stop before is counted came = tt
 
-  module _ (is_read : C → C → Type 0) (settling : Bool) (k : ℕ) where
+  module _ (is_read : C → C → Type 0) (next_reading : C → Option ℕ) (settling : Bool) (k : ℕ) where
     -- it opened again, and its next fuse was set, but memory was wanting for what followed
     pub opened-broke : {E : Type 0} (result : Result (Unit {0}) E) (did : Did) → said ≡ Ok did → OnErr result ((armed : TargetOf S C) × HasFuse durable state may (next_fuse t w.stops) y armed × (b.targets ≡ slice_set (slice_set a.targets t y) t armed))
-        → OnErr result (TargetBroke durable state may is_read settling t k a b.targets)
+        → OnErr result (TargetBroke durable state may is_read next_reading settling t k a b.targets)
     opened-broke (Ok u) did is came = tt
     opened-broke (Err e) did is came = OnceOpened was-reopened did came.0 is (subst (λ v. HasFuse durable state may (next_fuse t v.stops) y came.0) tried came.1) (came.2 ∙ set-twice a.targets t y came.0)
 
     -- or it didn't open, and memory was wanting then
-    pub opening-broke : {E : Type 0} (result : Result (Unit {0}) E) (why : TargetStop) → said ≡ Err why → b.targets ≡ slice_set a.targets t y → OnErr result (TargetBroke durable state may is_read settling t k a b.targets)
+    pub opening-broke : {E : Type 0} (result : Result (Unit {0}) E) (why : TargetStop) → said ≡ Err why → b.targets ≡ slice_set a.targets t y → OnErr result (TargetBroke durable state may is_read next_reading settling t k a b.targets)
     opening-broke (Ok u) why is left-so = tt
     opening-broke (Err e) why is left-so = InOpening was-reopened why is left-so

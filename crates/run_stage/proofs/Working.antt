@@ -13,7 +13,7 @@ use Rattle.run_laws.specs.shows.Kinds.{TurnsOnce}
 use Rattle.world_ended.specs.Asking.{Asked, TurnsEndAsked}
 use Rattle.run_laws.specs.shows.Stages.{IsPlace, StageNow}
 use Rattle.run_laws.specs.shows.Steps.{ClientWorks, Cut, HasWorked, HeardOne, InWork, TargetBroke, TargetWorked, Whole, WorkEnds}
-use Rattle.run_laws.specs.shows.Turned.{AfterCut, IsTurned, followed, swept_stage, with_between, with_target_at}
+use Rattle.run_laws.specs.shows.Turned.{AfterCut, HasTurned, followed, swept_stage, with_between, with_target_at}
 use Rattle.target_core.specs.Targets.{TargetOf}
 use Rattle.target_parts.specs.Parts.{Runs}
 use Rattle.target_snaps.specs.Following.{TellsNoAttempt}
@@ -44,29 +44,29 @@ pub heard-one : {E : Type 0} (result : Result Did E) (n number : ℕ) (c d : Cli
 heard-one (Ok did) n number c d b left l awake picked only turn = HeardOne l left.messages awake picked only turn
 heard-one (Err e) n number c d b left l awake picked only turn = tt
 
-module _ {S C : Type 0} (durable : S → Option Durable) (state : S → State) (may : S → Durable → Type 0) (is_read : C → C → Type 0) (settling : Bool) (t number : ℕ) (x y : TargetOf S C) (left : BetweenNow) (said : Result Did TargetStop) (a b : StageNow S C)
+module _ {S C : Type 0} (durable : S → Option Durable) (state : S → State) (may : S → Durable → Type 0) (is_read : C → C → Type 0) (next_reading : C → Option ℕ) (settling : Bool) (t number : ℕ) (x y : TargetOf S C) (left : BetweenNow) (said : Result Did TargetStop) (a b : StageNow S C)
     (place : IsPlace a t x Running) (plan : y.plan ≡ x.plan) (opened : y.opened ≡ true) (runs : Runs stop_store said (state x.store) (state y.store) (durable x.store) (durable y.store)) (told : TellsNoAttempt said) (clock : IsReadOn is_read x.clock y.clock)
     (posts : IfOk said (λ did. TurnsPostInForm x.plan.targets x.memory y.memory did.posts)) (once : IfOk said (TurnsOnce a.between left x.memory.member y.memory.member))
-    (ends-so : (asked : Asked) → LettersGoWith asked a.between.messages → IfOk said (λ did. TurnsEndAsked asked x.memory y.memory did.posts)) (turned : IsTurned durable state may settling t number x y a.between left said) where
-  abbrev has-worked : HasWorked durable state may is_read settling t number a
-  has-worked = record { before = x; now = y; left = left; result = said; place = place; plan = plan; opened = opened; runs = runs; told = told; clock = clock; posts = posts; once = once; ends = ends-so; turned = turned }
+    (ends-so : (asked : Asked) → LettersGoWith asked a.between.messages → IfOk said (λ did. TurnsEndAsked asked x.memory y.memory did.posts)) (came : HasTurned durable state may is_read next_reading settling t number x y a.between left said) where
+  abbrev has-worked : HasWorked durable state may is_read next_reading settling t number a
+  has-worked = record { before = x; now = y; left = left; result = said; place = place; plan = plan; opened = opened; runs = runs; told = told; clock = clock; posts = posts; once = once; ends = ends-so; came = came }
 
-  worked : WorkEnds durable state may t x y left a b said → TargetWorked durable state may is_read settling t number a b
+  worked : WorkEnds durable state may t x y left a b said → TargetWorked durable state may is_read next_reading settling t number a b
   worked ends = record { work = has-worked; ends = ends }
 
   -- the turn of a target that runs was whole
   pub worked-whole : {E : Type 0} (result : Result (Unit {0}) E) (did : Did) (name : ActorId) → said ≡ Ok did → name ≡ target t → OnOk result (b ≡ swept_stage (with_between (followed name did left) (with_target_at t y a)))
-      → OnOk result (TargetWorked durable state may is_read settling t number a b)
+      → OnOk result (TargetWorked durable state may is_read next_reading settling t number a b)
   worked-whole (Ok u) did name is named came = worked (Whole did is (subst (λ z. b ≡ swept_stage (with_between (followed z did left) (with_target_at t y a))) named came))
   worked-whole (Err e) did name is named came = tt
 
   -- or it was cut
   pub worked-cut : {E : Type 0} (result : Result (Unit {0}) E) (stop : TargetStop) (before : ℕ) → said ≡ Err stop → before ≡ (state x.store).faults → OnOk result (AfterCut t before (state y.store).faults stop (with_between left (with_target_at t y a)) b)
-      → OnOk result (TargetWorked durable state may is_read settling t number a b)
+      → OnOk result (TargetWorked durable state may is_read next_reading settling t number a b)
   worked-cut (Ok u) stop before is counted came = worked (Cut stop is (subst (λ n. AfterCut t n (state y.store).faults stop (with_between left (with_target_at t y a)) b) counted came))
   worked-cut (Err e) stop before is counted came = tt
 
   -- or memory was wanting for what came of it
-  pub work-broke : {E : Type 0} (result : Result (Unit {0}) E) → b.targets ≡ slice_set a.targets t y → OnErr result (TargetBroke durable state may is_read settling t number a b.targets)
+  pub work-broke : {E : Type 0} (result : Result (Unit {0}) E) → b.targets ≡ slice_set a.targets t y → OnErr result (TargetBroke durable state may is_read next_reading settling t number a b.targets)
   work-broke (Ok u) left-so = tt
   work-broke (Err e) left-so = InWork has-worked left-so

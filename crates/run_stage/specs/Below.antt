@@ -2,8 +2,8 @@
 pub use Rattle.run_laws.specs.ends.Armed.{armed-accounted, armed-first, before-fuse, fuses-serve, fuses-started, fuses-tell, states_of, told-fuse}
 pub use Rattle.run_laws.specs.ends.Arming.{AreArmed, AreUnfused, HaveFuses, lines_left}
 pub use Rattle.run_laws.specs.ends.Begun.{IsFirstWatch, can-go, first-drawn, first_stage, nothing, run-begins, shows-first}
-pub use Rattle.run_laws.specs.ends.Comes.{AreIssuedSince, BreaksOffSo, ComesTo, FollowsOrder, IsInRealTime, IsKeyed, IsLegal, IsOrdered, IsOutside, IsReportOfLines, IsSoundAgain, MayBeFound, RunsPlainly, StandsForAttempts, memory_at_first, report_with}
-pub use Rattle.run_laws.specs.ends.Ending.{comes-to}
+pub use Rattle.run_laws.specs.ends.Comes.{AreIssuedSince, BreaksOffSo, ClocksGave, AreClocksAt, ComesByClocks, ComesTo, FollowsOrder, IsInRealTime, IsKeyed, IsLegal, IsOrdered, IsOutside, IsReportOfLines, IsSoundAgain, MayBeFound, RunsPlainly, StandsForAttempts, memory_at_first, report_with}
+pub use Rattle.run_laws.specs.ends.Ending.{HasEndedSo, comes-by_clocks, comes-to}
 pub use Rattle.run_laws.specs.ends.FuseLaws.{next-left}
 pub use Rattle.run_laws.specs.ends.Keeping.{all-tell, breaks-off}
 pub use Rattle.run_laws.specs.ends.Known.{legal-by-any}
@@ -33,10 +33,12 @@ pub use Rattle.run_laws.specs.shows.Steps.{ClientTurned, TargetTurned}
 pub use Rattle.run_laws.specs.steps.Breaking.{Breaks, broke-after-err, broke-between, broke-between-err, goes-then_breaks-err, target-turn-breaks, target-turn-breaks-err}
 pub use Rattle.run_laws.specs.steps.Ended.{AllCanReopen, HasRunWith, can-reopen, has-run, left-accounted, left_of}
 pub use Rattle.run_laws.specs.steps.Going.{GoesOn, IsBothWays, IsRun, all-draws-are-run, all-rounds-are-run, draws-are-run, goes-as, goes-none, goes-then, rounds-are-run, turns-are-run}
+pub use Rattle.run_laws.specs.steps.Joining.{all-draws-way, all-rounds-way, draws-order-way, had-none-way, had-turn-way, more-draws-way, more-rounds-way, no-draws-way, no-rounds-way, nobody-way, round-way, rounds-order-way}
 pub use Rattle.run_laws.specs.steps.Steps.{can-turn, client-turn-goes, target-turn-goes}
 pub use Rattle.run_laws.specs.steps.Ways.{Way, all_from_draw, all_rounds, from_draw, in_order, round_of, some_rounds, turn_of, turned}
 pub use Rattle.run_laws.specs.turns.Drawn.{AreDrawn}
 pub use Rattle.run_laws.specs.turns.Faults.{count-same, fault_by, faults_in_draws, faults_in_turn, once_for}
 pub use Rattle.run_laws.specs.turns.Orders.{AndThen, ByDraws, ByRounds, Draws, HasIt, HasNone, InDraws, InOrder, InRounds, InTurn, NoDraw, NoRound, Nobody, OneDraw, OneRound, RoundOf, Rounds}
+pub use Rattle.run_laws.specs.turns.Readings.{HasGiven, readings_of}
 pub use Rattle.run_laws.specs.turns.Turns.{TurnOf, heard_in}
 pub use Rattle.target_core.specs.Targets.{TargetOf}

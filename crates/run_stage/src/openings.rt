@@ -69,7 +69,7 @@ impl<S: Fuse, C: Clock> Stage<S, C> {
         requires stopped { slice_get self.old.watch.lives t ≡ Some Life.Stopped }
         requires able { (x : TargetOf S C) → slice_get self.old.targets.items t ≡ Some x → CanTurn S.durable S.state S.may (stage_now self.old) t 0 x }
         ensures reopened { OnOk result (TargetReopened S.durable S.state S.may t (stage_now self.old) (stage_now self.new)) }
-        ensures broke { (settling : Bool) → (k : ℕ) → OnErr result (TargetBroke S.durable S.state S.may C.is_read settling t k (stage_now self.old) self.new.targets.items) }
+        ensures broke { (settling : Bool) → (k : ℕ) → OnErr result (TargetBroke S.durable S.state S.may C.is_read C.next settling t k (stage_now self.old) self.new.targets.items) }
         ensures served { AreServed S.durable S.state C.is_read self.old.targets.items self.new.targets.items }
     {
         self.watch.try_opening()?;

@@ -107,8 +107,8 @@ impl<S: Fuse, C: Clock> Stage<S, C> {
         requires number { number < max 1 (count_to (target t) self.old.between.messages) }
         requires up { slice_get self.old.watch.lives t ≡ Some Life.Down → ⊥ }
         requires able { (x : TargetOf S C) → slice_get self.old.targets.items t ≡ Some x → CanTurn S.durable S.state S.may (stage_now self.old) t number x }
-        ensures turned { OnOk result (TargetTurned S.durable S.state S.may C.is_read settling t number (stage_now self.old) (stage_now self.new)) }
-        ensures broke { OnErr result (TargetBroke S.durable S.state S.may C.is_read settling t number (stage_now self.old) self.new.targets.items) }
+        ensures turned { OnOk result (TargetTurned S.durable S.state S.may C.is_read C.next settling t number (stage_now self.old) (stage_now self.new)) }
+        ensures broke { OnErr result (TargetBroke S.durable S.state S.may C.is_read C.next settling t number (stage_now self.old) self.new.targets.items) }
         ensures served { AreServed S.durable S.state C.is_read self.old.targets.items self.new.targets.items }
     {
         match self.watch.life(t) {

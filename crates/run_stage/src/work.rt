@@ -8,7 +8,7 @@ ghost use Rattle.run_laws.specs.shows.Ends.{LettersGoWith};
 ghost use Rattle.run_laws.specs.shows.Kinds.{TurnsOnce};
 ghost use Rattle.world_ended.specs.Asking.{Asked, TurnsEndAsked};
 ghost use Rattle.run_laws.specs.shows.Steps.{TargetBroke, TargetWorked};
-ghost use Rattle.run_laws.specs.shows.Turned.{IsTurned};
+ghost use Rattle.run_laws.specs.shows.Turned.{HasTurned};
 ghost use Rattle.run_stage.specs.Now.{stage_now};
 ghost use Rattle.target_core.specs.Targets.{TargetOf};
 ghost use Rattle.target_parts.specs.Parts.{Runs};
@@ -45,7 +45,7 @@ fn hear_or_idle<S: Store, C: Clock>(
     requires opened { host.old.opened ≡ true }
     requires running { (S.state host.old.store).stopped ≡ false }
     requires letters { (l : Letter) (rest : List Letter) → IsPicked between.old.messages (target t) number l rest → IsHearable S.durable host.old l }
-    ensures turned { IfOk result (IsTurned S.durable S.state S.may settling t number host.old host.new between.old between.new) }
+    ensures turned { IfOk result (HasTurned S.durable S.state S.may C.is_read C.next settling t number host.old host.new between.old between.new) }
     ensures plan { host.new.plan ≡ host.old.plan }
     ensures opened { host.new.opened ≡ true }
     ensures runs { IfOk result (λ said. Runs stop_store said (S.state host.old.store) (S.state host.new.store) (S.durable host.old.store) (S.durable host.new.store)) }
@@ -74,8 +74,8 @@ impl<S: Fuse, C: Clock> Stage<S, C> {
         requires number { number < max 1 (count_to (target t) self.old.between.messages) }
         requires runs { slice_get self.old.watch.lives t ≡ Some Life.Running }
         requires able { (x : TargetOf S C) → slice_get self.old.targets.items t ≡ Some x → CanTurn S.durable S.state S.may (stage_now self.old) t number x }
-        ensures worked { OnOk result (TargetWorked S.durable S.state S.may C.is_read settling t number (stage_now self.old) (stage_now self.new)) }
-        ensures broke { OnErr result (TargetBroke S.durable S.state S.may C.is_read settling t number (stage_now self.old) self.new.targets.items) }
+        ensures worked { OnOk result (TargetWorked S.durable S.state S.may C.is_read C.next settling t number (stage_now self.old) (stage_now self.new)) }
+        ensures broke { OnErr result (TargetBroke S.durable S.state S.may C.is_read C.next settling t number (stage_now self.old) self.new.targets.items) }
         ensures served { AreServed S.durable S.state C.is_read self.old.targets.items self.new.targets.items }
     {
         let before = self.targets[t].faults();

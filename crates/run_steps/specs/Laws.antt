@@ -69,8 +69,8 @@ module _ {S C : Type 0} (durable : S → Option Durable) (state : S → State) (
         record { reached = y; ended = quiet-has-ended r y.now (clients-stay r first y.now y.run ∙ lists) (sym (due-shown durable state r found a y.now y.shows true [] quiet)) }
 
     -- turns that go on lead to actors with the same beginning
-    pub from-on : (is_read : C → C → Type 0) (way : Way) (b : StageNow S C) → IsRun way → GoesOn durable state may is_read way a b → IsFrom durable state may r o first b
-    from-on is_read way b runs goes = record {
+    pub from-on : (is_read : C → C → Type 0) (next_reading : C → Option ℕ) (way : Way) (b : StageNow S C) → IsRun way → GoesOn durable state may is_read next_reading way a b → IsFrom durable state may r o first b
+    from-on is_read next_reading way b runs goes = record {
       begins = k.begins;
       told = k.told;
       reached = λ found are.
@@ -99,36 +99,36 @@ module _ {S C : Type 0} (durable : S → Option Durable) (state : S → State) (
   pub few-targets : (a : StageNow S C) → CanGo durable state may a → length a.targets ≤ 64
   few-targets a can = let many = can.many in let most = can.form.few_targets in omega (arith, many, most)
 
-  module _ (is_read : C → C → Type 0) where
+  module _ (is_read : C → C → Type 0) (next_reading : C → Option ℕ) where
     -- what goes on keeps all that is said of any stores
-    pub keeps-on : (way : Way) (a b : StageNow S C) → GoesOn durable state may is_read way a b → KeepsGoing durable state may is_read a b
+    pub keeps-on : (way : Way) (a b : StageNow S C) → GoesOn durable state may is_read next_reading way a b → KeepsGoing durable state may is_read a b
     keeps-on way a b goes = record { can = goes.going; clients = goes.clients; served = goes.served; accounts = goes.accounts; tells = goes.tells }
 
     module _ (findable : AreFindable durable may) (alike : AreAlike durable) (a : StageNow S C) (can : CanGo durable state may a) where
       module _ (b : StageNow S C) where
         module _ (n number : ℕ) (turned : ClientTurned n number a b) where
-          client-goes : GoesOn durable state may is_read (turn_of false (client n) number) a b
-          client-goes = client-turn-goes durable state may is_read findable alike a b can n number turned false
+          client-goes : GoesOn durable state may is_read next_reading (turn_of false (client n) number) a b
+          client-goes = client-turn-goes durable state may is_read next_reading findable alike a b can n number turned false
 
           -- a client's turn
           pub client-keeps : KeepsGoing durable state may is_read a b
           client-keeps = keeps-on (turn_of false (client n) number) a b client-goes
 
           pub client-from : (r : Rules) (o : Opening) (first : World) → IsFrom durable state may r o first a → IsFrom durable state may r o first b
-          client-from r o first k = from-on r o first a k is_read (turn_of false (client n) number) b (turns-run false (client n) number) client-goes
+          client-from r o first k = from-on r o first a k is_read next_reading (turn_of false (client n) number) b (turns-run false (client n) number) client-goes
 
-        module _ (settling : Bool) (t number : ℕ) (turned : TargetTurned durable state may is_read settling t number a b) where
-          target-goes : GoesOn durable state may is_read (turn_of settling (target t) number) a b
-          target-goes = target-turn-goes durable state may is_read findable alike a b can settling t number turned
+        module _ (settling : Bool) (t number : ℕ) (turned : TargetTurned durable state may is_read next_reading settling t number a b) where
+          target-goes : GoesOn durable state may is_read next_reading (turn_of settling (target t) number) a b
+          target-goes = target-turn-goes durable state may is_read next_reading findable alike a b can settling t number turned
 
           -- a target's turn
           pub target-keeps : KeepsGoing durable state may is_read a b
           target-keeps = keeps-on (turn_of settling (target t) number) a b target-goes
 
           pub target-from : (r : Rules) (o : Opening) (first : World) → IsFrom durable state may r o first a → IsFrom durable state may r o first b
-          target-from r o first k = from-on r o first a k is_read (turn_of settling (target t) number) b (turns-run settling (target t) number) target-goes
+          target-from r o first k = from-on r o first a k is_read next_reading (turn_of settling (target t) number) b (turns-run settling (target t) number) target-goes
 
       -- one in which memory was wanting
-      pub come-in_turn : AreSteady durable state may → (settling : Bool) (t number : ℕ) (xs : List (TargetOf S C)) → TargetBroke durable state may is_read settling t number a xs → (r : Rules) (o : Opening) (first : World) → IsFrom durable state may r o first a → (found : ℕ → Durable)
+      pub come-in_turn : AreSteady durable state may → (settling : Bool) (t number : ℕ) (xs : List (TargetOf S C)) → TargetBroke durable state may is_read next_reading settling t number a xs → (r : Rules) (o : Opening) (first : World) → IsFrom durable state may r o first a → (found : ℕ → Durable)
           → MayBeFoundOf durable state may xs found → HasComeTo r first (length xs) found
-      come-in_turn steady settling t number xs broke r o first k = come-to r o first a k xs (target-turn-breaks durable state may is_read steady findable alike a can settling t number xs broke k.told r)
+      come-in_turn steady settling t number xs broke r o first k = come-to r o first a k xs (target-turn-breaks durable state may is_read next_reading steady findable alike a can settling t number xs broke k.told r)

@@ -33,7 +33,7 @@ pub fn laws_of_steps<S: Store, C: Clock>()
     ensures clients { (r : Rules) (o : Opening) (first : World) (n number : ℕ) (a b : StageNow S C) → CanGo S.durable S.state S.may a
         → ClientTurned n number a b → IsFrom S.durable S.state S.may r o first a → IsFrom S.durable S.state S.may r o first b }
     ensures targets { (r : Rules) (o : Opening) (first : World) (settling : Bool) (t number : ℕ) (a b : StageNow S C) → CanGo S.durable S.state S.may a
-        → TargetTurned S.durable S.state S.may C.is_read settling t number a b → IsFrom S.durable S.state S.may r o first a → IsFrom S.durable S.state S.may r o first b }
+        → TargetTurned S.durable S.state S.may C.is_read C.next settling t number a b → IsFrom S.durable S.state S.may r o first a → IsFrom S.durable S.state S.may r o first b }
     ensures found { (r : Rules) (o : Opening) (first : World) (a : StageNow S C) → IsFrom S.durable S.state S.may r o first a
         → (found : ℕ → Durable) × AreFound S.may a found }
     ensures ended { (r : Rules) (o : Opening) (first : World) (a : StageNow S C) → IsFrom S.durable S.state S.may r o first a → AllAreDue S.durable S.state true a []
@@ -48,7 +48,7 @@ pub fn laws_of_breaks<S: Store, C: Clock>()
     ensures between { (r : Rules) (o : Opening) (first : World) (a : StageNow S C) → IsFrom S.durable S.state S.may r o first a
         → (found : ℕ → Durable) → MayBeFoundOf S.durable S.state S.may a.targets found → HasComeTo r first (length a.targets) found }
     ensures broke { (r : Rules) (o : Opening) (first : World) (settling : Bool) (t number : ℕ) (a : StageNow S C) (xs : List (TargetOf S C)) → CanGo S.durable S.state S.may a
-        → TargetBroke S.durable S.state S.may C.is_read settling t number a xs → IsFrom S.durable S.state S.may r o first a
+        → TargetBroke S.durable S.state S.may C.is_read C.next settling t number a xs → IsFrom S.durable S.state S.may r o first a
         → (found : ℕ → Durable) → MayBeFoundOf S.durable S.state S.may xs found → HasComeTo r first (length xs) found }
 {}
 
@@ -64,5 +64,5 @@ pub fn laws_of_going<S: Store, C: Clock>()
     ensures clients { (n number : ℕ) (a b : StageNow S C) → CanGo S.durable S.state S.may a
         → ClientTurned n number a b → KeepsGoing S.durable S.state S.may C.is_read a b }
     ensures targets { (settling : Bool) (t number : ℕ) (a b : StageNow S C) → CanGo S.durable S.state S.may a
-        → TargetTurned S.durable S.state S.may C.is_read settling t number a b → KeepsGoing S.durable S.state S.may C.is_read a b }
+        → TargetTurned S.durable S.state S.may C.is_read C.next settling t number a b → KeepsGoing S.durable S.state S.may C.is_read a b }
 {}

@@ -13,7 +13,7 @@ use Rattle.client_core.specs.Clients.{ClientNow}
 use Rattle.daos_model.specs.Opening.{Given, Opening}
 use Rattle.daos_model.specs.declared.durable.Durable.{Durable}
 use Rattle.run_base.specs.Letters.{BetweenNow}
-use Rattle.run_loop.specs.Below.{AllCanReopen, AllTell, AnswersGoOn, AreAccounted, AreAlike, AreArmed, AreDrawn, AreFindable, AreServed, AreSteady, AreTyped, AreUnfused, Breaks, BreaksOffSo, CanGo, ComesTo, EndsGoOn, HasRunWith, HaveStarted, IsFirstWatch, RunBegins, Shows, StageNow, TargetOf, all-tell, answers-first, armed-accounted, armed-first, before-fuse, breaks-off, broke-between, can-go, comes-to, ends-first, first-drawn, first_stage, first_world, fuses-serve, fuses-started, fuses-tell, given_by, left_of, nothing, report_with, run-begins, served-then, shows-first, states_of, stores_of, told-fuse}
+use Rattle.run_loop.specs.Below.{AllCanReopen, AllTell, AnswersGoOn, AreAccounted, AreAlike, AreArmed, AreDrawn, AreFindable, AreServed, AreSteady, AreTyped, AreUnfused, Breaks, BreaksOffSo, CanGo, ComesByClocks, ComesTo, EndsGoOn, HasEndedSo, HasRunWith, HaveStarted, IsFirstWatch, RunBegins, Shows, StageNow, TargetOf, all-tell, answers-first, armed-accounted, armed-first, before-fuse, breaks-off, broke-between, can-go, comes-by_clocks, comes-to, ends-first, first-drawn, first_stage, first_world, fuses-serve, fuses-started, fuses-tell, given_by, left_of, nothing, report_with, run-begins, served-then, shows-first, states_of, stores_of, told-fuse}
 use Rattle.run_targets.proofs.Telling.{first, told-first}
 use Rattle.run_watch.specs.Watches.{WatchNow, first_watch}
 use Rattle.vos_store.specs.Calls.{State}
@@ -55,13 +55,13 @@ module _ {S C Z : Type 0} (durable : S → Option Durable) (state : S → State)
 -- ---- a run that hasn't begun
 
 -- memory was wanting before the first turn
-pub breaks-early : {S C Z : Type 0} (durable : S → Option Durable) (state : S → State) (may : S → Durable → Type 0) (is_read : C → C → Type 0) (s : Script) (j : Job) (o : Opening) (cs : List ClientNow) (v : Vec (TargetOf S C) Z) (xs ys : List (TargetOf S C)) → xs ≡ v.items → AreUnfused durable state may xs ys
+pub breaks-early : {S C Z : Type 0} (durable : S → Option Durable) (state : S → State) (may : S → Durable → Type 0) (is_read : C → C → Type 0) (next_reading : C → Option ℕ) (s : Script) (j : Job) (o : Opening) (cs : List ClientNow) (v : Vec (TargetOf S C) Z) (xs ys : List (TargetOf S C)) → xs ≡ v.items → AreUnfused durable state may xs ys
     → AreSteady durable state may → AreAlike durable → HaveStarted durable state (given_by s j o) cs v.items → AllTell durable (stores_of v.items) → BreaksOffSo durable may (given_by s j o) (stores_of v.items) (stores_of (with_items v ys).items)
-breaks-early durable state may is_read s j o cs v xs ys its k steady alike started told =
+breaks-early durable state may is_read next_reading s j o cs v xs ys its k steady alike started told =
     subst (λ zs. BreaksOffSo durable may (given_by s j o) (stores_of v.items) (stores_of zs)) (sym (put-is durable state may v xs ys its k))
     (breaks-off durable state may (given_by s j o) cs v.items v.items v.items ys (first_watch s.targets s.stops) started told (all-tell durable state may alike (given_by s j o) cs v.items started told) refl refl
     (λ t x y at there. let same : x ≡ y = let e : Some x ≡ Some y = sym at ∙ there in cc in ap (λ z. durable z.store) (sym same))
-    (broke-between durable state may is_read steady (first_stage cs v.items (first_watch s.targets s.stops)) v.items refl) (subst (λ zs. AreUnfused durable state may zs ys) its k))
+    (broke-between durable state may is_read next_reading steady (first_stage cs v.items (first_watch s.targets s.stops)) v.items refl) (subst (λ zs. AreUnfused durable state may zs ys) its k))
 
 -- ---- before the run
 
@@ -109,7 +109,7 @@ module _ {S C Z : Type 0} (durable : S → Option Durable) (state : S → State)
 
   -- ---- and after it
 
-  module _ (is_read : C → C → Type 0) (rest : Vec (TargetOf S C) Z) (in_the_end : WatchNow) (left ys : List (TargetOf S C)) (those : left ≡ rest.items) (gone : AreUnfused durable state may left ys)
+  module _ (is_read : C → C → Type 0) (next_reading : C → Option ℕ) (rest : Vec (TargetOf S C) Z) (in_the_end : WatchNow) (left ys : List (TargetOf S C)) (those : left ≡ rest.items) (gone : AreUnfused durable state may left ys)
       (served : AreServed durable state is_read stage.targets rest.items) where
     serves : AreServed durable state is_read armed rest.items
     serves = subst (λ zs. AreServed durable state is_read zs rest.items) put served
@@ -125,11 +125,11 @@ module _ {S C Z : Type 0} (durable : S → Option Durable) (state : S → State)
       armed-told = fuses-tell durable state may v.items armed fuses.fuses told
 
       module _ {E : Type 0} (ran : Result (List Line) E) (found-lines : List Line) (is : ran ≡ Ok found-lines) where
-        has-run : ((r : Rules) (first : World) (p : Opening) → RunBegins r p first → AreDrawn first → ((found : ℕ → Durable) → Shows durable state r found stage first) → IfOk ran (λ ls. HasRunWith durable state may r j.order first stage.targets (left_of rest.items in_the_end ls)))
-            → HasRunWith durable state may (rules_of (given_by s j o)) j.order (first_world durable state cs armed) armed (left_of rest.items in_the_end found-lines)
+        has-run : ((r : Rules) (first : World) (p : Opening) → RunBegins r p first → AreDrawn first → ((found : ℕ → Durable) → Shows durable state r found stage first) → IfOk ran (λ ls. HasRunWith durable state is_read next_reading may r j.order first stage.targets (left_of rest.items in_the_end ls)))
+            → HasRunWith durable state is_read next_reading may (rules_of (given_by s j o)) j.order (first_world durable state cs armed) armed (left_of rest.items in_the_end found-lines)
         has-run run =
-            subst (λ zs. HasRunWith durable state may (rules_of (given_by s j o)) j.order (first_world durable state cs armed) zs (left_of rest.items in_the_end found-lines)) put
-            (subst (λ z. IfOk z (λ ls. HasRunWith durable state may (rules_of (given_by s j o)) j.order (first_world durable state cs armed) stage.targets (left_of rest.items in_the_end ls))) is
+            subst (λ zs. HasRunWith durable state is_read next_reading may (rules_of (given_by s j o)) j.order (first_world durable state cs armed) zs (left_of rest.items in_the_end found-lines)) put
+            (subst (λ z. IfOk z (λ ls. HasRunWith durable state is_read next_reading may (rules_of (given_by s j o)) j.order (first_world durable state cs armed) stage.targets (left_of rest.items in_the_end ls))) is
             (run (rules_of (given_by s j o)) (first_world durable state cs armed) o (run-begins durable state (given_by s j o) cs armed (begins o started) armed-told) (first-drawn durable state (given_by s j o) cs armed (begins o started))
             (λ found. subst (λ a. Shows durable state (rules_of (given_by s j o)) found a (first_world durable state cs armed)) (sym stage-is) (shows-first durable state (given_by s j o) cs armed (begins o started) armed-told now is-first found))))
 
@@ -138,28 +138,41 @@ module _ {S C Z : Type 0} (durable : S → Option Durable) (state : S → State)
             subst (λ z. IfOk z (λ ls. AreAccounted durable state (states_of state v.items) s.stops (left_of rest.items in_the_end ls))) is
             (accounts (states_of state v.items) s.stops (subst (AreAccounted durable state (states_of state v.items) s.stops) (sym stage-is) (armed-accounted durable state may s.stops s.targets cs v.items armed now fuses)))
 
+        has-ended : ((r : Rules) (first : World) (p : Opening) → RunBegins r p first → AreDrawn first → ((found : ℕ → Durable) → Shows durable state r found stage first) → IfOk ran (λ ls. HasRunWith durable state is_read next_reading may r j.order first stage.targets (left_of rest.items in_the_end ls)))
+            → ((h : ℕ → State) (some : List StopDecl) → AreAccounted durable state h some stage → IfOk ran (λ ls. AreAccounted durable state h some (left_of rest.items in_the_end ls)))
+            → IfOk ran (λ ls. AllCanReopen durable state may rest.items) → HasEndedSo durable state may is_read next_reading (given_by s j o) cs v.items ys found-lines
+        has-ended run accounts reopens = record {
+          armed = armed;
+          at_first = now;
+          fuses = fuses;
+          rest = rest.items;
+          in_the_end = in_the_end;
+          run = has-run run;
+          accounted = accounted accounts;
+          many = serves.many;
+          reopens = subst (λ z. IfOk z (λ ls. AllCanReopen durable state may rest.items)) is reopens;
+          unfused = subst (λ zs. AreUnfused durable state may zs ys) those gone;
+        }
+
         -- the run came to that
         pub comes : AreSteady durable state may → AreFindable durable may → AreAlike durable
-            → ((r : Rules) (first : World) (p : Opening) → RunBegins r p first → AreDrawn first → ((found : ℕ → Durable) → Shows durable state r found stage first) → IfOk ran (λ ls. HasRunWith durable state may r j.order first stage.targets (left_of rest.items in_the_end ls)))
+            → ((r : Rules) (first : World) (p : Opening) → RunBegins r p first → AreDrawn first → ((found : ℕ → Durable) → Shows durable state r found stage first) → IfOk ran (λ ls. HasRunWith durable state is_read next_reading may r j.order first stage.targets (left_of rest.items in_the_end ls)))
             → ((h : ℕ → State) (some : List StopDecl) → AreAccounted durable state h some stage → IfOk ran (λ ls. AreAccounted durable state h some (left_of rest.items in_the_end ls)))
             → IfOk ran (λ ls. AllCanReopen durable state may rest.items) → (q : Report) → q ≡ report_with s found-lines → AreTyped found-lines → ComesTo durable state may (given_by s j o) (stores_of v.items) (stores_of (with_items rest ys).items) q
         comes steady findable alike run accounts reopens q report typed =
             subst (ComesTo durable state may (given_by s j o) (stores_of v.items) (stores_of (with_items rest ys).items)) (sym report)
             (subst (λ zs. ComesTo durable state may (given_by s j o) (stores_of v.items) (stores_of zs) (report_with s found-lines)) (sym (put-is durable state may rest left ys those gone))
-            (comes-to durable state may steady findable alike (given_by s j o) cs v.items ys found-lines started told
-            (record {
-              armed = armed;
-              at_first = now;
-              fuses = fuses;
-              rest = rest.items;
-              in_the_end = in_the_end;
-              run = has-run run;
-              accounted = accounted accounts;
-              many = serves.many;
-              reopens = subst (λ z. IfOk z (λ ls. AllCanReopen durable state may rest.items)) is reopens;
-              unfused = subst (λ zs. AreUnfused durable state may zs ys) those gone;
-            })
-            typed))
+            (comes-to durable state may is_read next_reading steady findable alike (given_by s j o) cs v.items ys found-lines started told (has-ended run accounts reopens) typed))
+
+        -- and the clocks gave the readings of that run
+        pub comes-read : AreSteady durable state may → AreFindable durable may → AreAlike durable
+            → ((r : Rules) (first : World) (p : Opening) → RunBegins r p first → AreDrawn first → ((found : ℕ → Durable) → Shows durable state r found stage first) → IfOk ran (λ ls. HasRunWith durable state is_read next_reading may r j.order first stage.targets (left_of rest.items in_the_end ls)))
+            → ((h : ℕ → State) (some : List StopDecl) → AreAccounted durable state h some stage → IfOk ran (λ ls. AreAccounted durable state h some (left_of rest.items in_the_end ls)))
+            → IfOk ran (λ ls. AllCanReopen durable state may rest.items) → (q : Report) → q ≡ report_with s found-lines → AreTyped found-lines → ComesByClocks durable state may is_read next_reading (given_by s j o) v.items (with_items rest ys).items q
+        comes-read steady findable alike run accounts reopens q report typed =
+            subst (ComesByClocks durable state may is_read next_reading (given_by s j o) v.items (with_items rest ys).items) (sym report)
+            (subst (λ zs. ComesByClocks durable state may is_read next_reading (given_by s j o) v.items zs (report_with s found-lines)) (sym (put-is durable state may rest left ys those gone))
+            (comes-by_clocks durable state may is_read next_reading steady findable alike (given_by s j o) cs v.items ys found-lines started told (has-ended run accounts reopens) typed))
 
       -- memory was wanting in it
       pub breaks-late : {T E : Type 0} (ran : Result T E) (error : E) → ran ≡ Err error → AreSteady durable state may → AreAlike durable → IfErr ran (λ e. Breaks durable state may stage rest.items)

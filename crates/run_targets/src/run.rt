@@ -1,7 +1,7 @@
 // Clients and targets run a script.
 ghost use Rattle.std.specs.Prelude.{◌≡◌, ◌≤◌, ◌<◌, ℕ, IfErr, IfOk, length, slice_get, Some, true, false};
 ghost use Rattle.daos_model.specs.Opening.{Opening};
-ghost use Rattle.run_loop.specs.Below.{AllBeginInTurn, AllTell, AllTellInOrder, AreServed, BreaksOffSo, ComesTo, HaveStarted, IsReportOfLines, TargetOf, given_by, stores_of};
+ghost use Rattle.run_loop.specs.Below.{AllBeginInTurn, AllTell, AllTellInOrder, AreServed, BreaksOffSo, ComesByClocks, ComesTo, HaveStarted, IsReportOfLines, TargetOf, given_by, stores_of};
 ghost use Rattle.report_round_trip.specs.Values.{AllTellBytes};
 ghost use Rattle.world_ended.specs.Clients.{AllEndWell};
 ghost use Rattle.world_letters.specs.kinds.Fitting.{AllAnswersFit};
@@ -44,6 +44,8 @@ pub fn run_targets<R: Wait, S: Fuse, C: Clock, G: Gate>(
     requires started { (o : Opening) × HaveStarted S.durable S.state (given_by script.now job.now o) clients.items targets.items }
     ensures comes { (o : Opening) → HaveStarted S.durable S.state (given_by script.now job.now o) clients.items targets.items → AllTell S.durable (stores_of targets.items)
         → IfOk result.1 (ComesTo S.durable S.state S.may (given_by script.now job.now o) (stores_of targets.items) (stores_of result.0.items)) }
+    ensures read { (o : Opening) → HaveStarted S.durable S.state (given_by script.now job.now o) clients.items targets.items → AllTell S.durable (stores_of targets.items)
+        → IfOk result.1 (ComesByClocks S.durable S.state S.may C.is_read C.next (given_by script.now job.now o) targets.items result.0.items) }
     ensures broke { (o : Opening) → HaveStarted S.durable S.state (given_by script.now job.now o) clients.items targets.items → AllTell S.durable (stores_of targets.items)
         → IfErr result.1 (λ error. BreaksOffSo S.durable S.may (given_by script.now job.now o) (stores_of targets.items) (stores_of result.0.items)) }
     ensures told { IfOk result.1 (IsReportOfLines script.now) }

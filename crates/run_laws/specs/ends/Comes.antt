@@ -23,6 +23,9 @@ use Rattle.run_laws.specs.steps.Ended.{CanReopen}
 use Rattle.run_laws.specs.turns.Faults.{cuts_and_failures}
 use Rattle.run_laws.specs.turns.OrderLaws.{orders-are-runs}
 use Rattle.run_laws.specs.turns.Orders.{InOrder}
+use Rattle.run_laws.specs.turns.Readings.{HasGiven, readings_of}
+use Rattle.target_core.specs.Targets.{TargetOf}
+use Rattle.run_laws.specs.ends.Starts.{stores_of}
 use Rattle.vos_store.specs.Calls.{State}
 use Rattle.world_commit.specs.attempts.Attempts.{IsOther}
 use Rattle.world_base.specs.declared.target.Life.TheVariants.{Running}
@@ -143,6 +146,11 @@ pub record IsOrdered {S : Type 0} (durable : S → Option Durable) (state : S �
   pub kept : MayBeFound may ys (durables_of follows.last)
   pub faults : (t : ℕ) (x y : S) → slice_get xs t ≡ Some x → slice_get ys t ≡ Some y → AtMostBothRise (cuts_and_failures t (orders-are-runs (rules_of g) g.job.order follows.first follows.last follows.run)) (state x) (state y)
 
+-- In the run that a report follows each of these clocks, by the number of a target, gave just the readings at which that target's events issued
+-- epochs, or found that none are left: one after another, each where it is the clock's next one, if that is told, and no others.
+abbrev pub ClocksGave : {C : Type 0} → (C → C → Type 0) → (C → Option ℕ) → (g : Given) (q : Report) → FollowsOrder g q → (ℕ → C → C → Type 0) → Type 0
+ClocksGave {C} is_read next_reading g q f AreOf = (t : ℕ) (c d : C) → AreOf t c d → HasGiven is_read next_reading c (readings_of t (orders-are-runs (rules_of g) g.job.order f.first f.last f.run)) d
+
 -- ---- a run after this one
 
 -- What was kept is sound together, and each frozen snapshot lies at or below the floor of its container.
@@ -193,3 +201,17 @@ pub record ComesTo {S : Type 0} (durable : S → Option Durable) (state : S → 
   pub unsnapped : RunsPlainly durable g xs → (lasts : List Durable) → MayBeFound may ys lasts → created_snaps lasts ≡ []
   pub reopens : LeavesReopenable durable may ys
   pub ordered : IsOrdered durable state may g q xs ys
+
+-- the clocks of a target, before a run and after it
+pub record AreClocksAt {S C : Type 0} (xs ys : List (TargetOf S C)) (t : ℕ) (c d : C) : Type 0 where
+  pub before : TargetOf S C
+  pub after : TargetOf S C
+  pub at : slice_get xs t ≡ Some before
+  pub there : slice_get ys t ≡ Some after
+  pub first : c ≡ before.clock
+  pub last : d ≡ after.clock
+
+-- What a run of these targets comes to, with their clocks: those gave just the readings of the run that the report follows.
+pub record ComesByClocks {S C : Type 0} (durable : S → Option Durable) (state : S → State) (may : S → Durable → Type 0) (is_read : C → C → Type 0) (next_reading : C → Option ℕ) (g : Given) (xs ys : List (TargetOf S C)) (q : Report) : Type 0 where
+  pub comes : ComesTo durable state may g (stores_of xs) (stores_of ys) q
+  pub clocks : ClocksGave is_read next_reading g q comes.ordered.follows (AreClocksAt xs ys)

@@ -40,6 +40,7 @@ use Rattle.run_laws.specs.shows.Parts.{at-both}
 use Rattle.run_laws.specs.shows.Shows.{IsTargetOf}
 use Rattle.run_laws.specs.shows.Stages.{StageNow}
 use Rattle.run_laws.specs.steps.Ended.{AllCanReopen, HasRun, HasRunWith, left_of}
+use Rattle.run_laws.specs.turns.Readings.{HasGiven, NoneGiven, readings_of}
 use Rattle.run_laws.specs.turns.Faults.{cuts_and_failures}
 use Rattle.run_laws.specs.turns.OrderLaws.{orders-are-runs}
 use Rattle.run_watch.specs.Watches.{WatchNow, first_watch}
@@ -63,7 +64,7 @@ use Rattle.run_laws.specs.ends.Armed.{before-fuse, fuses-started, fuses-tell, st
 use Rattle.run_laws.specs.ends.Arming.{AreArmed, AreUnfused}
 use Rattle.run_laws.specs.ends.Begun.{told-is}
 use Rattle.run_laws.specs.ends.Caused.{end-caused, stops-caused}
-use Rattle.run_laws.specs.ends.Comes.{AreIssuedThere, AreKept, ComesTo, EndsUnstopped, IsAsStored, IsCommittedIn, IsOrdered, IsOutside, IsSoundAgain, LacksMember, LeavesReopenable, MayBeFound, RunsPlainly, StandPlainly, memory_at_first, report_with}
+use Rattle.run_laws.specs.ends.Comes.{AreIssuedThere, AreKept, ComesByClocks, ComesTo, EndsUnstopped, IsAsStored, IsCommittedIn, IsOrdered, IsOutside, IsSoundAgain, LacksMember, LeavesReopenable, MayBeFound, RunsPlainly, StandPlainly, memory_at_first, report_with}
 use Rattle.run_laws.specs.ends.Keeping.{all-tell, begins-plainly, first-keeps, none-created, sound-again, stands-so}
 use Rattle.run_laws.specs.ends.Lasts.{are-found, found_at, its-target, keeps-lasts, some-may_be, some_lasts}
 use Rattle.run_laws.specs.ends.Places.{IsMapped, from-map}
@@ -92,20 +93,20 @@ just-as s h free opening life memory =
 module _ {S C : Type 0} (durable : S → Option Durable) (state : S → State) (may : S → Durable → Type 0) where
   -- A run of these clients and targets has ended. Before it the fuse of each target's first stop line was set; it ended with these lines, and left
   -- these targets, whose fuses were taken away.
-  pub record HasEndedSo (g : Given) (cs : List ClientNow) (xs ys : List (TargetOf S C)) (lines : List Line) : Type 0 where
+  pub record HasEndedSo (is_read : C → C → Type 0) (next_reading : C → Option ℕ) (g : Given) (cs : List ClientNow) (xs ys : List (TargetOf S C)) (lines : List Line) : Type 0 where
     pub armed : List (TargetOf S C)
     pub at_first : WatchNow
     pub fuses : AreArmed durable state may xs armed (first_watch g.script.targets g.script.stops) at_first
     pub rest : List (TargetOf S C)
     pub in_the_end : WatchNow
-    pub run : HasRunWith durable state may (rules_of g) g.job.order (first_world durable state cs armed) armed (left_of rest in_the_end lines)
+    pub run : HasRunWith durable state is_read next_reading may (rules_of g) g.job.order (first_world durable state cs armed) armed (left_of rest in_the_end lines)
     pub accounted : AreAccounted durable state (states_of state xs) g.script.stops (left_of rest in_the_end lines)
     pub many : length rest ≡ length armed
     pub reopens : AllCanReopen durable state may rest
     pub unfused : AreUnfused durable state may rest ys
 
-  module _ (steady : AreSteady durable state may) (findable : AreFindable durable may) (alike : AreAlike durable) (g : Given) (cs : List ClientNow) (xs ys : List (TargetOf S C)) (lines : List Line) (k : HaveStarted durable state g cs xs)
-      (told : AllTell durable (stores_of xs)) (e : HasEndedSo g cs xs ys lines) where
+  module _ (is_read : C → C → Type 0) (next_reading : C → Option ℕ) (steady : AreSteady durable state may) (findable : AreFindable durable may) (alike : AreAlike durable) (g : Given) (cs : List ClientNow) (xs ys : List (TargetOf S C)) (lines : List Line) (k : HaveStarted durable state g cs xs)
+      (told : AllTell durable (stores_of xs)) (e : HasEndedSo is_read next_reading g cs xs ys lines) where
     abbrev r : Rules
     r = rules_of g
 
@@ -133,7 +134,7 @@ module _ {S C : Type 0} (durable : S → Option Durable) (state : S → State) (
 
     module _ (lasts : List Durable) (m : MayBeFound may (stores_of ys) lasts) where
       -- a run ended in a world that keeps this
-      run : HasRun durable state r g.job.order first e.armed (found_at lasts) left
+      run : HasRun durable state is_read next_reading r g.job.order first e.armed (found_at lasts) left
       run = e.run (found_at lasts) (are-found durable state may steady e.rest ys e.in_the_end lines e.unfused lasts m)
 
       abbrev last : World
@@ -143,7 +144,7 @@ module _ {S C : Type 0} (durable : S → Option Durable) (state : S → State) (
       goes = record { begins = begins.begins; restarts = refl; run = run.run }
 
       keeps : durables_of last ≡ lasts
-      keeps = keeps-lasts durable state may steady e.rest ys e.in_the_end lines e.unfused lasts m r g.job.order first run
+      keeps = keeps-lasts durable state may steady e.rest ys e.in_the_end lines e.unfused lasts m is_read next_reading r g.job.order first run
 
       same-report : report_over r last ≡ report
       same-report = ap (λ ls. record { targets = g.script.targets; lines = ls; down = least (down_targets ls) }) (sym run.told)
@@ -160,7 +161,7 @@ module _ {S C : Type 0} (durable : S → Option Durable) (state : S → State) (
       -- a target that runs there keeps what its store tells
       kept-running : (t : ℕ) (z : S) (s : TargetState) → slice_get (stores_of ys) t ≡ Some z → slice_get last.targets t ≡ Some s → s.life ≡ Running → durable z ≡ Some s.durable
       kept-running t z s at here runs =
-          let x = its-target durable state may steady e.rest ys e.in_the_end lines e.unfused lasts m r g.job.order first run t s here in
+          let x = its-target durable state may steady e.rest ys e.in_the_end lines e.unfused lasts m is_read next_reading r g.job.order first run t s here in
           let y = from-map (λ p. p.store) ys t z at in
           ap durable y.is ∙ (e.unfused.each t x.0 y.of_it x.1 y.at).kept ∙ (subst (λ l. IsTargetOf durable state (target_plan r t) l (found_at lasts t) x.0 s) runs x.2).so.told
 
@@ -278,7 +279,7 @@ module _ {S C : Type 0} (durable : S → Option Durable) (state : S → State) (
       store-runs : (t : ℕ) (z : S) → slice_get (stores_of ys) t ≡ Some z → (Contains (down_targets lines) t → ⊥) → (state z).stopped ≡ false
       store-runs t z at up =
           let s = there t z at in
-          let x = its-target durable state may steady e.rest ys e.in_the_end lines e.unfused lasts m r g.job.order first run t s.0 s.1 in
+          let x = its-target durable state may steady e.rest ys e.in_the_end lines e.unfused lasts m is_read next_reading r g.job.order first run t s.0 s.1 in
           let y = from-map (λ p. p.store) ys t z at in
           ap (λ q. (state q).stopped) y.is ∙ ap (λ h. h.stopped) (e.unfused.each t x.0 y.of_it x.1 y.at).state_is.rest ∙ (subst (λ l. IsTargetOf durable state (target_plan r t) l (found_at lasts t) x.0 s.0) (runs-there t z s.0 at s.1 up) x.2).so.running
 
@@ -374,6 +375,14 @@ module _ {S C : Type 0} (durable : S → Option Durable) (state : S → State) (
         faults = within-rises;
       }
 
+      -- the clocks gave what they gave, whatever fuses were set
+      have-given : (t : ℕ) (x y : TargetOf S C) → slice_get xs t ≡ Some x → slice_get ys t ≡ Some y → HasGiven is_read next_reading x.clock (readings_of t (orders-are-runs r g.job.order first last run.run)) y.clock
+      have-given t x y at there =
+          let a = at-both xs e.armed t x e.fuses.fuses.many at in
+          let b = before-fuse durable state may e.rest ys e.unfused t y there in
+          subst (λ c. HasGiven is_read next_reading x.clock (readings_of t (orders-are-runs r g.job.order first last run.run)) c) (sym (e.unfused.each t b.0 y b.1 there).clock)
+          (run.clocks t a.0 b.0 a.1 b.1 x.clock (subst (λ c. HasGiven is_read next_reading x.clock [] c) (sym (e.fuses.fuses.each t x a.0 at a.1).clock) NoneGiven))
+
     -- the fuses that are taken away leave it so that stores may be opened again
     reopenable : LeavesReopenable durable may (stores_of ys)
     reopenable t y at d told f found =
@@ -405,4 +414,14 @@ module _ {S C : Type 0} (durable : S → Option Durable) (state : S → State) (
       unsnapped = λ plain lasts m. none-created r g.opening lasts plain.simple plain.opening.no_snaps (stands-so r g.opening first (last lasts m) lasts begins.begins begins.holds (orders-are-runs r g.job.order first (last lasts m) (run lasts m).run) (keeps lasts m));
       reopens = reopenable;
       ordered = is-ordered some so;
+    }
+
+    -- and so each target's clock gave the readings of that run
+    pub comes-by_clocks : AreTyped lines → ComesByClocks durable state may is_read next_reading g xs ys report
+    unfolding comes-to is-ordered run
+    comes-by_clocks typed = record {
+      comes = comes-to typed;
+      clocks = λ t c d k.
+          subst (λ z. HasGiven is_read next_reading z (readings_of t (orders-are-runs r g.job.order first (last some so) (run some so).run)) d) (sym k.first)
+          (subst (λ z. HasGiven is_read next_reading k.before.clock (readings_of t (orders-are-runs r g.job.order first (last some so) (run some so).run)) z) (sym k.last) (have-given some so t k.before k.after k.at k.there));
     }

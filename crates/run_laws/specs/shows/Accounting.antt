@@ -25,15 +25,15 @@ use Rattle.world_letters.specs.lives.Adding.{stops_of}
 
 -- ---- what the lines tell
 
-module _ {S C : Type 0} (durable : S → Option Durable) (state : S → State) (may : S → Durable → Type 0) (a b : StageNow S C) (settling : Bool) (actor : ActorId) (k raised : ℕ) (stops downs faults : Option ℕ) (g : IsGoing durable state may a)
-    (leads : Leads durable state may (IsTurnSo settling g.rules actor k raised stops downs faults) g.rules a b) (findable : AreFindable durable may) (all : (x : TargetOf S C) → is_some (durable x.store) ≡ true) where
+module _ {S C : Type 0} (durable : S → Option Durable) (state : S → State) (may : S → Durable → Type 0) (a b : StageNow S C) (settling : Bool) (actor : ActorId) (k raised : ℕ) (stops downs faults : Option ℕ) (read : Option (ℕ × ℕ)) (g : IsGoing durable state may a)
+    (leads : Leads durable state may (IsTurnSo settling g.rules actor k raised stops downs faults read) g.rules a b) (findable : AreFindable durable may) (all : (x : TargetOf S C) → is_some (durable x.store) ≡ true) where
   -- one stop more of the target that stopped, and none of another; one more that was given up, if one was
   pub stops-told : (t : ℕ) → stops_told_in b.between.lines t ≡ stops_told_in a.between.lines t + stops_of stops t
   stops-told t =
       let found = some-found durable state may findable b all in
       let z = leads found (found-some durable state may findable b all) in
       let y = g.reached z.before z.were in
-      let l = z.led y.now (was durable state may a b settling actor k raised stops downs faults g leads z.before z.were y) y.shows in
+      let l = z.led y.now (was durable state may a b settling actor k raised stops downs faults read g leads z.before z.were y) y.shows in
       let told = turns-tell_stops settling g.rules actor k y.now l.next l.turn.turn in
       ap (λ ls. stops_told_in ls t) l.shows.lines ∙ told.stops t ∙ ap (λ o. stops_told_in y.now.lines t + stops_of o t) l.turn.stops_is ∙ ap (λ ls. stops_told_in ls t + stops_of stops t) (sym y.shows.lines)
 
@@ -42,7 +42,7 @@ module _ {S C : Type 0} (durable : S → Option Durable) (state : S → State) (
       let found = some-found durable state may findable b all in
       let z = leads found (found-some durable state may findable b all) in
       let y = g.reached z.before z.were in
-      let l = z.led y.now (was durable state may a b settling actor k raised stops downs faults g leads z.before z.were y) y.shows in
+      let l = z.led y.now (was durable state may a b settling actor k raised stops downs faults read g leads z.before z.were y) y.shows in
       let told = turns-tell_stops settling g.rules actor k y.now l.next l.turn.turn in
       ap down_targets l.shows.lines ∙ told.downs ∙ ap (λ o. down_targets y.now.lines ++ one_or_none o) l.turn.downs_is ∙ ap (λ ls. down_targets ls ++ one_or_none downs) (sym y.shows.lines)
 

@@ -55,7 +55,7 @@ module _ {S C : Type 0} (durable : S → Option Durable) (state : S → State) (
 
     -- it heard a message
     pub client-hears : (settling : Bool) (number : ℕ) (l : Letter) (rest : List Letter) → c.state.skip ≡ 0 → IsPicked a.between.messages (client n) number l rest → left.messages ≡ rest → HearTurn c.plan c.state l.message did d.state
-        → Leads durable state may (IsTurnSo settling r (client n) number 0 None None None) r a client-after
+        → Leads durable state may (IsTurnSo settling r (client n) number 0 None None None None) r a client-after
     client-hears settling number l rest awake picked messages turn found are = record {
       before = found;
       were = same-found found are;
@@ -87,6 +87,7 @@ module _ {S C : Type 0} (durable : S → Option Durable) (state : S → State) (
           stops_is = refl;
           downs_is = refl;
           faults_is = refl;
+          read_is = refl;
         };
         shows = shown found w rest messages k;
       };
@@ -94,7 +95,7 @@ module _ {S C : Type 0} (durable : S → Option Durable) (state : S → State) (
 
     -- it went on without one
     pub client-goes : (settling : Bool) (number : ℕ) → heard_awake c.state (count_to (client n) a.between.messages) ≡ 0 → left.messages ≡ a.between.messages → NextTurn c.plan c.state did d.state
-        → Leads durable state may (IsTurnSo settling r (client n) number 0 None None None) r a client-after
+        → Leads durable state may (IsTurnSo settling r (client n) number 0 None None None None) r a client-after
     client-goes settling number none messages turn found are = record {
       before = found;
       were = same-found found are;
@@ -121,6 +122,7 @@ module _ {S C : Type 0} (durable : S → Option Durable) (state : S → State) (
           stops_is = refl;
           downs_is = refl;
           faults_is = refl;
+          read_is = refl;
         };
         shows = shown found w w.messages (messages ∙ k.messages) k;
       };

@@ -239,19 +239,19 @@ module _ {S C : Type 0} (durable : S → Option Durable) (state : S → State) (
           })
       by (NotOpened stop is after) = failed stop after
 
-  turn-leaves : (r : Rules) (is_read : C → C → Type 0) (settling : Bool) (number : ℕ) → TargetTurned durable state may is_read settling t number a b → Leaves asked a b
-  turn-leaves r is_read settling number (Worked w) =
-      work-leaves w.work.before w.work.now w.work.left w.work.result w.work.place (turned-lines durable state may r a b t settling number w.work.before w.work.now w.work.left w.work.result w.work.turned)
-      (turned-goes settling number w.work.before w.work.now w.work.left w.work.result w.work.turned) w.work.told (w.work.ends asked k.between.letters) w.ends
-  turn-leaves r is_read settling number (Reopened w) = opening-leaves w.was.before w.was.now w.was.result w.was.place w.was.line (w.was.ends asked) w.ends
+  turn-leaves : (r : Rules) (is_read : C → C → Type 0) (next_reading : C → Option ℕ) (settling : Bool) (number : ℕ) → TargetTurned durable state may is_read next_reading settling t number a b → Leaves asked a b
+  turn-leaves r is_read next_reading settling number (Worked w) =
+      work-leaves w.work.before w.work.now w.work.left w.work.result w.work.place (turned-lines durable state may r a b t settling number w.work.before w.work.now w.work.left w.work.result w.work.came.turned)
+      (turned-goes settling number w.work.before w.work.now w.work.left w.work.result w.work.came.turned) w.work.told (w.work.ends asked k.between.letters) w.ends
+  turn-leaves r is_read next_reading settling number (Reopened w) = opening-leaves w.was.before w.was.now w.was.result w.was.place w.was.line (w.was.ends asked) w.ends
 
 -- a target's turn goes on so
-target-ends : {S C : Type 0} (durable : S → Option Durable) (state : S → State) (may : S → Durable → Type 0) (r : Rules) (a b : StageNow S C) (t : ℕ) (is_read : C → C → Type 0) (settling : Bool) (number : ℕ)
-    → TargetTurned durable state may is_read settling t number a b → EndsGoOn r a → EndsGoOn r b
-target-ends durable state may r a b t is_read settling number turned k =
-    let left = turn-leaves durable state may a b t k.asked k.going r is_read settling number turned in
+target-ends : {S C : Type 0} (durable : S → Option Durable) (state : S → State) (may : S → Durable → Type 0) (r : Rules) (a b : StageNow S C) (t : ℕ) (is_read : C → C → Type 0) (next_reading : C → Option ℕ) (settling : Bool) (number : ℕ)
+    → TargetTurned durable state may is_read next_reading settling t number a b → EndsGoOn r a → EndsGoOn r b
+target-ends durable state may r a b t is_read next_reading settling number turned k =
+    let left = turn-leaves durable state may a b t k.asked k.going r is_read next_reading settling number turned in
     record {
-      answers = target-goes-on durable state may r a b t is_read settling number turned k.answers;
+      answers = target-goes-on durable state may r a b t is_read next_reading settling number turned k.answers;
       asked = k.asked;
       clients = λ n c at. k.clients n c (ap (λ cs. slice_get cs n) (sym left.clients) ∙ at);
       going = left.going;
@@ -412,10 +412,10 @@ tells-then r a b c k l = record { in_turn = λ t. l.in_turn (k.in_turn t); answe
 pub client-tells-on : {S C : Type 0} (r : Rules) (n number : ℕ) (a b : StageNow S C) → ClientTurned n number a b → TellsOn r a b
 client-tells-on r n number a b k = record { in_turn = client-tells r n number a b k; answers = client-goes-on r n number a b k; ends = client-ends r n number a b k }
 
-pub target-tells-on : {S C : Type 0} (durable : S → Option Durable) (state : S → State) (may : S → Durable → Type 0) (r : Rules) (a b : StageNow S C) (t : ℕ) (is_read : C → C → Type 0) (settling : Bool) (number : ℕ)
-    → TargetTurned durable state may is_read settling t number a b → TellsOn r a b
-target-tells-on durable state may r a b t is_read settling number k = record {
-  in_turn = target-tells durable state may r a b t is_read settling number k;
-  answers = target-goes-on durable state may r a b t is_read settling number k;
-  ends = target-ends durable state may r a b t is_read settling number k;
+pub target-tells-on : {S C : Type 0} (durable : S → Option Durable) (state : S → State) (may : S → Durable → Type 0) (r : Rules) (a b : StageNow S C) (t : ℕ) (is_read : C → C → Type 0) (next_reading : C → Option ℕ) (settling : Bool) (number : ℕ)
+    → TargetTurned durable state may is_read next_reading settling t number a b → TellsOn r a b
+target-tells-on durable state may r a b t is_read next_reading settling number k = record {
+  in_turn = target-tells durable state may r a b t is_read next_reading settling number k;
+  answers = target-goes-on durable state may r a b t is_read next_reading settling number k;
+  ends = target-ends durable state may r a b t is_read next_reading settling number k;
 }

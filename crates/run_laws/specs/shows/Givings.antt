@@ -11,6 +11,7 @@ use Rattle.run_laws.specs.shows.Stages.{AreFound, IsPlace, StageNow}
 use Rattle.run_laws.specs.shows.Turned.{AfterStop, Failed, LastTime, NotFailed, failed_stage, given_up_stage, swept_stage}
 use Rattle.world_closing.specs.safety.Raising.{raised_by}
 use Rattle.run_laws.specs.turns.Faults.{fault-own}
+use Rattle.run_laws.specs.turns.Readings.{read_in}
 use Rattle.run_laws.specs.turns.Turns.{Acts, Doing, GivingUp, IsFault, IsNoOpening}
 use Rattle.world_letters.specs.lives.Events.{stops_in}
 use Rattle.run_watch.specs.Watches.{WatchNow, after_fault, with_life}
@@ -25,9 +26,10 @@ use Rattle.world_base.specs.Letters.{target}
 use Rattle.world_base.specs.StepLaws.{set-there}
 use Rattle.world_base.specs.Stops.{Draws, Fails, Further, GivenUp, Happening, IsCut, Opens, Plainly, WorldEvent, is_not_to, resets, swept, with_lost}
 
--- One event of a target, in which its store failed it; it raised incarnations so often, and this target stopped in it, if one did.
-abbrev pub FaultBy : (r : Rules) → ℕ → Bool → ℕ → ℕ → Option ℕ → World → World → Type 0
-FaultBy r t settling number raised stops w v = (d : Acts settling r (target t) number w v) × IsFault r d.event.happens × (raised_by r d.event.happens ≡ raised) × (stops_in d.event.happens ≡ stops)
+-- One event of a target, in which its store failed it; it raised incarnations so often, this target stopped in it, if one did, and this reading was
+-- given by its clock, if one was.
+abbrev pub FaultBy : (r : Rules) → ℕ → Bool → ℕ → ℕ → Option ℕ → Option (ℕ × ℕ) → World → World → Type 0
+FaultBy r t settling number raised stops read w v = (d : Acts settling r (target t) number w v) × IsFault r d.event.happens × (raised_by r d.event.happens ≡ raised) × (stops_in d.event.happens ≡ stops) × (read_in d.event.happens ≡ read)
 
 -- the target that is given up then, if it is
 abbrev pub downs_after : {S C : Type 0} (t before now : ℕ) (a b : StageNow S C) → AfterStop t before now a b → Option ℕ
@@ -129,24 +131,24 @@ module _ {S C : Type 0} (durable : S → Option Durable) (state : S → State) (
   -- ---- what a fault comes to
 
   -- A target's store failed it, and then this came of it: a turn of the target.
-  pub fault-leads : (may : S → Durable → Type 0) (settling : Bool) (number raised before now : ℕ) (stops : Option ℕ) (a b c : StageNow S C) (y : TargetOf S C) → IsPlace b t y Stopped → Leads durable state may (FaultBy r t settling number raised stops) r a b → (after : AfterStop t before now b c)
-      → Leads durable state may (IsTurnSo settling r (target t) number raised stops (downs_after t before now b c after) (Some t)) r a c
-  fault-leads may settling number raised before now stops a b c y place leads (NotFailed less same) found are =
+  pub fault-leads : (may : S → Durable → Type 0) (settling : Bool) (number raised before now : ℕ) (stops : Option ℕ) (read : Option (ℕ × ℕ)) (a b c : StageNow S C) (y : TargetOf S C) → IsPlace b t y Stopped → Leads durable state may (FaultBy r t settling number raised stops read) r a b → (after : AfterStop t before now b c)
+      → Leads durable state may (IsTurnSo settling r (target t) number raised stops (downs_after t before now b c after) (Some t) read) r a c
+  fault-leads may settling number raised before now stops read a b c y place leads (NotFailed less same) found are =
       let z = leads found (subst (λ q. AreFound may q found) same are) in
       record {
         before = z.before;
         were = z.were;
-        led = λ w reached k. let l = z.led w reached k in record { next = l.next; turn = record { turn = Doing l.turn.0 (fault-opens-none r l.turn.0.event.happens l.turn.1); raised_is = l.turn.2; stops_is = l.turn.3; downs_is = refl; faults_is = fault-own settling r t number w l.turn.0.event.u l.turn.0.event.happens l.turn.1 l.turn.0.by }; shows = subst (λ q. Shows durable state r found q l.next) (sym same) l.shows };
+        led = λ w reached k. let l = z.led w reached k in record { next = l.next; turn = record { turn = Doing l.turn.0 (fault-opens-none r l.turn.0.event.happens l.turn.1); raised_is = l.turn.2; stops_is = l.turn.3; downs_is = refl; faults_is = fault-own settling r t number w l.turn.0.event.u l.turn.0.event.happens l.turn.1 l.turn.0.by; read_is = l.turn.4 }; shows = subst (λ q. Shows durable state r found q l.next) (sym same) l.shows };
       }
-  fault-leads may settling number raised before now stops a b c y place leads (Failed more n at few same) found are =
+  fault-leads may settling number raised before now stops read a b c y place leads (Failed more n at few same) found are =
       let z = leads found (found-counted may n found b (subst (λ q. AreFound may q found) same are)) in
       record {
         before = z.before;
         were = z.were;
         led = λ w reached k. let l = z.led w reached k in
-            record { next = l.next; turn = record { turn = Doing l.turn.0 (fault-opens-none r l.turn.0.event.happens l.turn.1); raised_is = l.turn.2; stops_is = l.turn.3; downs_is = refl; faults_is = fault-own settling r t number w l.turn.0.event.u l.turn.0.event.happens l.turn.1 l.turn.0.by }; shows = subst (λ q. Shows durable state r found q l.next) (sym same) (faults-shown n found b l.next l.shows) };
+            record { next = l.next; turn = record { turn = Doing l.turn.0 (fault-opens-none r l.turn.0.event.happens l.turn.1); raised_is = l.turn.2; stops_is = l.turn.3; downs_is = refl; faults_is = fault-own settling r t number w l.turn.0.event.u l.turn.0.event.happens l.turn.1 l.turn.0.by; read_is = l.turn.4 }; shows = subst (λ q. Shows durable state r found q l.next) (sym same) (faults-shown n found b l.next l.shows) };
       }
-  fault-leads may settling number raised before now stops a b c y place leads (LastTime more at same) found are =
+  fault-leads may settling number raised before now stops read a b c y place leads (LastTime more at same) found are =
       let z = leads found (found-before may found b y place (subst (λ q. AreFound may q found) same are)) in
       record {
         before = z.before;
@@ -155,7 +157,7 @@ module _ {S C : Type 0} (durable : S → Option Durable) (state : S → State) (
             let s = target-there durable state r found b l.next t y Stopped l.shows place in
             record {
               next = swept (world-after t l.next s.s);
-              turn = record { turn = GivingUp l.next l.turn.0 l.turn.1 (gives-up b y place found l.next l.shows s) refl; raised_is = l.turn.2; stops_is = l.turn.3; downs_is = refl; faults_is = fault-own settling r t number w l.turn.0.event.u l.turn.0.event.happens l.turn.1 l.turn.0.by };
+              turn = record { turn = GivingUp l.next l.turn.0 l.turn.1 (gives-up b y place found l.next l.shows s) refl; raised_is = l.turn.2; stops_is = l.turn.3; downs_is = refl; faults_is = fault-own settling r t number w l.turn.0.event.u l.turn.0.event.happens l.turn.1 l.turn.0.by; read_is = l.turn.4 };
               shows = subst (λ q. Shows durable state r found q (swept (world-after t l.next s.s))) (sym same) (given_up-shown b y place found l.next l.shows s);
             };
       }

@@ -54,7 +54,7 @@ module _ {S C : Type 0} (durable : S → Option Durable) (state : S → State) (
 
   -- ---- a run goes on
 
-  module _ (a b : StageNow S C) (settling : Bool) (actor : ActorId) (k raised : ℕ) (stops downs faults : Option ℕ) (g : IsGoing durable state may a) (leads : Leads durable state may (IsTurnSo settling g.rules actor k raised stops downs faults) g.rules a b) where
+  module _ (a b : StageNow S C) (settling : Bool) (actor : ActorId) (k raised : ℕ) (stops downs faults : Option ℕ) (read : Option (ℕ × ℕ)) (g : IsGoing durable state may a) (leads : Leads durable state may (IsTurnSo settling g.rules actor k raised stops downs faults read) g.rules a b) where
     pub was : (found : ℕ → Durable) → AreFound may a found → (y : IsReached durable state may g.rules g.first found a) → WasReached g.rules y.now
     was found are y = record { opening = g.opening; first = g.first; begins = g.begins; run = y.run; drawn = y.drawn }
 

@@ -199,6 +199,6 @@ module _ {S C : Type 0} (durable : S → Option Durable) (state : S → State) (
           quietly r (record a { targets = ys; watch = opening_tried a.watch }) b (ap (λ z. z.clients) given_up) (ap (λ z. tries z.between.lines) given_up ∙ one-line a.between.lines (line.Down t) refl) same
 
   -- a target's turn tells of no attempt
-  pub target-tells : (is_read : C → C → Type 0) (settling : Bool) (number : ℕ) → TargetTurned durable state may is_read settling t number a b → TellInTurn r a → TellInTurn r b
-  target-tells is_read settling number (Worked k) = work-tells k.work.before k.work.now k.work.left k.work.result (turned-lines settling number k.work.before k.work.now k.work.left k.work.result k.work.turned) k.work.told k.ends
-  target-tells is_read settling number (Reopened k) = opening-tells k.was.before k.was.now (slice_set a.targets t k.was.now) k.was.result k.was.line k.ends
+  pub target-tells : (is_read : C → C → Type 0) (next_reading : C → Option ℕ) (settling : Bool) (number : ℕ) → TargetTurned durable state may is_read next_reading settling t number a b → TellInTurn r a → TellInTurn r b
+  target-tells is_read next_reading settling number (Worked k) = work-tells k.work.before k.work.now k.work.left k.work.result (turned-lines settling number k.work.before k.work.now k.work.left k.work.result k.work.came.turned) k.work.told k.ends
+  target-tells is_read next_reading settling number (Reopened k) = opening-tells k.was.before k.was.now (slice_set a.targets t k.was.now) k.was.result k.was.line k.ends

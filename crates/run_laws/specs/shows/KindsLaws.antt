@@ -341,11 +341,11 @@ module _ {S C : Type 0} (durable : S → Option Durable) (state : S → State) (
           (less-then (loads_of (swept_stage (given_up_stage t here))) (loads_of (given_up_stage t here)) (loads_of here) (swept-loads (given_up_stage t here)) (given-up-loads t here)) same)
 
   -- a target's turn goes on so
-  pub target-goes-on : (is_read : C → C → Type 0) (settling : Bool) (number : ℕ) → TargetTurned durable state may is_read settling t number a b → AnswersGoOn r a → AnswersGoOn r b
-  target-goes-on is_read settling number (Worked k) =
-      work-goes k.work.before k.work.now k.work.left k.work.result k.work.place (turned-lines durable state may r a b t settling number k.work.before k.work.now k.work.left k.work.result k.work.turned)
-      (turned-letters settling number k.work.before k.work.now k.work.left k.work.result k.work.turned) k.work.told k.work.once k.ends
-  target-goes-on is_read settling number (Reopened k) = opening-goes k.was.before k.was.now k.was.result k.was.place k.was.line k.was.reads k.was.fresh k.ends
+  pub target-goes-on : (is_read : C → C → Type 0) (next_reading : C → Option ℕ) (settling : Bool) (number : ℕ) → TargetTurned durable state may is_read next_reading settling t number a b → AnswersGoOn r a → AnswersGoOn r b
+  target-goes-on is_read next_reading settling number (Worked k) =
+      work-goes k.work.before k.work.now k.work.left k.work.result k.work.place (turned-lines durable state may r a b t settling number k.work.before k.work.now k.work.left k.work.result k.work.came.turned)
+      (turned-letters settling number k.work.before k.work.now k.work.left k.work.result k.work.came.turned) k.work.told k.work.once k.ends
+  target-goes-on is_read next_reading settling number (Reopened k) = opening-goes k.was.before k.was.now k.was.result k.was.place k.was.line k.was.reads k.was.fresh k.ends
 
 -- ---- before any turn, and at the end
 

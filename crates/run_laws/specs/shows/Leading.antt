@@ -11,7 +11,8 @@ use Rattle.run_base.specs.Picks.{count_to}
 use Rattle.run_laws.specs.shows.Parts.{IsTurnSo, follow-shown, picked-takes, set-same, swept-shown, target-shown, target-there, IsThere}
 use Rattle.run_laws.specs.shows.Shows.{IsLed, IsTargetOf, Leads, Shows}
 use Rattle.run_laws.specs.shows.Stages.{IsPlace, StageNow}
-use Rattle.run_laws.specs.shows.Turned.{ByHearing, ByIdling, IsTurned, followed, swept_stage, with_between, with_target_at}
+use Rattle.run_laws.specs.shows.Turned.{ByHearing, ByIdling, IsTurned, followed, read_then, swept_stage, with_between, with_target_at}
+use Rattle.run_laws.specs.turns.Readings.{read_for}
 use Rattle.run_laws.specs.turns.Turns.{Doing}
 use Rattle.target_core.specs.Targets as heard
 use Rattle.target_core.specs.Targets.{Heard, TargetOf}
@@ -69,7 +70,7 @@ module _ {S C : Type 0} (durable : S → Option Durable) (state : S → State) (
     -- it heard a letter
     hearing : (settling : Bool) (number reading n : ℕ) (l : Letter) (rest : List Letter) (d : Durable) → durable x.store ≡ Some d → IsPicked a.between.messages (target t) number l rest → IsNumberNext w l.message n → IsNumberFresh w l.message n
         → Heard n x.plan (state x.store).opening x.memory reading l.from l.message (record { durable = d; free = (state x.store).free }) kept' (y.memory, did)
-        → IsTurnSo settling r (target t) number 0 None None None w (swept (with_target t s' (after_turn w (target t) did rest)))
+        → IsTurnSo settling r (target t) number 0 None None None (read_for t l.message reading) w (swept (with_target t s' (after_turn w (target t) did rest)))
     hearing settling number reading n l rest d is' picked next fresh (heard.Plainly none turn) = record {
       turn = Doing (record {
         event = record {
@@ -98,6 +99,7 @@ module _ {S C : Type 0} (durable : S → Option Durable) (state : S → State) (
       stops_is = refl;
       downs_is = refl;
       faults_is = refl;
+      read_is = refl;
     }
     hearing settling number reading n l rest d is' picked next fresh (heard.Further turn) = record {
       turn = Doing (record {
@@ -131,11 +133,12 @@ module _ {S C : Type 0} (durable : S → Option Durable) (state : S → State) (
       stops_is = refl;
       downs_is = refl;
       faults_is = refl;
+      read_is = refl;
     }
 
     -- it did its idle work
     idling : (settling : Bool) (number : ℕ) (d : Durable) → durable x.store ≡ Some d → count_to (target t) a.between.messages ≡ 0 → IdlesWhole settling x.plan x.memory (record { durable = d; free = (state x.store).free }) kept' (y.memory, did)
-        → IsTurnSo settling r (target t) number 0 None None None w (swept (with_target t s' (after_turn w (target t) did w.messages)))
+        → IsTurnSo settling r (target t) number 0 None None None None w (swept (with_target t s' (after_turn w (target t) did w.messages)))
     idling settling number d is' none turn = record {
       turn = Doing (record {
         event = record {
@@ -161,10 +164,11 @@ module _ {S C : Type 0} (durable : S → Option Durable) (state : S → State) (
       stops_is = refl;
       downs_is = refl;
       faults_is = refl;
+      read_is = refl;
     }
 
   -- a whole turn leads so, whatever is found of other stores
-  pub turn-leads : (may : S → Durable → Type 0) (settling : Bool) (number : ℕ) (left : BetweenNow) → IsTurned durable state may settling t number x y a.between left (Ok did) → Leads durable state may (IsTurnSo settling r (target t) number 0 None None None) r a (after left)
+  pub turn-leads : (may : S → Durable → Type 0) (settling : Bool) (number : ℕ) (left : BetweenNow) (turned : IsTurned durable state may settling t number x y a.between left (Ok did)) → Leads durable state may (IsTurnSo settling r (target t) number 0 None None None (read_then durable state may turned)) r a (after left)
   turn-leads may settling number left turned found are = record {
     before = found;
     were = λ u z life p rests. old u z life p rests;
@@ -177,7 +181,7 @@ module _ {S C : Type 0} (durable : S → Option Durable) (state : S → State) (
         | inr apart ↦ are u z life (record { there = set-there a.targets t u y apart ∙ p.there; stands = p.stands }) rests
       ]
 
-      led : (w : World) → AreDrawn w → Shows durable state r found a w → IsThere durable state r found w t x Running → IsTurned durable state may settling t number x y a.between left (Ok did) → IsLed durable state (IsTurnSo settling r (target t) number 0 None None None) r found w (after left)
+      led : (w : World) → AreDrawn w → Shows durable state r found a w → IsThere durable state r found w t x Running → (k : IsTurned durable state may settling t number x y a.between left (Ok did)) → IsLed durable state (IsTurnSo settling r (target t) number 0 None None None (read_then durable state may k)) r found w (after left)
       led w drawn k s (ByHearing l rest reading picked left_is few turn) =
           let n = turn (next_aggregate a.between.lines) (λ asks. refl) s.s.durable s.is.so.told in
           record {

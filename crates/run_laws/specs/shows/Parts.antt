@@ -12,6 +12,7 @@ use Rattle.run_laws.specs.shows.Stages.{IsPlace, StageNow}
 use Rattle.run_laws.specs.shows.Turned.{followed, swept_between, swept_stage, with_between}
 use Rattle.run_laws.specs.turns.Faults.{fault_by}
 use Rattle.run_laws.specs.turns.Raising.{raised_in}
+use Rattle.run_laws.specs.turns.Readings.{read_by}
 use Rattle.run_laws.specs.turns.StopLines.{given_up_by, stops_by}
 use Rattle.run_laws.specs.turns.Turns.{TurnOf}
 use Rattle.run_watch.specs.Watches.{WatchNow}
@@ -157,10 +158,12 @@ is-set (z ∷ xs) (suc n) x y at = is-set xs n x y at
 
 -- ---- what a turn counts
 
--- a turn raised incarnations so often; in it these targets stopped and were given up, and the turn of this one was cut or its opening failed, if any
-pub record IsTurnSo (settling : Bool) (r : Rules) (a : ActorId) (k : ℕ) (raised : ℕ) (stops downs faults : Option ℕ) (w v : World) : Type 0 where
+-- a turn raised incarnations so often; in it these targets stopped and were given up, and the turn of this one was cut or its opening failed, if any;
+-- and this reading was given by the clock of a target, if one was
+pub record IsTurnSo (settling : Bool) (r : Rules) (a : ActorId) (k : ℕ) (raised : ℕ) (stops downs faults : Option ℕ) (read : Option (ℕ × ℕ)) (w v : World) : Type 0 where
   pub turn : TurnOf settling r a k w v
   pub raised_is : raised_in settling r a k turn ≡ raised
   pub stops_is : stops_by turn ≡ stops
   pub downs_is : given_up_by turn ≡ downs
   pub faults_is : fault_by turn ≡ faults
+  pub read_is : read_by turn ≡ read

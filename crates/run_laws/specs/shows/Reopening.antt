@@ -127,7 +127,7 @@ module _ {S C : Type 0} (durable : S → Option Durable) (state : S → State) (
           same-lives : lives_of w ≡ lives_of (world-failed w s.s)
           same-lives = k.lives ∙ sym lives ∙ sym put.lives
 
-      fails : (settling : Bool) (number : ℕ) (w : World) (k : Shows durable state r (choosing t d found) a w) (s : IsThere durable state r (choosing t d found) w t x Stopped) → FaultBy r t settling number 1 None w (swept (world-failed w s.s))
+      fails : (settling : Bool) (number : ℕ) (w : World) (k : Shows durable state r (choosing t d found) a w) (s : IsThere durable state r (choosing t d found) w t x Stopped) → FaultBy r t settling number 1 None None w (swept (world-failed w s.s))
       fails settling number w k s = (
         record {
           event = record {
@@ -138,6 +138,7 @@ module _ {S C : Type 0} (durable : S → Option Durable) (state : S → State) (
           by = refl;
         },
         tt,
+        refl,
         refl,
         refl,
       )
@@ -152,7 +153,7 @@ module _ {S C : Type 0} (durable : S → Option Durable) (state : S → State) (
           no-less : s.s.free ≤ (state y.store).free
           no-less = subst (λ n. n ≤ (state y.store).free) s.is.so.free free
 
-    pub failure-leads : (settling : Bool) (number : ℕ) → Leads durable state may (FaultBy r t settling number 1 None) r a failed
+    pub failure-leads : (settling : Bool) (number : ℕ) → Leads durable state may (FaultBy r t settling number 1 None None) r a failed
     failure-leads settling number found are = by (left (found t) (are t y Stopped (record { there = there; stands = ap (λ ls. slice_get ls t) lives ∙ place.stands }) (λ e. let no : ⊥ = cc in no)))
       where
         were : (d : Durable) → may x.store d → AreFound may a (choosing t d found)
@@ -162,7 +163,7 @@ module _ {S C : Type 0} (durable : S → Option Durable) (state : S → State) (
           | inr apart ↦ subst (may z.store) (sym (others t d found u apart)) (are u z life (record { there = set-there a.targets t u y apart ∙ p.there; stands = ap (λ ls. slice_get ls u) lives ∙ p.stands }) rests)
         ]
 
-        with-choice : (d : Durable) → may x.store d → (found t ≡ d) ⊎ (found t ≡ reopened d) → IsFoundFrom durable state may (FaultBy r t settling number 1 None) r a failed found
+        with-choice : (d : Durable) → may x.store d → (found t ≡ d) ⊎ (found t ≡ reopened d) → IsFoundFrom durable state may (FaultBy r t settling number 1 None None) r a failed found
         with-choice d m kept = record {
           before = choosing t d found;
           were = were d m;
@@ -170,7 +171,7 @@ module _ {S C : Type 0} (durable : S → Option Durable) (state : S → State) (
               record { next = swept (world-failed found d kept w s.s); turn = fails found d kept settling number w k s; shows = shown found d kept w reached k s };
         }
 
-        by : may x.store (found t) ⊎ ((d : Durable) × may x.store d × (found t ≡ reopened d)) → IsFoundFrom durable state may (FaultBy r t settling number 1 None) r a failed found
+        by : may x.store (found t) ⊎ ((d : Durable) × may x.store d × (found t ≡ reopened d)) → IsFoundFrom durable state may (FaultBy r t settling number 1 None None) r a failed found
         by (inl m) = with-choice (found t) m (inl refl)
         by (inr z) = with-choice z.0 z.1 (inr z.2)
 
@@ -232,8 +233,8 @@ module _ {S C : Type 0} (durable : S → Option Durable) (state : S → State) (
       by = refl;
     }
 
-    turn : (settling : Bool) (number : ℕ) → IsTurnSo settling r (target t) number 1 None None None w (swept world-opened)
-    turn settling number = record { turn = Opening (swept drawn) draws (refl, refl) (acts settling number) refl; raised_is = refl; stops_is = refl; downs_is = refl; faults_is = refl }
+    turn : (settling : Bool) (number : ℕ) → IsTurnSo settling r (target t) number 1 None None None None w (swept world-opened)
+    turn settling number = record { turn = Opening (swept drawn) draws (refl, refl) (acts settling number) refl; raised_is = refl; stops_is = refl; downs_is = refl; faults_is = refl; read_is = refl }
 
     -- ---- what is shown
 
@@ -277,7 +278,7 @@ module _ {S C : Type 0} (durable : S → Option Durable) (state : S → State) (
       restarts = ap (λ n. n + 1) number-is ∙ sym restarts;
     })
 
-  pub opening-leads : (settling : Bool) (number : ℕ) → Leads durable state may (IsTurnSo settling r (target t) number 1 None None None) r a opened
+  pub opening-leads : (settling : Bool) (number : ℕ) → Leads durable state may (IsTurnSo settling r (target t) number 1 None None None None) r a opened
   opening-leads settling number found are = record {
     before = choosing t opens.found found;
     were = were;

@@ -10,7 +10,7 @@ use Rattle.run_laws.specs.shows.Ends.{LettersGoWith}
 use Rattle.run_laws.specs.shows.Kinds.{TurnsOnce}
 use Rattle.run_laws.specs.shows.Openings.{AfterOpening, HasFuse}
 use Rattle.run_laws.specs.shows.Stages.{IsPlace, StageNow}
-use Rattle.run_laws.specs.shows.Turned.{AfterCut, AfterFailure, IsTurned, followed, swept_stage, with_between, with_client_at, with_target_at}
+use Rattle.run_laws.specs.shows.Turned.{AfterCut, AfterFailure, HasTurned, followed, swept_stage, with_between, with_client_at, with_target_at}
 use Rattle.run_watch.specs.Watches.{next_fuse, opening_tried}
 use Rattle.target_core.specs.Targets.{OpensAs, TargetOf}
 use Rattle.target_parts.specs.Parts.{Runs}
@@ -86,7 +86,7 @@ module _ {S C : Type 0} (durable : S → Option Durable) (state : S → State) (
     pub was : WasReopened t a
     pub ends : OpeningEnds t was.before was.now (record a { targets = slice_set a.targets t was.now; watch = opening_tried a.watch }) b was.result
 
-  module _ (is_read : C → C → Type 0) where
+  module _ (is_read : C → C → Type 0) (next_reading : C → Option ℕ) where
     -- A target that runs worked, with this result.
     pub record HasWorked (settling : Bool) (t number : ℕ) (a : StageNow S C) : Type 0 where
       pub before : TargetOf S C
@@ -102,7 +102,7 @@ module _ {S C : Type 0} (durable : S → Option Durable) (state : S → State) (
       pub posts : IfOk result (λ did. TurnsPostInForm before.plan.targets before.memory now.memory did.posts)
       pub once : IfOk result (TurnsOnce a.between left before.memory.member now.memory.member)
       pub ends : (asked : Asked) → LettersGoWith asked a.between.messages → IfOk result (λ did. TurnsEndAsked asked before.memory now.memory did.posts)
-      pub turned : IsTurned durable state may settling t number before now a.between left result
+      pub came : HasTurned durable state may is_read next_reading settling t number before now a.between left result
 
     -- And what came of it came about.
     pub record TargetWorked (settling : Bool) (t number : ℕ) (a b : StageNow S C) : Type 0 where

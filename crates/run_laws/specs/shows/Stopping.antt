@@ -15,7 +15,8 @@ use Rattle.run_laws.specs.shows.Givings.{FaultBy}
 use Rattle.run_laws.specs.shows.Parts.{IsThere, filter-both, is-set, picked-takes, swept-shown, target-shown, target-there}
 use Rattle.run_laws.specs.shows.Shows.{IsLed, IsTargetOf, Leads, Shows}
 use Rattle.run_laws.specs.shows.Stages.{IsPlace, StageNow}
-use Rattle.run_laws.specs.shows.Turned.{ByHearing, ByIdling, IsTurned, cut_between, stopped_stage, swept_stage}
+use Rattle.run_laws.specs.shows.Turned.{ByHearing, ByIdling, IsTurned, cut_between, read_then, stopped_stage, swept_stage}
+use Rattle.run_laws.specs.turns.Readings.{read_at_work}
 use Rattle.run_laws.specs.turns.Turns.{IsAtWork}
 use Rattle.run_watch.specs.Watches.{with_life}
 use Rattle.target_core.specs.Targets.{TargetOf, cutting}
@@ -106,7 +107,7 @@ module _ {S C : Type 0} (durable : S → Option Durable) (state : S → State) (
         (subst (λ q. IdleWorkIsCut x.plan.me x.memory q c) (had s.durable is.so.told) it))
 
     -- its turn was cut so in the world
-    acts : (settling : Bool) (number : ℕ) (work : AtWork) → IsInHand w t work → CutOf (target_plan r t) s work cut → IsAtWork w (target t) number work → FaultBy r t settling number 0 (Some t) w (swept (after_cut w t s cut))
+    acts : (settling : Bool) (number : ℕ) (work : AtWork) → IsInHand w t work → CutOf (target_plan r t) s work cut → IsAtWork w (target t) number work → FaultBy r t settling number 0 (Some t) (read_at_work t work) w (swept (after_cut w t s cut))
     acts settling number work in_hand turn b = (
       record {
         event = record {
@@ -119,9 +120,10 @@ module _ {S C : Type 0} (durable : S → Option Durable) (state : S → State) (
       tt,
       refl,
       refl,
+      refl,
     )
 
-  pub cut-leads : (may : S → Durable → Type 0) (settling : Bool) (number : ℕ) (left : BetweenNow) → IsTurned durable state may settling t number x y a.between left (Err (stop.Store issued lines)) → Leads durable state may (FaultBy r t settling number 0 (Some t)) r a (stopped left)
+  pub cut-leads : (may : S → Durable → Type 0) (settling : Bool) (number : ℕ) (left : BetweenNow) (turned : IsTurned durable state may settling t number x y a.between left (Err (stop.Store issued lines))) → Leads durable state may (FaultBy r t settling number 0 (Some t) (read_then durable state may turned)) r a (stopped left)
   cut-leads may settling number left turned found are = record {
     before = found;
     were = λ u z life p rests. old u z life p rests;
@@ -144,7 +146,7 @@ module _ {S C : Type 0} (durable : S → Option Durable) (state : S → State) (
         | inr apart ↦ are u z life (record { there = set-there a.targets t u y apart ∙ p.there; stands = set-there a.watch.lives t u Stopped apart ∙ p.stands }) rests
       ]
 
-      led : (w : World) → AreDrawn w → Shows durable state r found a w → IsThere durable state r found w t x Running → IsTurned durable state may settling t number x y a.between left (Err (stop.Store issued lines)) → IsLed durable state (FaultBy r t settling number 0 (Some t)) r found w (stopped left)
+      led : (w : World) → AreDrawn w → Shows durable state r found a w → IsThere durable state r found w t x Running → (k : IsTurned durable state may settling t number x y a.between left (Err (stop.Store issued lines))) → IsLed durable state (FaultBy r t settling number 0 (Some t) (read_then durable state may k)) r found w (stopped left)
       led w drawn k s (ByHearing l rest reading picked left_is few turn) =
           let takes = picked-takes a.between.messages number l rest (target t) picked in
           let n = next_aggregate a.between.lines in

@@ -1,5 +1,6 @@
 -- What a part of a turn leaves of a target and of what lies between actors.
-use Rattle.std.specs.Prelude.{ℕ, ◌≡◌, ◌≤◌, ◌<◌, ◌^◌, Bool, true, List, slice_get, slice_set, Option, Some, Result}
+use Rattle.std.specs.Prelude.{ℕ, ◌≡◌, ◌≤◌, ◌<◌, ◌^◌, ◌++◌, ◌∷◌, Bool, true, false, List, [], filter, map, slice_get, slice_set, Option, Some, None, Result}
+use Rattle.base_messages.specs.declared.actor.ActorId.{ActorId}
 use Rattle.base_types.specs.declared.epoch.Epoch.{Epoch}
 use Rattle.base_types.specs.declared.id.AttemptId.{AttemptId}
 use Rattle.base_types.specs.declared.report.Line.{Line}
@@ -10,11 +11,14 @@ use Rattle.run_base.specs.Letters.{BetweenNow, IsPicked}
 use Rattle.run_base.specs.Numbers.{next_aggregate}
 use Rattle.run_base.specs.Picks.{count_to}
 use Rattle.run_laws.specs.shows.Stages.{StageNow}
+use Rattle.run_laws.specs.turns.Readings.{GivesOn, read_for}
 use Rattle.target_core.specs.Targets.{HearsOrStops, IdlesOrStops, TargetOf}
 use Rattle.run_watch.specs.Watches.{after_fault, with_life}
+use Rattle.target_parts.specs.Stops.{stop_wanting}
 use Rattle.target_parts.specs.declared.stop.TargetStop.{TargetStop}
 use Rattle.target_parts.specs.declared.stop.TargetStop.TheVariants as stops
 use Rattle.vos_store.specs.Calls.{State}
+use Rattle.vos_store.specs.Refusals.{says}
 use Rattle.world_base.specs.declared.did.Did.{Did}
 use Rattle.world_base.specs.declared.letter.Letter.{Letter}
 use Rattle.world_base.specs.declared.target.Life.TheVariants.{Down, Stopped}
@@ -82,3 +86,13 @@ module _ {S C : Type 0} (durable : S → Option Durable) (state : S → State) (
         → ((n : ℕ) → (is_prune_message l.message ≡ true → n ≡ next_aggregate b.lines) → (d : Durable) → durable x.store ≡ Some d → HearsOrStops n x.plan x.memory reading l.from l.message d (state x.store) (durable y.store) (state y.store) (may y.store) y.memory result) → IsTurned settling t number x y b left result
     ByIdling : count_to (target t) b.messages ≡ 0 → left ≡ b
         → ((d : Durable) → durable x.store ≡ Some d → IdlesOrStops settling x.plan x.memory d (state x.store) (durable y.store) (state y.store) (may y.store) y.memory result) → IsTurned settling t number x y b left result
+
+  -- the reading at which a target heard, where an epoch was to be issued for that
+  abbrev pub read_then : {settling : Bool} {t number : ℕ} {x y : TargetOf S C} {b left : BetweenNow} {result : Result Did TargetStop} → IsTurned settling t number x y b left result → Option (ℕ × ℕ)
+  read_then {t = t} (ByHearing l rest reading picked left_is few turn) = read_for t l.message reading
+  read_then (ByIdling none left_is turn) = None
+
+  -- It was so; and unless memory was wanting, its clock gave just that reading, if there is one.
+  pub record HasTurned (is_read : C → C → Type 0) (next_reading : C → Option ℕ) (settling : Bool) (t number : ℕ) (x y : TargetOf S C) (b left : BetweenNow) (result : Result Did TargetStop) : Type 0 where
+    pub turned : IsTurned settling t number x y b left result
+    pub clock : says stop_wanting result ≡ false → GivesOn is_read next_reading (read_then turned) t x.clock y.clock

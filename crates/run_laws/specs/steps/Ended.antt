@@ -20,7 +20,7 @@ use Rattle.run_laws.specs.shows.Parts.{at-both}
 use Rattle.run_laws.specs.shows.Shows.{IsTargetOf, Leads, Shows}
 use Rattle.run_laws.specs.shows.Stages.{AreFound, IsPlace, StageNow}
 use Rattle.run_laws.specs.steps.Going.{AllTell}
-use Rattle.run_laws.specs.steps.Ways.{GoesWithin, in_order}
+use Rattle.run_laws.specs.steps.Ways.{GoesWithin, HaveGiven, in_order}
 use Rattle.run_laws.specs.turns.Faults.{cuts_and_failures}
 use Rattle.run_laws.specs.turns.OrderLaws.{order-faults, orders-are-runs, orders-end-quiet, orders-have-ended}
 use Rattle.run_laws.specs.turns.Orders.{InOrder}
@@ -54,10 +54,10 @@ begun-tell durable state alike r o w found a begins shows s =
 abbrev pub left_of : {S C : Type 0} → List (TargetOf S C) → WatchNow → List Line → StageNow S C
 left_of xs watch lines = record { clients = []; targets = xs; watch = watch; between = record { messages = []; asked = []; issued = []; lines = lines } }
 
-module _ {S C : Type 0} (durable : S → Option Durable) (state : S → State) where
+module _ {S C : Type 0} (durable : S → Option Durable) (state : S → State) (is_read : C → C → Type 0) (next_reading : C → Option ℕ) where
   -- A run in this order, from a world, has ended in one in which no actor has anything to do; what it left are its targets, how they stand, and
   -- its lines, where stores of targets that don't run would be found so. It began with the first targets; and of each target no more turns were cut, and
-  -- no more openings failed, than counts of its store rose in it.
+  -- no more openings failed, than counts of its store rose in it; and its clock gave the readings at which it issued epochs, and no others.
   pub record HasRun (r : Rules) (order : ℕ) (first : World) (xs : List (TargetOf S C)) (found : ℕ → Durable) (left : StageNow S C) : Type 0 where
     pub last : World
     pub run : InOrder r order first last
@@ -69,14 +69,16 @@ module _ {S C : Type 0} (durable : S → Option Durable) (state : S → State) w
     pub targets : (t : ℕ) (x : TargetOf S C) (life : Life) (s : TargetState) → IsPlace left t x life → slice_get last.targets t ≡ Some s → IsTargetOf durable state (target_plan r t) life (found t) x s
     pub restarts : last.numbers.restarts ≡ left.watch.restarts
     pub faults : AreWithinRises state (λ t. cuts_and_failures t (orders-are-runs r order first last run)) xs left.targets
+    pub clocks : HaveGiven is_read next_reading xs left.targets Begins (orders-are-runs r order first last run)
 
   -- whatever these stores would be found with, a run has ended so
   abbrev pub HasRunWith : (S → Durable → Type 0) → Rules → ℕ → World → List (TargetOf S C) → StageNow S C → Type 0
   HasRunWith may r order first xs left = (found : ℕ → Durable) → AreFound may left found → HasRun r order first xs found left
 
   -- where the actors of a begun run came in order to where none has anything to do, it has run
-  pub has-run : AreAlike durable → (may : S → Durable → Type 0) (r : Rules) (order : ℕ) (w : World) (o : Opening) (a b : StageNow S C) → RunBegins r o w → AreDrawn w → ((found : ℕ → Durable) → Shows durable state r found a w) → (AllTell durable → Leads durable state may (GoesWithin state (in_order order) r a.targets b.targets) r a b)
+  pub has-run : AreAlike durable → (may : S → Durable → Type 0) (r : Rules) (order : ℕ) (w : World) (o : Opening) (a b : StageNow S C) → RunBegins r o w → AreDrawn w → ((found : ℕ → Durable) → Shows durable state r found a w) → (AllTell durable → Leads durable state may (GoesWithin state is_read next_reading (in_order order) r a.targets b.targets) r a b)
       → HasRunWith may r order w a.targets (left_of b.targets b.watch b.between.lines)
+  unfolding orders-are-runs
   has-run alike may r order w o a b begins drawn shows leads found are =
       let m = leads (begun-tell durable state alike r o w found a begins (shows found)) found (λ t x life place rests. are t x life (record { there = place.there; stands = place.stands }) rests) in
       let x = m.led w (record { opening = o; first = w; begins = begins; run = Begins; drawn = drawn }) (shows m.before) in
@@ -90,6 +92,7 @@ module _ {S C : Type 0} (durable : S → Option Durable) (state : S → State) w
         lives = x.shows.lives;
         targets = λ t z life s place at. x.shows.targets t z life s (record { there = place.there; stands = place.stands }) at;
         restarts = x.shows.restarts;
+        clocks = λ t y z at there c given. x.turn.clocks w Begins t y z at there c given;
         faults = λ t y z at there. subst (λ n. AtMostBothRise n (state y.store) (state z.store)) (sym (order-faults t r order w x.next x.turn.goes)) (x.turn.within t y z at there);
       }
 

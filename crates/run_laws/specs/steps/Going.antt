@@ -16,11 +16,13 @@ use Rattle.run_laws.specs.shows.Parts.{at-both}
 use Rattle.run_laws.specs.shows.Shows.{Leads, Shows, WasReached}
 use Rattle.run_laws.specs.shows.Stages.{StageNow}
 use Rattle.run_laws.specs.turns.Keeping.{TurnsKeep, draws-keep, in_turn-keeps, rounds-keep}
-use Rattle.run_laws.specs.steps.Ways.{GoesWithin, Way, all_from_draw, all_rounds, from_draw, some_rounds, turned}
+use Rattle.run_laws.specs.turns.Readings.{HasGiven, readings_of}
+use Rattle.run_laws.specs.steps.Ways.{GoesWithin, HaveGiven, Way, all_from_draw, all_rounds, from_draw, some_rounds, turned}
 use Rattle.target_core.specs.Targets.{TargetOf}
 use Rattle.vos_store.specs.Calls.{State}
 use Rattle.world_base.specs.declared.world.World.{World}
 use Rattle.world_base.specs.Events.{Rules}
+use Rattle.world_base.specs.Stops.{WorldRun}
 
 -- each store tells what it keeps
 abbrev pub AllTell : {S : Type 0} → (S → Option Durable) → Type 0
@@ -52,17 +54,17 @@ all-draws-are-run settling x y r w v k = draws-are-run settling x y r w v k.draw
 
 -- ---- one way made of others
 
--- no turn is a way, without a fault
+-- no turn is a way, without a fault and without an event
 abbrev pub IsNoWay : Way → Rules → World → Type 0
-IsNoWay way r w = (k : way.goes r w w) × ((t : ℕ) → way.faults r w w k t ≡ 0)
+IsNoWay way r w = (k : way.goes r w w) × ((t : ℕ) → way.faults r w w k t ≡ 0) × ((u : World) (run : WorldRun r u w) → way.runs r u w w k run ≡ run)
 
--- so it is where one way is gone and then another, with the faults of both
+-- so it is where one way is gone and then another, with the faults and the events of both
 abbrev pub IsBothWays : (one other both : Way) (r : Rules) (w u v : World) → one.goes r w u → other.goes r u v → Type 0
-IsBothWays one other both r w u v p q = (k : both.goes r w v) × ((t : ℕ) → both.faults r w v k t ≡ one.faults r w u p t + other.faults r u v q t)
+IsBothWays one other both r w u v p q = (k : both.goes r w v) × ((t : ℕ) → both.faults r w v k t ≡ one.faults r w u p t + other.faults r u v q t) × ((z : World) (run : WorldRun r z w) → both.runs r z w v k run ≡ other.runs r z u v q (one.runs r z w u p run))
 
--- or one way as another, with the same faults
+-- or one way as another, with the same faults and the same events
 abbrev pub IsWayAs : (one other : Way) (r : Rules) (w v : World) → one.goes r w v → Type 0
-IsWayAs one other r w v p = (k : other.goes r w v) × ((t : ℕ) → other.faults r w v k t ≡ one.faults r w v p t)
+IsWayAs one other r w v p = (k : other.goes r w v) × ((t : ℕ) → other.faults r w v k t ≡ one.faults r w v p t) × ((u : World) (run : WorldRun r u w) → other.runs r u w v k run ≡ one.runs r u w v p run)
 
 -- ---- what leads from stage to stage
 
@@ -96,12 +98,12 @@ module _ {S C : Type 0} (durable : S → Option Durable) (state : S → State) (
       let m = k found are in
       record { before = m.before; were = m.were; led = λ w was s. let x = m.led w was s in record { next = x.next; turn = said found m.before w x.next s x.shows x.turn; shows = x.shows } }
 
-  module _ (is_read : C → C → Type 0) where
+  module _ (is_read : C → C → Type 0) (next_reading : C → Option ℕ) where
     -- Turns led in this way from one stage to another, where stores tell what they keep, with no more faults of a target than counts of its store rose:
     -- those of a begun run, as many clients, and the same stores after some calls; how often targets stopped is still accounted for; and the lines
     -- still tell of clients' commands in turn, and of answers that fit.
     pub record GoesOn (way : Way) (a b : StageNow S C) : Type 0 where
-      pub led : AllTell durable → (r : Rules) → Leads durable state may (GoesWithin state way r a.targets b.targets) r a b
+      pub led : AllTell durable → (r : Rules) → Leads durable state may (GoesWithin state is_read next_reading way r a.targets b.targets) r a b
       pub going : CanGo durable state may b
       pub clients : length b.clients ≡ length a.clients
       pub served : AreServed durable state is_read a.targets b.targets
@@ -110,7 +112,7 @@ module _ {S C : Type 0} (durable : S → Option Durable) (state : S → State) (
 
     pub goes-none : (way : Way) (a : StageNow S C) → ((r : Rules) (w : World) → IsNoWay way r w) → CanGo durable state may a → GoesOn way a a
     goes-none way a none going = record {
-      led = λ tell r. leads-none r (GoesWithin state way r a.targets a.targets) a (λ w. record { goes = (none r w).0; within = λ t x y at there. still r w t x y at there });
+      led = λ tell r. leads-none r (GoesWithin state is_read next_reading way r a.targets a.targets) a (λ w. record { goes = (none r w).0; within = λ t x y at there. still r w t x y at there; clocks = λ u run t x y at there first given. same-given r w u run t x y at there first given });
       going = going;
       clients = refl;
       served = served-first durable state is_read a.targets;
@@ -118,6 +120,11 @@ module _ {S C : Type 0} (durable : S → Option Durable) (state : S → State) (
       tells = λ r. tells-none r a;
     }
       where
+        same-given : (r : Rules) (w u : World) (run : WorldRun r u w) → HaveGiven is_read next_reading a.targets a.targets run (way.runs r u w w (none r w).0 run)
+        same-given r w u run t x y at there first given =
+            let same : x ≡ y = let e : Some x ≡ Some y = sym at ∙ there in cc in
+            subst (λ z. HasGiven is_read next_reading first (readings_of t z) y.clock) (sym ((none r w).2 u run)) (subst (λ z. HasGiven is_read next_reading first (readings_of t run) z.clock) same given)
+
         still : (r : Rules) (w : World) (t : ℕ) (x y : TargetOf S C) → slice_get a.targets t ≡ Some x → slice_get a.targets t ≡ Some y → AtMostBothRise (way.faults r w w (none r w).0 t) (state x.store) (state y.store)
         still r w t x y at there =
             let same : x ≡ y = let e : Some x ≡ Some y = sym at ∙ there in cc in
@@ -125,8 +132,8 @@ module _ {S C : Type 0} (durable : S → Option Durable) (state : S → State) (
 
     pub goes-then : (one other both : Way) (a b c : StageNow S C) → IsRun one → ((r : Rules) (found : ℕ → Durable) (w u v : World) → Shows durable state r found b u → (p : one.goes r w u) (q : other.goes r u v) → IsBothWays one other both r w u v p q) → GoesOn one a b → GoesOn other b c → GoesOn both a c
     goes-then one other both a b c runs join k l = record {
-      led = λ tell r. leads-then r (GoesWithin state one r a.targets b.targets) (GoesWithin state other r b.targets c.targets) (GoesWithin state both r a.targets c.targets) a b c (λ w u p. runs r w u p.goes)
-          (λ found w u v s p q. record { goes = (join r found w u v s p.goes q.goes).0; within = λ t x z at there. within r found w u v s p q t x z at there }) (k.led tell r) (l.led tell r);
+      led = λ tell r. leads-then r (GoesWithin state is_read next_reading one r a.targets b.targets) (GoesWithin state is_read next_reading other r b.targets c.targets) (GoesWithin state is_read next_reading both r a.targets c.targets) a b c (λ w u p. runs r w u p.goes)
+          (λ found w u v s p q. record { goes = (join r found w u v s p.goes q.goes).0; within = λ t x z at there. within r found w u v s p q t x z at there; clocks = λ y run t x z at there first given. both-given r found w u v s p q y run t x z at there first given }) (k.led tell r) (l.led tell r);
       going = l.going;
       clients = l.clients ∙ k.clients;
       served = served-then durable state is_read a.targets b.targets c.targets k.served l.served;
@@ -134,7 +141,13 @@ module _ {S C : Type 0} (durable : S → Option Durable) (state : S → State) (
       tells = λ r. tells-then r a b c (k.tells r) (l.tells r);
     }
       where
-        within : (r : Rules) (found : ℕ → Durable) (w u v : World) (s : Shows durable state r found b u) (p : GoesWithin state one r a.targets b.targets w u) (q : GoesWithin state other r b.targets c.targets u v) (t : ℕ) (x z : TargetOf S C) → slice_get a.targets t ≡ Some x
+        both-given : (r : Rules) (found : ℕ → Durable) (w u v : World) (s : Shows durable state r found b u) (p : GoesWithin state is_read next_reading one r a.targets b.targets w u) (q : GoesWithin state is_read next_reading other r b.targets c.targets u v) (o : World) (run : WorldRun r o w)
+            → HaveGiven is_read next_reading a.targets c.targets run (both.runs r o w v (join r found w u v s p.goes q.goes).0 run)
+        both-given r found w u v s p q o run t x z at there first given =
+            let y = at-both a.targets b.targets t x k.served.many at in
+            subst (λ e. HasGiven is_read next_reading first (readings_of t e) z.clock) (sym ((join r found w u v s p.goes q.goes).2 o run)) (q.clocks o (one.runs r o w u p.goes run) t y.0 z y.1 there first (p.clocks o run t x y.0 at y.1 first given))
+
+        within : (r : Rules) (found : ℕ → Durable) (w u v : World) (s : Shows durable state r found b u) (p : GoesWithin state is_read next_reading one r a.targets b.targets w u) (q : GoesWithin state is_read next_reading other r b.targets c.targets u v) (t : ℕ) (x z : TargetOf S C) → slice_get a.targets t ≡ Some x
             → slice_get c.targets t ≡ Some z → AtMostBothRise (both.faults r w v (join r found w u v s p.goes q.goes).0 t) (state x.store) (state z.store)
         within r found w u v s p q t x z at there =
             let y = at-both a.targets b.targets t x k.served.many at in
@@ -144,10 +157,10 @@ module _ {S C : Type 0} (durable : S → Option Durable) (state : S → State) (
 
     pub goes-as : (one other : Way) (a b : StageNow S C) → ((r : Rules) (found before : ℕ → Durable) (w v : World) → Shows durable state r before a w → Shows durable state r found b v → (p : one.goes r w v) → IsWayAs one other r w v p) → GoesOn one a b → GoesOn other a b
     goes-as one other a b said k = record {
-      led = λ tell r. leads-as r (GoesWithin state one r a.targets b.targets) (GoesWithin state other r a.targets b.targets) a b
+      led = λ tell r. leads-as r (GoesWithin state is_read next_reading one r a.targets b.targets) (GoesWithin state is_read next_reading other r a.targets b.targets) a b
           (λ found before w v s z p.
           let as' = said r found before w v s z p.goes in
-          record { goes = as'.0; within = λ t x y at there. subst (λ n. AtMostBothRise n (state x.store) (state y.store)) (sym (as'.1 t)) (p.within t x y at there) }) (k.led tell r);
+          record { goes = as'.0; within = λ t x y at there. subst (λ n. AtMostBothRise n (state x.store) (state y.store)) (sym (as'.1 t)) (p.within t x y at there); clocks = λ u run t x y at there first given. subst (λ e. HasGiven is_read next_reading first (readings_of t e) y.clock) (sym (as'.2 u run)) (p.clocks u run t x y at there first given) }) (k.led tell r);
       going = k.going;
       clients = k.clients;
       served = k.served;

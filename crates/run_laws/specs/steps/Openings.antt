@@ -28,6 +28,7 @@ use Rattle.run_laws.specs.steps.Going.{AllTell, GoesOn}
 use Rattle.run_laws.specs.steps.Turning.{Counts, counts-none, turn-done}
 use Rattle.run_laws.specs.steps.Turnings.{after-clients, after-down, after-down-so, after-failed, after-openings, after-others, after-stops, after-targets}
 use Rattle.run_laws.specs.steps.Ways.{turn_of}
+use Rattle.run_laws.specs.turns.Readings.{GivesOn, gives-none}
 use Rattle.run_laws.specs.turns.Faults.{once_for}
 use Rattle.run_watch.specs.Watches.{WatchNow, fuse_set, next_fuse, opened_again, opening_tried}
 use Rattle.target_core.specs.Targets.{OpensAs, TargetOf}
@@ -77,8 +78,14 @@ pub some-told : (o : Option Durable) → is_some o ≡ true → (d : Durable) ×
 some-told None is = let no : ⊥ = cc in absurd no
 some-told (Some d) is = (d, refl)
 
-module _ {S C : Type 0} (durable : S → Option Durable) (state : S → State) (may : S → Durable → Type 0) (is_read : C → C → Type 0) (findable : AreFindable durable may) (alike : AreAlike durable) (a : StageNow S C) (can : CanGo durable state may a) (t : ℕ) (x y : TargetOf S C)
+module _ {S C : Type 0} (durable : S → Option Durable) (state : S → State) (may : S → Durable → Type 0) (is_read : C → C → Type 0) (next_reading : C → Option ℕ) (findable : AreFindable durable may) (alike : AreAlike durable) (a : StageNow S C) (can : CanGo durable state may a) (t : ℕ) (x y : TargetOf S C)
     (place : IsPlace a t x Stopped) (few : a.watch.openings + 1 < 2 ^ 32) (plan : y.plan ≡ x.plan) (clock : y.clock ≡ x.clock) where
+  -- no clock is read then
+  still-clocks : (z : TargetOf S C) → z.clock ≡ x.clock → (u : ℕ) (p q : TargetOf S C) → slice_get a.targets u ≡ Some p → slice_get (slice_set a.targets t z) u ≡ Some q → GivesOn is_read next_reading None u p.clock q.clock
+  still-clocks z same =
+      each-pair durable state is_read a.targets t x z place.there (λ v w s. GivesOn is_read next_reading None v w.clock s.clock) (gives-none is_read next_reading None t x.clock z.clock refl same)
+      (λ v w apart. gives-none is_read next_reading None v w.clock w.clock refl refl)
+
   -- ---- it opens
 
   module _ (did : Did) (z : TargetOf S C) (opens : Reopens (Ok did) (state x.store) (state y.store) (durable x.store) (durable y.store)) (turn : (d : Durable) → durable x.store ≡ Some d → OpensAs x.plan a.watch.restarts (may x.store) (durable y.store) (state y.store) y.memory did)
@@ -123,13 +130,13 @@ module _ {S C : Type 0} (durable : S → Option Durable) (state : S → State) (
           none-rise 0 (state x.store) (state z.store) refl (omega (arith, same, faults)) (omega (arith, burnt, burns));
     }
 
-    pub opened-goes : (settling : Bool) (number : ℕ) → ((r : Rules) → TellsOn r a opened-left) → GoesOn durable state may is_read (turn_of settling (target t) number) a opened-left
+    pub opened-goes : (settling : Bool) (number : ℕ) → ((r : Rules) → TellsOn r a opened-left) → GoesOn durable state may is_read next_reading (turn_of settling (target t) number) a opened-left
     opened-goes settling number tells =
-        turn-done durable state may is_read a opened-left settling (target t) number 1 None None None can leads findable alike opened-served opened-fits (omega arith) refl tells
+        turn-done durable state may is_read next_reading a opened-left settling (target t) number 1 None None None None can leads findable alike opened-served (still-clocks z (fuse.clock ∙ clock)) opened-fits (omega arith) refl tells
         (λ u p q here there told. each-pair durable state is_read a.targets t x z place.there (λ v w s. Counts state a opened-left None None None v w s) opened-counts
         (λ v w apart. counts-none state a opened-left None None None v w refl (λ e. let no : ⊥ = cc in no) refl (fewer-lines t v a.watch.stops) (λ m h. h)) u p q here there)
       where
-        leads : AllTell durable → (r : Rules) → Leads durable state may (IsTurnSo settling r (target t) number 1 None None None) r a opened-left
+        leads : AllTell durable → (r : Rules) → Leads durable state may (IsTurnSo settling r (target t) number 1 None None None None) r a opened-left
         leads tell r =
             let d = some-told (durable x.store) (tell x.store) in
             opening-leads durable state may r t x y z a again did (next_fuse t a.watch.stops) place plan (turn d.0 d.1) has_opened opens.runs (opens.free (tell x.store)) fuse refl refl settling number
@@ -157,12 +164,13 @@ module _ {S C : Type 0} (durable : S → Option Durable) (state : S → State) (
     few-of = few-numbers state can.rules can.form a (fits-of durable state may a can) t x place.there
 
     -- its store stopped
-    pub failed-goes : (settling : Bool) (number : ℕ) (b : StageNow S C) → Ailed (state x.store) (state y.store) → Left (may x.store) (may y.store) → AfterStop t (state x.store).faults (state y.store).faults failed-left b → ((r : Rules) → TellsOn r a b) → GoesOn durable state may is_read (turn_of settling (target t) number) a b
+    pub failed-goes : (settling : Bool) (number : ℕ) (b : StageNow S C) → Ailed (state x.store) (state y.store) → Left (may x.store) (may y.store) → AfterStop t (state x.store).faults (state y.store).faults failed-left b → ((r : Rules) → TellsOn r a b) → GoesOn durable state may is_read next_reading (turn_of settling (target t) number) a b
     failed-goes settling number b ailed left after tells =
-        turn-done durable state may is_read a b settling (target t) number 1 None downs (Some t) can
-        (λ tell r. fault-leads durable state r t may settling number 1 (state x.store).faults (state y.store).faults None a failed-left b y failed-place
+        turn-done durable state may is_read next_reading a b settling (target t) number 1 None downs (Some t) None can
+        (λ tell r. fault-leads durable state r t may settling number 1 (state x.store).faults (state y.store).faults None None a failed-left b y failed-place
         (failure-leads durable state may r t x y a (opening_tried a.watch) place plan left (opens.free (tell x.store)) refl refl settling number) after)
         findable alike (subst (AreServed durable state is_read a.targets) (sym (after-targets t _ _ failed-left b after)) failed-served)
+        (λ u p q here there. still-clocks y clock u p q here (subst (λ xs. slice_get xs u ≡ Some q) (after-targets t _ _ failed-left b after) there))
         (fit-after_stop state can.rules t (state x.store).faults (state y.store).faults failed-left b can.form few-of failed-fits after)
         (let same = after-openings t _ _ failed-left b after in omega (arith, same)) (ap length (after-clients t _ _ failed-left b after)) tells
         (λ u p q here there told. each-pair durable state is_read a.targets t x y place.there (λ v w s. Counts state a b None downs (Some t) v w s) its
@@ -186,9 +194,9 @@ module _ {S C : Type 0} (durable : S → Option Durable) (state : S → State) (
         }
 
     -- it isn't a store that was made here: then it doesn't tell what it keeps
-    pub foreign-goes : (settling : Bool) (number : ℕ) → (IsSome (durable x.store) → stop_foreign why ≡ false) → stop_foreign why ≡ true → ((r : Rules) → TellsOn r a (swept_stage (given_up_stage t failed-left))) → GoesOn durable state may is_read (turn_of settling (target t) number) a (swept_stage (given_up_stage t failed-left))
+    pub foreign-goes : (settling : Bool) (number : ℕ) → (IsSome (durable x.store) → stop_foreign why ≡ false) → stop_foreign why ≡ true → ((r : Rules) → TellsOn r a (swept_stage (given_up_stage t failed-left))) → GoesOn durable state may is_read next_reading (turn_of settling (target t) number) a (swept_stage (given_up_stage t failed-left))
     foreign-goes settling number native is tells =
-        turn-done durable state may is_read a (swept_stage (given_up_stage t failed-left)) settling (target t) number 1 None None None can (λ tell r. absurd (untold (tell x.store))) findable alike failed-served
+        turn-done durable state may is_read next_reading a (swept_stage (given_up_stage t failed-left)) settling (target t) number 1 None None None None can (λ tell r. absurd (untold (tell x.store))) findable alike failed-served (still-clocks y clock)
         (fit-swept state can.rules can.form (given_up_stage t failed-left) (fit-given_up state can.rules can.form failed-left failed-fits t few-of)) (omega arith) refl tells
         (λ u p q here there told. absurd (untold (alike p.store x.store told)))
       where
@@ -197,19 +205,19 @@ module _ {S C : Type 0} (durable : S → Option Durable) (state : S → State) (
 
 -- ---- an opening
 
-module _ {S C : Type 0} (durable : S → Option Durable) (state : S → State) (may : S → Durable → Type 0) (is_read : C → C → Type 0) (findable : AreFindable durable may) (alike : AreAlike durable) (a b : StageNow S C) (can : CanGo durable state may a) (settling : Bool) (t number : ℕ) where
+module _ {S C : Type 0} (durable : S → Option Durable) (state : S → State) (may : S → Durable → Type 0) (is_read : C → C → Type 0) (next_reading : C → Option ℕ) (findable : AreFindable durable may) (alike : AreAlike durable) (a b : StageNow S C) (can : CanGo durable state may a) (settling : Bool) (t number : ℕ) where
   -- whatever comes of it
-  pub reopening-goes : TargetReopened durable state may t a b → GoesOn durable state may is_read (turn_of settling (target t) number) a b
+  pub reopening-goes : TargetReopened durable state may t a b → GoesOn durable state may is_read next_reading (turn_of settling (target t) number) a b
   reopening-goes k = by k.ends
     where
       tells : (r : Rules) → TellsOn r a b
-      tells r = target-tells-on durable state may r a b t is_read settling number (Reopened k)
+      tells r = target-tells-on durable state may r a b t is_read next_reading settling number (Reopened k)
 
-      by : OpeningEnds durable state may t k.was.before k.was.now (record a { targets = slice_set a.targets t k.was.now; watch = opening_tried a.watch }) b k.was.result → GoesOn durable state may is_read (turn_of settling (target t) number) a b
+      by : OpeningEnds durable state may t k.was.before k.was.now (record a { targets = slice_set a.targets t k.was.now; watch = opening_tried a.watch }) b k.was.result → GoesOn durable state may is_read next_reading (turn_of settling (target t) number) a b
       by (Opened did is after) =
           let same = ap (λ xs. swept_stage (record a { targets = xs; watch = opened_again t (fuse_set t (opening_tried a.watch)); between = followed (target t) did a.between })) (sym (set-twice a.targets t k.was.now after.armed)) ∙ sym after.after in
-          subst (λ s. GoesOn durable state may is_read (turn_of settling (target t) number) a s) same
-          (opened-goes durable state may is_read findable alike a can t k.was.before k.was.now k.was.place k.was.few k.was.plan k.was.clock did after.armed
+          subst (λ s. GoesOn durable state may is_read next_reading (turn_of settling (target t) number) a s) same
+          (opened-goes durable state may is_read next_reading findable alike a can t k.was.before k.was.now k.was.place k.was.few k.was.plan k.was.clock did after.armed
           (subst (λ q. Reopens q (state k.was.before.store) (state k.was.now.store) (durable k.was.before.store) (durable k.was.now.store)) is k.was.opens)
           (λ d told. subst (λ q. IfOk q (OpensAs k.was.before.plan a.watch.restarts (may k.was.before.store) (durable k.was.now.store) (state k.was.now.store) k.was.now.memory)) is (k.was.turn d told))
           (subst (λ q. IfOk q (λ e. posted.TurnFollows k.was.before.plan.targets k.was.now.memory e.posts)) is k.was.posts) (k.was.opened ∙ ap is_ok is) after.fuse settling number (λ r. subst (TellsOn r a) (sym same) (tells r)))
@@ -218,8 +226,8 @@ module _ {S C : Type 0} (durable : S → Option Durable) (state : S → State) (
           opens : Reopens {T = Did} (Err why) (state k.was.before.store) (state k.was.now.store) (durable k.was.before.store) (durable k.was.now.store)
           opens = subst (λ q. Reopens q (state k.was.before.store) (state k.was.now.store) (durable k.was.before.store) (durable k.was.now.store)) is k.was.opens
 
-          ends : AfterFailure t (state k.was.before.store).faults (state k.was.now.store).faults why (record a { targets = slice_set a.targets t k.was.now; watch = opening_tried a.watch }) b → GoesOn durable state may is_read (turn_of settling (target t) number) a b
-          ends (ByStop issued lines same stopped) = failed-goes durable state may is_read findable alike a can t k.was.before k.was.now k.was.place k.was.few k.was.plan k.was.clock why opens settling number b (opens.cause (ap (λ z. says {T = Did} stop_store (Err z)) same)) k.was.left stopped tells
+          ends : AfterFailure t (state k.was.before.store).faults (state k.was.now.store).faults why (record a { targets = slice_set a.targets t k.was.now; watch = opening_tried a.watch }) b → GoesOn durable state may is_read next_reading (turn_of settling (target t) number) a b
+          ends (ByStop issued lines same stopped) = failed-goes durable state may is_read next_reading findable alike a can t k.was.before k.was.now k.was.place k.was.few k.was.plan k.was.clock why opens settling number b (opens.cause (ap (λ z. says {T = Did} stop_store (Err z)) same)) k.was.left stopped tells
           ends (ByForeign at byte same given_up) =
-              subst (λ s. GoesOn durable state may is_read (turn_of settling (target t) number) a s) (sym given_up)
-              (foreign-goes durable state may is_read findable alike a can t k.was.before k.was.now k.was.place k.was.few k.was.plan k.was.clock why opens settling number (λ some. ap (says stop_foreign) (sym is) ∙ k.was.native some) (ap stop_foreign same) (λ r. subst (TellsOn r a) given_up (tells r)))
+              subst (λ s. GoesOn durable state may is_read next_reading (turn_of settling (target t) number) a s) (sym given_up)
+              (foreign-goes durable state may is_read next_reading findable alike a can t k.was.before k.was.now k.was.place k.was.few k.was.plan k.was.clock why opens settling number (λ some. ap (says stop_foreign) (sym is) ∙ k.was.native some) (ap stop_foreign same) (λ r. subst (TellsOn r a) given_up (tells r)))

@@ -12,7 +12,7 @@ use Rattle.run_laws.specs.shows.Reopening.{choosing, chosen}
 use Rattle.run_laws.specs.shows.Serving.{served-by-runs}
 use Rattle.run_laws.specs.shows.Stages.{StageNow}
 use Rattle.run_laws.specs.shows.Steps.{ClientTurned, ClientWorks, Cut, HeardOne, Reopened, TargetTurned, TargetWorked, WentOn, Whole, WorkEnds, Worked}
-use Rattle.run_laws.specs.shows.Turned.{IsTurned, followed, swept_stage, with_between, with_client_at}
+use Rattle.run_laws.specs.shows.Turned.{HasTurned, followed, swept_stage, with_between, with_client_at}
 use Rattle.run_laws.specs.steps.Going.{AllTell, GoesOn}
 use Rattle.run_laws.specs.steps.Hearing.{hearable}
 use Rattle.run_laws.specs.steps.Openings.{reopening-goes}
@@ -30,43 +30,43 @@ use Rattle.world_base.specs.Letters.{client, target}
 use Rattle.world_contents.specs.posts.Forms.{TurnsPostInForm}
 
 module _ {S C : Type 0} (durable : S → Option Durable) (state : S → State) (may : S → Durable → Type 0) where
-  module _ (is_read : C → C → Type 0) (findable : AreFindable durable may) (alike : AreAlike durable) (a b : StageNow S C) (can : CanGo durable state may a) where
+  module _ (is_read : C → C → Type 0) (next_reading : C → Option ℕ) (findable : AreFindable durable may) (alike : AreAlike durable) (a b : StageNow S C) (can : CanGo durable state may a) where
     -- a client's turn
-    pub client-turn-goes : (n number : ℕ) → ClientTurned n number a b → (settling : Bool) → GoesOn durable state may is_read (turn_of settling (client n) number) a b
-    client-turn-goes n number k settling = subst (λ s. GoesOn durable state may is_read (turn_of settling (client n) number) a s) (sym k.after) (by k.works)
+    pub client-turn-goes : (n number : ℕ) → ClientTurned n number a b → (settling : Bool) → GoesOn durable state may is_read next_reading (turn_of settling (client n) number) a b
+    client-turn-goes n number k settling = subst (λ s. GoesOn durable state may is_read next_reading (turn_of settling (client n) number) a s) (sym k.after) (by k.works)
       where
         tells : (r : Rules) → TellsOn r a (swept_stage (with_between (followed (client n) k.did k.left) (with_client_at n k.now a)))
         tells r = subst (TellsOn r a) k.after (client-tells-on r n number a b k)
 
-        by : ClientWorks n number k.before k.now a.between k.left k.did → GoesOn durable state may is_read (turn_of settling (client n) number) a (swept_stage (with_between (followed (client n) k.did k.left) (with_client_at n k.now a)))
+        by : ClientWorks n number k.before k.now a.between k.left k.did → GoesOn durable state may is_read next_reading (turn_of settling (client n) number) a (swept_stage (with_between (followed (client n) k.did k.left) (with_client_at n k.now a)))
         by (HeardOne l rest awake picked left turn) =
-            client-heard-done durable state may is_read findable alike a can n k.before k.now k.did k.left k.here k.plan (ap (λ q. q.asked) left) (ap (λ q. q.issued) left) (ap (λ q. q.lines) left) settling number l rest awake picked (ap (λ q. q.messages) left) turn tells
+            client-heard-done durable state may is_read next_reading findable alike a can n k.before k.now k.did k.left k.here k.plan (ap (λ q. q.asked) left) (ap (λ q. q.issued) left) (ap (λ q. q.lines) left) settling number l rest awake picked (ap (λ q. q.messages) left) turn tells
         by (WentOn none left turn) =
-            client-went-done durable state may is_read findable alike a can n k.before k.now k.did k.left k.here k.plan (ap (λ q. q.asked) left) (ap (λ q. q.issued) left) (ap (λ q. q.lines) left) settling number none (ap (λ q. q.messages) left) turn tells
+            client-went-done durable state may is_read next_reading findable alike a can n k.before k.now k.did k.left k.here k.plan (ap (λ q. q.asked) left) (ap (λ q. q.issued) left) (ap (λ q. q.lines) left) settling number none (ap (λ q. q.messages) left) turn tells
 
     module _ (settling : Bool) (t number : ℕ) where
-      pub worked-goes : TargetWorked durable state may is_read settling t number a b → GoesOn durable state may is_read (turn_of settling (target t) number) a b
+      pub worked-goes : TargetWorked durable state may is_read next_reading settling t number a b → GoesOn durable state may is_read next_reading (turn_of settling (target t) number) a b
       worked-goes k = by k.ends
         where
           tells : (r : Rules) → TellsOn r a b
-          tells r = target-tells-on durable state may r a b t is_read settling number (Worked k)
+          tells r = target-tells-on durable state may r a b t is_read next_reading settling number (Worked k)
 
-          by : WorkEnds durable state may t k.work.before k.work.now k.work.left a b k.work.result → GoesOn durable state may is_read (turn_of settling (target t) number) a b
+          by : WorkEnds durable state may t k.work.before k.work.now k.work.left a b k.work.result → GoesOn durable state may is_read next_reading (turn_of settling (target t) number) a b
           by (Whole did is after) =
-              subst (λ s. GoesOn durable state may is_read (turn_of settling (target t) number) a s) (sym after)
-              (whole-done durable state may is_read findable alike a can t k.work.before k.work.now k.work.place k.work.plan (served-by-runs stop_store k.work.result (state k.work.before.store) (state k.work.now.store) (durable k.work.before.store) (durable k.work.now.store) k.work.runs) k.work.clock did k.work.left k.work.opened
+              subst (λ s. GoesOn durable state may is_read next_reading (turn_of settling (target t) number) a s) (sym after)
+              (whole-done durable state may is_read next_reading findable alike a can t k.work.before k.work.now k.work.place k.work.plan (served-by-runs stop_store k.work.result (state k.work.before.store) (state k.work.now.store) (durable k.work.before.store) (durable k.work.now.store) k.work.runs) k.work.clock did k.work.left k.work.opened
               (subst (λ q. Runs stop_store q (state k.work.before.store) (state k.work.now.store) (durable k.work.before.store) (durable k.work.now.store)) is k.work.runs)
               (subst (λ q. IfOk q (λ d. TurnsPostInForm k.work.before.plan.targets k.work.before.memory k.work.now.memory d.posts)) is k.work.posts) settling number
-              (subst (IsTurned durable state may settling t number k.work.before k.work.now a.between k.work.left) is k.work.turned) (λ r. subst (TellsOn r a) after (tells r)))
+              (subst (HasTurned durable state may is_read next_reading settling t number k.work.before k.work.now a.between k.work.left) is k.work.came) (λ r. subst (TellsOn r a) after (tells r)))
           by (Cut why is after) =
               let cut = is ∙ ap Err after.cut in
-              cut-done durable state may is_read findable alike a can t k.work.before k.work.now k.work.place k.work.plan (served-by-runs stop_store k.work.result (state k.work.before.store) (state k.work.now.store) (durable k.work.before.store) (durable k.work.now.store) k.work.runs) k.work.clock k.work.left after.issued after.lines k.work.runs.fuse
-              (k.work.runs.cause (ap (says stop_store) cut)) b settling number (subst (IsTurned durable state may settling t number k.work.before k.work.now a.between k.work.left) cut k.work.turned) after.after tells
+              cut-done durable state may is_read next_reading findable alike a can t k.work.before k.work.now k.work.place k.work.plan (served-by-runs stop_store k.work.result (state k.work.before.store) (state k.work.now.store) (durable k.work.before.store) (durable k.work.now.store) k.work.runs) k.work.clock k.work.left after.issued after.lines k.work.runs.fuse
+              (k.work.runs.cause (ap (says stop_store) cut)) b settling number (subst (HasTurned durable state may is_read next_reading settling t number k.work.before k.work.now a.between k.work.left) cut k.work.came) after.after tells
 
       -- a target's turn
-      pub target-turn-goes : TargetTurned durable state may is_read settling t number a b → GoesOn durable state may is_read (turn_of settling (target t) number) a b
+      pub target-turn-goes : TargetTurned durable state may is_read next_reading settling t number a b → GoesOn durable state may is_read next_reading (turn_of settling (target t) number) a b
       target-turn-goes (Worked k) = worked-goes k
-      target-turn-goes (Reopened k) = reopening-goes durable state may is_read findable alike a b can settling t number k
+      target-turn-goes (Reopened k) = reopening-goes durable state may is_read next_reading findable alike a b can settling t number k
 
   -- ---- a target can have its turn
 

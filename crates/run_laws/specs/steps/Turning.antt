@@ -17,12 +17,17 @@ use Rattle.run_laws.specs.shows.Parts.{IsTurnSo, at-both}
 use Rattle.run_laws.specs.shows.Shows.{IsGoing, Leads}
 use Rattle.run_laws.specs.shows.Stages.{StageNow}
 use Rattle.run_laws.specs.steps.Going.{AllTell, GoesOn, leads-as}
-use Rattle.run_laws.specs.steps.Ways.{GoesWithin, turn_of}
+use Rattle.run_laws.specs.steps.Ways.{GoesWithin, HaveGiven, turn_of}
 use Rattle.run_laws.specs.turns.Faults.{once_for}
+use Rattle.run_laws.specs.turns.OrderLaws.{turn-goes}
+use Rattle.run_laws.specs.turns.Readings.{GivesOn, HasGiven, read_by, reading_of, readings_of, turn-reads}
 use Rattle.run_laws.specs.turns.StopLines.{one_or_none}
+use Rattle.run_laws.specs.turns.Turns.{TurnOf}
 use Rattle.target_core.specs.Targets.{TargetOf}
 use Rattle.vos_store.specs.Calls.{State}
+use Rattle.world_base.specs.declared.world.World.{World}
 use Rattle.world_base.specs.Events.{Rules}
+use Rattle.world_base.specs.Stops.{WorldRun}
 use Rattle.world_letters.specs.lives.Adding.{stops_of}
 
 -- ---- counts
@@ -64,9 +69,9 @@ its-down t (Some u) (inr none) = absurd none
 
 -- ---- a turn
 
-module _ {S C : Type 0} (durable : S → Option Durable) (state : S → State) (may : S → Durable → Type 0) (is_read : C → C → Type 0) where
-  module _ (a b : StageNow S C) (settling : Bool) (actor : ActorId) (number raised : ℕ) (stops downs faults : Option ℕ) (can : CanGo durable state may a) (leads : AllTell durable → (r : Rules) → Leads durable state may (IsTurnSo settling r actor number raised stops downs faults) r a b) (findable : AreFindable durable may)
-      (alike : AreAlike durable) (served : AreServed durable state is_read a.targets b.targets) where
+module _ {S C : Type 0} (durable : S → Option Durable) (state : S → State) (may : S → Durable → Type 0) (is_read : C → C → Type 0) (next_reading : C → Option ℕ) where
+  module _ (a b : StageNow S C) (settling : Bool) (actor : ActorId) (number raised : ℕ) (stops downs faults : Option ℕ) (read : Option (ℕ × ℕ)) (can : CanGo durable state may a) (leads : AllTell durable → (r : Rules) → Leads durable state may (IsTurnSo settling r actor number raised stops downs faults read) r a b) (findable : AreFindable durable may)
+      (alike : AreAlike durable) (served : AreServed durable state is_read a.targets b.targets) (clocks : (t : ℕ) (x y : TargetOf S C) → slice_get a.targets t ≡ Some x → slice_get b.targets t ≡ Some y → GivesOn is_read next_reading read t x.clock y.clock) where
     going-by : (t : ℕ) (x : TargetOf S C) → slice_get a.targets t ≡ Some x → (o : Option Durable) → durable x.store ≡ o → is_some o ≡ true → IsGoing durable state may a
     going-by t x at None is some = let no : ⊥ = cc in absurd no
     going-by t x at (Some d) is some = can.told t x d at is
@@ -107,10 +112,10 @@ module _ {S C : Type 0} (durable : S → Option Durable) (state : S → State) (
         tell s = alike y.store s is
 
         told : stops_told_in b.between.lines t ≡ stops_told_in a.between.lines t + stops_of stops t
-        told = stops-told durable state may a b settling actor number raised stops downs faults g (leads tell g.rules) findable (λ z. tell z.store) t
+        told = stops-told durable state may a b settling actor number raised stops downs faults read g (leads tell g.rules) findable (λ z. tell z.store) t
 
         downs-are : down_targets b.between.lines ≡ down_targets a.between.lines ++ one_or_none downs
-        downs-are = downs-told durable state may a b settling actor number raised stops downs faults g (leads tell g.rules) findable (λ z. tell z.store)
+        downs-are = downs-told durable state may a b settling actor number raised stops downs faults read g (leads tell g.rules) findable (λ z. tell z.store)
 
         more : AtMostOne (stops_of stops t + stop_lines_of t b.watch.stops + one_if (state y.store).fused) (stop_lines_of t a.watch.stops + one_if (state x.0.store).fused) (state x.0.store).faults (state y.store).faults
             → AtMostOne (stops_told_in b.between.lines t + stop_lines_of t b.watch.stops + one_if (state y.store).fused) (stops_told_in a.between.lines t + stop_lines_of t a.watch.stops + one_if (state x.0.store).fused) (state x.0.store).faults (state y.store).faults
@@ -118,22 +123,26 @@ module _ {S C : Type 0} (durable : S → Option Durable) (state : S → State) (
         more (inr z) = let few = z.0 in inr (omega (arith, few, told), z.1)
 
     -- with no more faults of each target than counts of its store rose
-    leads-within : (r : Rules) → AllTell durable → AreWithinRises state (once_for faults) a.targets b.targets → Leads durable state may (GoesWithin state (turn_of settling actor number) r a.targets b.targets) r a b
+    leads-within : (r : Rules) → AllTell durable → AreWithinRises state (once_for faults) a.targets b.targets → Leads durable state may (GoesWithin state is_read next_reading (turn_of settling actor number) r a.targets b.targets) r a b
     leads-within r tell few =
-        leads-as durable state may r (IsTurnSo settling r actor number raised stops downs faults) (GoesWithin state (turn_of settling actor number) r a.targets b.targets) a b
-        (λ found before w v s z one. record { goes = one.turn; within = λ t x y at there. subst (λ o. AtMostBothRise (once_for o t) (state x.store) (state y.store)) (sym one.faults_is) (few t x y at there) }) (leads tell r)
+        leads-as durable state may r (IsTurnSo settling r actor number raised stops downs faults read) (GoesWithin state is_read next_reading (turn_of settling actor number) r a.targets b.targets) a b
+        (λ found before w v s z one. record { goes = one.turn; within = λ t x y at there. subst (λ o. AtMostBothRise (once_for o t) (state x.store) (state y.store)) (sym one.faults_is) (few t x y at there); clocks = λ u run t x y at there first given. given-on w v one.turn one.read_is u run t x y at there first given }) (leads tell r)
+      where
+        given-on : (w v : World) (turn : TurnOf settling r actor number w v) → read_by turn ≡ read → (u : World) (run : WorldRun r u w) → HaveGiven is_read next_reading a.targets b.targets run (turn-goes settling r actor number u w v turn run)
+        given-on w v turn is u run t x y at there first given =
+            subst (λ xs. HasGiven is_read next_reading first xs y.clock) (sym (turn-reads t settling r actor number u w v turn run)) (subst (λ o. HasGiven is_read next_reading first (readings_of t run ++ reading_of o t) y.clock) (sym is) (clocks t x y at there first (readings_of t run) given))
 
     -- what a turn of an actor leads to, and that the actors can go on, are accounted for, and have told in turn then
     pub turn-done : Fits state can.rules b → a.watch.openings + raised ≤ b.watch.openings → length b.clients ≡ length a.clients → ((r : Rules) → TellsOn r a b)
         → ((t : ℕ) (x y : TargetOf S C) → slice_get a.targets t ≡ Some x → slice_get b.targets t ≡ Some y → is_some (durable x.store) ≡ true → Counts state a b stops downs faults t x y)
-        → GoesOn durable state may is_read (turn_of settling actor number) a b
+        → GoesOn durable state may is_read next_reading (turn_of settling actor number) a b
     turn-done fits up clients tells counts = record {
       led = λ tell r. leads-within r tell (λ t x y at there. (counts t x y at there (tell x.store)).fault);
       going = can-go durable state may can.rules b can.form fits
           (λ t y d at is.
           let some : is_some (durable y.store) ≡ true = ap is_some is in
           let g = was-going t y at some in
-          going-on durable state may a b settling actor number raised stops downs faults g (leads (λ s. alike y.store s some) g.rules) findable (λ z. alike y.store z.store some) up);
+          going-on durable state may a b settling actor number raised stops downs faults read g (leads (λ s. alike y.store s some) g.rules) findable (λ z. alike y.store z.store some) up);
       clients = clients;
       served = served;
       accounts = accounted counts;

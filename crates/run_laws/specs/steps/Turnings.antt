@@ -1,5 +1,5 @@
 -- A client's turn, and a target's turn, whole or cut, with all that they leave.
-use Rattle.std.specs.Prelude.{ℕ, ◌≡◌, ◌<◌, ◌+◌, ◌==◌, ◌&&◌, Bool, true, false, List, length, slice_get, slice_set, Option, Some, None, Ok, Err, refl, if◌then◌else◌}
+use Rattle.std.specs.Prelude.{ℕ, ◌≡◌, ◌<◌, ◌+◌, ◌==◌, ◌&&◌, Bool, true, false, List, [], length, slice_get, slice_set, Option, Some, None, Ok, Err, refl, if◌then◌else◌}
 use Rattle.std.proofs.Common.{inl, inr, sym, ◌∙◌, ap, subst, arith}
 use Rattle.std.proofs.Math.ListN.{set}
 use Rattle.std.proofs.lemmas.Bool.Decides.{nat_tests}
@@ -29,18 +29,20 @@ use Rattle.run_laws.specs.shows.Serving.{each-pair, served-first, served-one}
 use Rattle.run_laws.specs.shows.Shows.{Leads}
 use Rattle.run_laws.specs.shows.Stages.{IsPlace, StageNow}
 use Rattle.run_laws.specs.shows.Stopping.{cut-leads}
-use Rattle.run_laws.specs.shows.Turned.{AfterStop, ByHearing, ByIdling, Failed, IsTurned, LastTime, NotFailed, cut_between, followed, stopped_stage, swept_stage, with_between, with_client_at, with_target_at}
+use Rattle.run_laws.specs.shows.Turned.{AfterStop, ByHearing, ByIdling, Failed, HasTurned, IsTurned, LastTime, NotFailed, cut_between, followed, read_then, stopped_stage, swept_stage, with_between, with_client_at, with_target_at}
 use Rattle.run_laws.specs.steps.Going.{GoesOn}
 use Rattle.run_laws.specs.steps.Turning.{AtMostOne, Counts, counts-none, turn-done}
 use Rattle.run_laws.specs.steps.Ways.{turn_of}
 use Rattle.run_laws.specs.turns.Faults.{once_for}
+use Rattle.run_laws.specs.turns.Readings.{GivesOn, gives-none, others-read, reading_of}
 use Rattle.run_watch.specs.Watches.{WatchNow, after_fault, with_life}
 use Rattle.target_core.specs.Targets.{TargetOf}
 use Rattle.target_parts.specs.Parts.{Runs}
 use Rattle.target_parts.specs.Readings.{IsReadOn}
-use Rattle.target_parts.specs.Stops.{stop_store}
+use Rattle.target_parts.specs.Stops.{stop_store, stop_wanting}
 use Rattle.target_parts.specs.declared.stop.TargetStop.TheVariants as stop
 use Rattle.vos_store.specs.Calls.{Ailed, Fires, State}
+use Rattle.vos_store.specs.Refusals.{says}
 use Rattle.world_base.specs.declared.did.Did.{Did}
 use Rattle.world_base.specs.declared.letter.Letter.{Letter}
 use Rattle.world_base.specs.declared.target.Life.TheVariants.{Running, Stopped}
@@ -61,7 +63,7 @@ rest-among letters rest a number l k m i = subst (Has m) (sym k.among) (elim (ha
 
 -- ---- a client
 
-module _ {S C : Type 0} (durable : S → Option Durable) (state : S → State) (may : S → Durable → Type 0) (is_read : C → C → Type 0) (findable : AreFindable durable may) (alike : AreAlike durable) (a : StageNow S C) (can : CanGo durable state may a) where
+module _ {S C : Type 0} (durable : S → Option Durable) (state : S → State) (may : S → Durable → Type 0) (is_read : C → C → Type 0) (next_reading : C → Option ℕ) (findable : AreFindable durable may) (alike : AreAlike durable) (a : StageNow S C) (can : CanGo durable state may a) where
   module _ (n : ℕ) (c d : ClientNow) (did : Did) (left : BetweenNow) (at : slice_get a.clients n ≡ Some c) (plan : d.plan ≡ c.plan) (asked : left.asked ≡ a.between.asked) (issued : left.issued ≡ a.between.issued) (lines : left.lines ≡ a.between.lines) where
     abbrev pub client-left : StageNow S C
     client-left = swept_stage (with_between (followed (client n) did left) (with_client_at n d a))
@@ -81,16 +83,17 @@ module _ {S C : Type 0} (durable : S → Option Durable) (state : S → State) (
           between = followed-form (target_plan can.rules) (client n) did left (record { messages = letters; asked = λ l i. f.between.asked l (subst (Has l) asked i) }) (λ q i. clients-send-letters (target_plan can.rules) n q (posts q i));
         })
 
-    client-done : (settling : Bool) (number : ℕ) → ((r : Rules) → Leads durable state may (IsTurnSo settling r (client n) number 0 None None None) r a client-left) → InForm (target_plan can.rules) left.messages → ClientPosts (target_plan can.rules) did.posts → ReadsKnown d.plan d.state → ((r : Rules) → TellsOn r a client-left)
-        → GoesOn durable state may is_read (turn_of settling (client n) number) a client-left
+    client-done : (settling : Bool) (number : ℕ) → ((r : Rules) → Leads durable state may (IsTurnSo settling r (client n) number 0 None None None None) r a client-left) → InForm (target_plan can.rules) left.messages → ClientPosts (target_plan can.rules) did.posts → ReadsKnown d.plan d.state → ((r : Rules) → TellsOn r a client-left)
+        → GoesOn durable state may is_read next_reading (turn_of settling (client n) number) a client-left
     client-done settling number leads letters posts known tells =
-        turn-done durable state may is_read a client-left settling (client n) number 0 None None None can (λ tell. leads) findable alike (served-first durable state is_read a.targets) (client-fits letters posts known) (omega arith) (length-set a.clients n d) tells
+        turn-done durable state may is_read next_reading a client-left settling (client n) number 0 None None None None can (λ tell. leads) findable alike (served-first durable state is_read a.targets)
+        (λ t x y here there. gives-none is_read next_reading None t x.clock y.clock refl (let same : x ≡ y = let e : Some x ≡ Some y = sym here ∙ there in cc in ap (λ z. z.clock) (sym same))) (client-fits letters posts known) (omega arith) (length-set a.clients n d) tells
         (λ t x y here there told.
         let same : x ≡ y = let e : Some x ≡ Some y = sym here ∙ there in cc in
         subst (Counts state a client-left None None None t x) same (counts-none state a client-left None None None t x refl (λ e. let no : ⊥ = cc in no) refl (omega arith) (λ m h. h)))
 
     -- it heard a message
-    pub client-heard-done : (settling : Bool) (number : ℕ) (l : Letter) (rest : List Letter) → c.state.skip ≡ 0 → IsPicked a.between.messages (client n) number l rest → left.messages ≡ rest → HearTurn c.plan c.state l.message did d.state → ((r : Rules) → TellsOn r a client-left) → GoesOn durable state may is_read (turn_of settling (client n) number) a client-left
+    pub client-heard-done : (settling : Bool) (number : ℕ) (l : Letter) (rest : List Letter) → c.state.skip ≡ 0 → IsPicked a.between.messages (client n) number l rest → left.messages ≡ rest → HearTurn c.plan c.state l.message did d.state → ((r : Rules) → TellsOn r a client-left) → GoesOn durable state may is_read next_reading (turn_of settling (client n) number) a client-left
     client-heard-done settling number l rest awake picked messages turn tells =
         client-done settling number (λ r. client-hears durable state may r n c d a did left at plan asked issued lines settling number l rest awake picked messages turn)
         (λ m i. (fits-of durable state may a can).between.messages m (rest-among a.between.messages rest (client n) number l picked m (subst (Has m) messages i)))
@@ -98,7 +101,7 @@ module _ {S C : Type 0} (durable : S → Option Durable) (state : S → State) (
         (subst (λ p. ReadsKnown p d.state) (sym plan) (hearers-keep-reads_known c.plan c.state d.state l.message did turn (can.known n c at))) tells
 
     -- it went on without one
-    pub client-went-done : (settling : Bool) (number : ℕ) → heard_awake c.state (count_to (client n) a.between.messages) ≡ 0 → left.messages ≡ a.between.messages → NextTurn c.plan c.state did d.state → ((r : Rules) → TellsOn r a client-left) → GoesOn durable state may is_read (turn_of settling (client n) number) a client-left
+    pub client-went-done : (settling : Bool) (number : ℕ) → heard_awake c.state (count_to (client n) a.between.messages) ≡ 0 → left.messages ≡ a.between.messages → NextTurn c.plan c.state did d.state → ((r : Rules) → TellsOn r a client-left) → GoesOn durable state may is_read next_reading (turn_of settling (client n) number) a client-left
     client-went-done settling number none messages turn tells =
         client-done settling number (λ r. client-goes durable state may r n c d a did left at plan asked issued lines settling number none messages turn) (λ m i. (fits-of durable state may a can).between.messages m (subst (Has m) messages i))
         (clients-post-in-form can.rules n c.state d.state did can.form.form (subst (λ p. ReadsKnown p c.state) (can.plans n c at) (can.known n c at)) (subst (λ p. NextTurn p c.state did d.state) (can.plans n c at) turn))
@@ -166,7 +169,7 @@ module _ {S C : Type 0} (t before now : ℕ) (a b : StageNow S C) where
 
 -- ---- a target's turn
 
-module _ {S C : Type 0} (durable : S → Option Durable) (state : S → State) (may : S → Durable → Type 0) (is_read : C → C → Type 0) (findable : AreFindable durable may) (alike : AreAlike durable) (a : StageNow S C) (can : CanGo durable state may a) (t : ℕ) (x y : TargetOf S C)
+module _ {S C : Type 0} (durable : S → Option Durable) (state : S → State) (may : S → Durable → Type 0) (is_read : C → C → Type 0) (next_reading : C → Option ℕ) (findable : AreFindable durable may) (alike : AreAlike durable) (a : StageNow S C) (can : CanGo durable state may a) (t : ℕ) (x y : TargetOf S C)
     (place : IsPlace a t x Running) (plan : y.plan ≡ x.plan) (served : IsServed (state x.store) (state y.store) (durable x.store) (durable y.store)) (read : IsReadOn is_read x.clock y.clock) where
   -- what is left in flight was so before, and nothing else changed
   pub record IsLeft (left : BetweenNow) : Type 0 where
@@ -179,6 +182,18 @@ module _ {S C : Type 0} (durable : S → Option Durable) (state : S → State) (
   pub turned-left : (settling : Bool) (number : ℕ) (left : BetweenNow) (result : _) → IsTurned durable state may settling t number x y a.between left result → IsLeft left
   turned-left settling number left result (ByHearing l rest reading picked left_is few turn) = record { messages = λ m i. rest-among a.between.messages rest (target t) number l picked m (subst (Has m) (ap (λ b. b.messages) left_is) i); asked = ap (λ b. b.asked) left_is }
   turned-left settling number left result (ByIdling none left_is turn) = record { messages = λ m i. subst (Has m) (ap (λ b. b.messages) left_is) i; asked = ap (λ b. b.asked) left_is }
+
+  -- no other target reads its clock in its turn
+  others-quiet : (settling : Bool) (number : ℕ) (left : BetweenNow) (result : _) (k : IsTurned durable state may settling t number x y a.between left result) (u : ℕ) → (u ≡ t → ⊥) → reading_of (read_then durable state may k) u ≡ []
+  others-quiet settling number left result (ByHearing l rest reading picked left_is few turn) u apart = others-read t u l.message reading apart
+  others-quiet settling number left result (ByIdling none left_is turn) u apart = refl
+
+  -- so each clock gave what it is to give in it
+  turned-clocks : (settling : Bool) (number : ℕ) (left : BetweenNow) (result : _) (came : HasTurned durable state may is_read next_reading settling t number x y a.between left result) → says stop_wanting result ≡ false
+      → (u : ℕ) (p q : TargetOf S C) → slice_get a.targets u ≡ Some p → slice_get (slice_set a.targets t y) u ≡ Some q → GivesOn is_read next_reading (read_then durable state may came.turned) u p.clock q.clock
+  turned-clocks settling number left result came whole =
+      each-pair durable state is_read a.targets t x y place.there (λ v z w. GivesOn is_read next_reading (read_then durable state may came.turned) v z.clock w.clock) (came.clock whole)
+      (λ v z apart. gives-none is_read next_reading (read_then durable state may came.turned) v z.clock z.clock (others-quiet settling number left result came.turned v apart) refl)
 
   small : t < 64
   small = few-numbers state can.rules can.form a (fits-of durable state may a can) t x place.there
@@ -198,10 +213,11 @@ module _ {S C : Type 0} (durable : S → Option Durable) (state : S → State) (
         (followed-form (target_plan can.rules) (target t) did left letters
         (λ q i. targets-send-letters (target_plan can.rules) can.rules.script.targets t q small (λ u. refl) (subst (λ n. TargetPosts n did.posts) (ap (λ p. p.targets) (can.made t x place.there)) sent.form q i))))
 
-    pub whole-done : (settling : Bool) (number : ℕ) → IsTurned durable state may settling t number x y a.between left (Ok did) → ((r : Rules) → TellsOn r a target-left) → GoesOn durable state may is_read (turn_of settling (target t) number) a target-left
-    whole-done settling number turned tells =
-        turn-done durable state may is_read a target-left settling (target t) number 0 None None None can
-        (λ tell r. turn-leads durable state r t x y a did place plan opened runs.opening runs.stops may settling number left turned) findable alike (served-one durable state is_read a.targets t x y place.there served read) (target-fits (left-form left (turned-left settling number left (Ok did) turned))) (omega arith) refl tells
+    pub whole-done : (settling : Bool) (number : ℕ) → HasTurned durable state may is_read next_reading settling t number x y a.between left (Ok did) → ((r : Rules) → TellsOn r a target-left) → GoesOn durable state may is_read next_reading (turn_of settling (target t) number) a target-left
+    whole-done settling number came tells =
+        turn-done durable state may is_read next_reading a target-left settling (target t) number 0 None None None (read_then durable state may came.turned) can
+        (λ tell r. turn-leads durable state r t x y a did place plan opened runs.opening runs.stops may settling number left came.turned) findable alike (served-one durable state is_read a.targets t x y place.there served read) (turned-clocks settling number left (Ok did) came refl)
+        (target-fits (left-form left (turned-left settling number left (Ok did) came.turned))) (omega arith) refl tells
         (λ u p q here there told. each-pair durable state is_read a.targets t x y place.there (λ v z w. Counts state a target-left None None None v z w) its
         (λ v z apart. counts-none state a target-left None None None v z refl (λ e. let no : ⊥ = cc in no) refl (omega arith) (λ m h. h)) u p q here there)
       where
@@ -241,14 +257,15 @@ module _ {S C : Type 0} (durable : S → Option Durable) (state : S → State) (
         let set' : one_if (state x.store).fused ≡ 1 = ap one_if z.1 in
         inl (omega (arith, one, none, set'))
 
-    pub cut-done : (settling : Bool) (number : ℕ) → IsTurned durable state may settling t number x y a.between left (Err (stop.Store issued lines)) → AfterStop t (state x.store).faults (state y.store).faults cut-left c → ((r : Rules) → TellsOn r a c)
-        → GoesOn durable state may is_read (turn_of settling (target t) number) a c
-    cut-done settling number turned after tells =
-        turn-done durable state may is_read a c settling (target t) number 0 (Some t) downs (Some t) can
-        (λ tell r. fault-leads durable state r t may settling number 0 (state x.store).faults (state y.store).faults (Some t) a cut-left c y cut-place
-        (cut-leads durable state r t x y a place plan issued lines may settling number left turned) after)
+    pub cut-done : (settling : Bool) (number : ℕ) → HasTurned durable state may is_read next_reading settling t number x y a.between left (Err (stop.Store issued lines)) → AfterStop t (state x.store).faults (state y.store).faults cut-left c → ((r : Rules) → TellsOn r a c)
+        → GoesOn durable state may is_read next_reading (turn_of settling (target t) number) a c
+    cut-done settling number came after tells =
+        turn-done durable state may is_read next_reading a c settling (target t) number 0 (Some t) downs (Some t) (read_then durable state may came.turned) can
+        (λ tell r. fault-leads durable state r t may settling number 0 (state x.store).faults (state y.store).faults (Some t) (read_then durable state may came.turned) a cut-left c y cut-place
+        (cut-leads durable state r t x y a place plan issued lines may settling number left came.turned) after)
         findable alike (subst (AreServed durable state is_read a.targets) (sym (after-targets t _ _ cut-left c after)) (served-one durable state is_read a.targets t x y place.there served read))
-        (fit-after_stop state can.rules t (state x.store).faults (state y.store).faults cut-left c can.form small (cut-fits (left-form left (turned-left settling number left (Err (stop.Store issued lines)) turned))) after)
+        (λ u p q here there. turned-clocks settling number left (Err (stop.Store issued lines)) came refl u p q here (subst (λ xs. slice_get xs u ≡ Some q) (after-targets t _ _ cut-left c after) there))
+        (fit-after_stop state can.rules t (state x.store).faults (state y.store).faults cut-left c can.form small (cut-fits (left-form left (turned-left settling number left (Err (stop.Store issued lines)) came.turned))) after)
         (let same = after-openings t _ _ cut-left c after in omega (arith, same)) (ap length (after-clients t _ _ cut-left c after)) tells
         (λ u p q here there told. each-pair durable state is_read a.targets t x y place.there (λ v z w. Counts state a c (Some t) downs (Some t) v z w) its others u p q here (subst (λ xs. slice_get xs u ≡ Some q) (after-targets t _ _ cut-left c after) there))
       where

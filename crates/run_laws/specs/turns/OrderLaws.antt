@@ -50,12 +50,12 @@ TurnsHear = (settling : Bool) (r : Rules) (a : ActorId) (k : ℕ) (w v : World) 
 
 -- ---- runs
 
-pub turn-goes : (settling : Bool) (r : Rules) (a : ActorId) (k : ℕ) (w u v : World) → TurnOf settling r a k u v → WorldRun r w u → WorldRun r w v
+unfoldable pub turn-goes : (settling : Bool) (r : Rules) (a : ActorId) (k : ℕ) (w u v : World) → TurnOf settling r a k u v → WorldRun r w u → WorldRun r w v
 turn-goes settling r a k w u v (Doing d plain) run = Goes u v run d.event
 turn-goes settling r a k w u v (Opening x n draws d by) run = Goes x v (Goes u x run n) d.event
 turn-goes settling r a k w u v (GivingUp x d fault g up) run = Goes x v (Goes u x run d.event) g
 
-pub orders-are-runs : OrdersAreRuns
+unfoldable pub orders-are-runs : OrdersAreRuns
 orders-are-runs r order w v k = order-keeps r (WorldRun r w) (λ settling a n u x t run. turn-goes settling r a n w u x t run) order w v k Begins
 
 -- a turn adds its fault of a target to what a run counts

@@ -4,19 +4,19 @@ use Rattle.base_types.specs.declared.epoch.Epoch.{Epoch}
 use Rattle.base_types.specs.declared.snapshot.Snap.{Snap}
 use Rattle.daos_model.specs.Finals.{opening_of}
 use Rattle.daos_run.specs.Opens.{given}
-use Rattle.daos_run.specs.Slots.{stores_in}
+use Rattle.daos_run.specs.Slots.{AreClocksIn, stores_in}
 use Rattle.daos_run.specs.Stops.{IsOpeningFault, MayStop}
 use Rattle.daos_run.proofs.Back.{is-read-back}
 use Rattle.daos_run.proofs.Broken.{left-off, whatever-stopped}
 use Rattle.daos_run.proofs.Disarmed.{again-clocks, again-gone, again-served, again-stores, all-gone, all-run-on, all-served, kept-from, kept-on, may-stop-before}
-use Rattle.daos_run.proofs.Faults.{calls-gone, calls-served, opening-fault, read-through, served-through, stay-read}
+use Rattle.daos_run.proofs.Faults.{calls-gone, calls-served, clocks-through, opening-fault, read-through, served-through, stay-read}
 use Rattle.daos_run.proofs.Lone.{finds-places, finds-room, tells-of-lone-client}
-use Rattle.daos_run.proofs.Started.{all-set, run-gone, run-read, run-served}
-use Rattle.daos_run.proofs.Whole.{all-tell, break-off, can-start, come-from, may-start, started, told-first}
+use Rattle.daos_run.proofs.Started.{all-set, run-clocks, run-gone, run-read, run-served}
+use Rattle.daos_run.proofs.Whole.{all-tell, break-off, can-start, come-by_clocks, come-from, may-start, started, told-first}
 use Rattle.report_round_trip.specs.Values.{AllTellBytes}
 use Rattle.run_targets.specs.Below.{AllTellInOrder}
 use Rattle.run_opening.specs.All.{MayBeFound}
-use Rattle.run_targets.specs.Ends.{BreaksOffSo, ComesTo, stores_of}
+use Rattle.run_targets.specs.Ends.{BreaksOffSo, ComesByClocks, ComesTo, stores_of}
 use Rattle.world_letters.specs.kinds.Fitting.{AllAnswersFit}
 use Rattle.world_plain.specs.whole.Begins.{declared_conts}
 use Rattle.daos_run.proofs.run_on.run_on.Goals as goal
@@ -160,6 +160,25 @@ returns-clause-comes g c B kept free room =
     come-from g.S.Store.durable g.S.Store.state g.S.Store.may c.args.script.now c.args.job.now c.args.parts.now c.disarm.new.parts c.open_parts.new.parts c.requires.script c.requires.least_targets c.requires.most_targets c.requires.least c.requires.stores.set c.disarm.ensures.set c.disarm.ensures.fuses c.requires.stores.each c.in_ok-tracker.tracker c.in_ok-tracker.held c.in_ok-tracker.ensures.calls c.in_ok-tracker.ensures.opened c.in_ok-clients.clients.items c.in_ok-targets.targets.items c.in_ok-clients.ensures c.in_ok-targets.ensures.started c.start_all.new.parts c.hand_back.new.parts c.run_targets-targets.result.0.items (returns-clause-set g c) c.run_targets-targets.ensures.served.many c.hand_back.ensures B free c.in_ok-ran.field-0 kept room
     (subst (λ r. IfOk r (ComesTo g.S.Store.durable g.S.Store.state g.S.Store.may (given c.args.script.now c.args.job.now B free) (stores_of c.in_ok-targets.targets.items) (stores_of c.run_targets-targets.result.0.items))) c.in_ok-ran.was
     (c.run_targets-targets.ensures.comes (opening_of c.args.script.now B free) (started g.S.Store.durable g.S.Store.state g.S.Store.may c.args.script.now c.args.job.now c.args.parts.now c.disarm.new.parts c.open_parts.new.parts c.requires.script c.requires.least_targets c.requires.most_targets c.requires.least c.requires.stores.set c.disarm.ensures.set c.disarm.ensures.fuses c.requires.stores.each c.in_ok-tracker.tracker c.in_ok-tracker.held c.in_ok-tracker.ensures.calls c.in_ok-tracker.ensures.opened c.in_ok-clients.clients.items c.in_ok-targets.targets.items c.in_ok-clients.ensures c.in_ok-targets.ensures.started B kept free room) (all-tell g.S.Store.durable g.S.Store.state g.S.Store.may c.args.script.now c.args.job.now c.args.parts.now c.disarm.new.parts c.open_parts.new.parts c.requires.script c.requires.least_targets c.requires.most_targets c.requires.least c.requires.stores.set c.disarm.ensures.set c.disarm.ensures.fuses c.requires.stores.each c.in_ok-tracker.tracker c.in_ok-tracker.held c.in_ok-tracker.ensures.calls c.in_ok-tracker.ensures.opened c.in_ok-clients.clients.items c.in_ok-targets.targets.items c.in_ok-clients.ensures c.in_ok-targets.ensures.started B kept)))
+
+pub returns-clause-read : goal.returns-clause-read
+returns-clause-read g c B kept free room =
+    let old = c.args.parts.now in
+    let mid = c.disarm.new.parts in
+    let opened = c.open_parts.new.parts in
+    let new = c.hand_back.new.parts in
+    let set = c.requires.stores.set in
+    let calls = c.in_ok-tracker.ensures.calls in
+    let k =
+    subst (λ r. IfOk r (ComesByClocks g.S.Store.durable g.S.Store.state g.S.Store.may g.C.Clock.is_read g.C.Clock.next (given c.args.script.now c.args.job.now B free) c.in_ok-targets.targets.items c.run_targets-targets.result.0.items)) c.in_ok-ran.was
+    (c.run_targets-targets.ensures.read (opening_of c.args.script.now B free) (started g.S.Store.durable g.S.Store.state g.S.Store.may c.args.script.now c.args.job.now c.args.parts.now c.disarm.new.parts c.open_parts.new.parts c.requires.script c.requires.least_targets c.requires.most_targets c.requires.least c.requires.stores.set c.disarm.ensures.set c.disarm.ensures.fuses c.requires.stores.each c.in_ok-tracker.tracker c.in_ok-tracker.held c.in_ok-tracker.ensures.calls c.in_ok-tracker.ensures.opened c.in_ok-clients.clients.items c.in_ok-targets.targets.items c.in_ok-clients.ensures c.in_ok-targets.ensures.started B kept free room) (all-tell g.S.Store.durable g.S.Store.state g.S.Store.may c.args.script.now c.args.job.now c.args.parts.now c.disarm.new.parts c.open_parts.new.parts c.requires.script c.requires.least_targets c.requires.most_targets c.requires.least c.requires.stores.set c.disarm.ensures.set c.disarm.ensures.fuses c.requires.stores.each c.in_ok-tracker.tracker c.in_ok-tracker.held c.in_ok-tracker.ensures.calls c.in_ok-tracker.ensures.opened c.in_ok-clients.clients.items c.in_ok-targets.targets.items c.in_ok-clients.ensures c.in_ok-targets.ensures.started B kept)) in
+    record {
+      from = come-from g.S.Store.durable g.S.Store.state g.S.Store.may c.args.script.now c.args.job.now c.args.parts.now c.disarm.new.parts c.open_parts.new.parts c.requires.script c.requires.least_targets c.requires.most_targets c.requires.least c.requires.stores.set c.disarm.ensures.set c.disarm.ensures.fuses c.requires.stores.each c.in_ok-tracker.tracker c.in_ok-tracker.held c.in_ok-tracker.ensures.calls c.in_ok-tracker.ensures.opened c.in_ok-clients.clients.items c.in_ok-targets.targets.items c.in_ok-clients.ensures c.in_ok-targets.ensures.started c.start_all.new.parts c.hand_back.new.parts c.run_targets-targets.result.0.items (returns-clause-set g c) c.run_targets-targets.ensures.served.many c.hand_back.ensures B free c.in_ok-ran.field-0 kept room k.comes;
+      clocks =
+          come-by_clocks g.S.Store.durable g.S.Store.state g.S.Store.may c.args.script.now c.args.job.now c.args.parts.now c.disarm.new.parts c.open_parts.new.parts c.requires.script c.requires.least_targets c.requires.most_targets c.requires.least c.requires.stores.set c.disarm.ensures.set c.disarm.ensures.fuses c.requires.stores.each c.in_ok-tracker.tracker c.in_ok-tracker.held c.in_ok-tracker.ensures.calls c.in_ok-tracker.ensures.opened c.in_ok-clients.clients.items c.in_ok-targets.targets.items c.in_ok-clients.ensures c.in_ok-targets.ensures.started c.start_all.new.parts c.hand_back.new.parts c.run_targets-targets.result.0.items (returns-clause-set g c) c.run_targets-targets.ensures.served.many c.hand_back.ensures g.C.Clock.is_read g.C.Clock.next B free c.in_ok-ran.field-0 kept room k.comes (AreClocksIn old new)
+          (λ t e d its. k.clocks t e d (run-clocks g.S.Store.durable c.args.job.now opened c.start_all.new.parts new c.in_ok-targets.targets.items c.run_targets-targets.result.0.items calls.set c.in_ok-targets.ensures.started c.in_ok-targets.ensures.taken c.run_targets-targets.ensures.served.many c.hand_back.ensures t e d
+          (clocks-through g.S.Store.durable g.S.Store.state c.args.job.now.targets mid opened new c.disarm.ensures.set calls.set calls.clocks t e d (clocks-through g.S.Store.durable g.S.Store.state c.args.job.now.targets old mid new set c.disarm.ensures.set c.disarm.ensures.clocks t e d its))));
+    }
 
 pub returns-clause-room : goal.returns-clause-room
 returns-clause-room g c B kept free room places has =

@@ -20,7 +20,7 @@ target_turn-requires-clause-able g c x at = can-turn g.S.Store.durable g.S.Store
 
 pub returns-then-actor-clause-goes : goal.returns-then-actor-clause-goes
 returns-then-actor-clause-goes g c =
-    client-goes-on g.S.Store.durable g.S.Store.state g.S.Store.may g.C.Clock.is_read g.met.S.Store.findable g.met.S.Store.alike (stage_now c.args.stage.now) (stage_now c.client_turn.new.self) c.requires.going c.args.settling c.args.actor c.from-number.result c.args.message
+    client-goes-on g.S.Store.durable g.S.Store.state g.S.Store.may g.C.Clock.is_read g.C.Clock.next g.met.S.Store.findable g.met.S.Store.alike (stage_now c.args.stage.now) (stage_now c.client_turn.new.self) c.requires.going c.args.settling c.args.actor c.from-number.result c.args.message
     c.client_turn.result c.if-actor.true c.from-number.ensures c.client_turn.ensures.turned
 
 pub returns-then-actor-clause-served : goal.returns-then-actor-clause-served
@@ -30,13 +30,13 @@ returns-then-actor-clause-served g c =
 
 pub returns-else-actor-clause-goes : goal.returns-else-actor-clause-goes
 returns-else-actor-clause-goes g c =
-    target-goes-on g.S.Store.durable g.S.Store.state g.S.Store.may g.C.Clock.is_read g.met.S.Store.findable g.met.S.Store.alike (stage_now c.args.stage.now) (stage_now c.target_turn.new.self) c.requires.going c.args.settling c.args.actor c.from-number.result c.args.message
+    target-goes-on g.S.Store.durable g.S.Store.state g.S.Store.may g.C.Clock.is_read g.C.Clock.next g.met.S.Store.findable g.met.S.Store.alike (stage_now c.args.stage.now) (stage_now c.target_turn.new.self) c.requires.going c.args.settling c.args.actor c.from-number.result c.args.message
     c.target_turn.result c.if-actor.false c.from-number.ensures c.target_turn.ensures.turned
 
 pub returns-then-actor-clause-broke : goal.returns-then-actor-clause-broke
-returns-then-actor-clause-broke g c = broke-between-err g.S.Store.durable g.S.Store.state g.S.Store.may g.C.Clock.is_read g.met.S.Store.steady (stage_now c.args.stage.now) c.client_turn.new.self.targets.items c.client_turn.result (ap (λ v. v.items) c.client_turn.ensures.targets)
+returns-then-actor-clause-broke g c = broke-between-err g.S.Store.durable g.S.Store.state g.S.Store.may g.C.Clock.is_read g.C.Clock.next g.met.S.Store.steady (stage_now c.args.stage.now) c.client_turn.new.self.targets.items c.client_turn.result (ap (λ v. v.items) c.client_turn.ensures.targets)
 
 pub returns-else-actor-clause-broke : goal.returns-else-actor-clause-broke
 returns-else-actor-clause-broke g c =
-    target-turn-breaks-err g.S.Store.durable g.S.Store.state g.S.Store.may g.C.Clock.is_read g.met.S.Store.steady g.met.S.Store.findable g.met.S.Store.alike (stage_now c.args.stage.now) c.requires.going c.args.settling c.from-number.result c.args.message c.target_turn.new.self.targets.items
+    target-turn-breaks-err g.S.Store.durable g.S.Store.state g.S.Store.may g.C.Clock.is_read g.C.Clock.next g.met.S.Store.steady g.met.S.Store.findable g.met.S.Store.alike (stage_now c.args.stage.now) c.requires.going c.args.settling c.from-number.result c.args.message c.target_turn.new.self.targets.items
     c.target_turn.result c.target_turn.ensures.broke

@@ -1,10 +1,12 @@
 use Rattle.run_laws.specs.shows.EndsLaws.{picked-among}
-use Rattle.std.specs.Prelude.{◌<◌, ◌^◌, Some}
+use Rattle.std.specs.Prelude.{◌<◌, ◌^◌, None, Some}
 use Rattle.std.proofs.Common.{◌∙◌, ap, refl, subst, sym}
 use Rattle.run_base.specs.Letters.{IsPicked}
 use Rattle.run_base.specs.Numbers.{next_aggregate}
+use Rattle.run_base.specs.Picks.{count_to}
 use Rattle.run_laws.specs.shows.KindsLaws.{heard-once, idle-once}
 use Rattle.run_laws.specs.shows.Turned.{ByHearing, ByIdling}
+use Rattle.run_laws.specs.turns.Readings.{gives-none, heard-gives}
 use Rattle.run_stage.proofs.Working.{only-messages}
 use Rattle.target_core.specs.HeardLaws.{held-of_target}
 use Rattle.target_parts.specs.Readings.{IsReadOn, not-read_on}
@@ -32,11 +34,22 @@ returns-clause-turned g c =
     let b = c.args.between.now in
     let left = c.take-letter.new.self in
     let lines = c.take-letter.ensures.lines in
-    ByHearing c.take-letter.result left.messages c.hear.ensures.turn.0
-    (subst (λ a. IsPicked b.messages a c.args.number c.take-letter.result left.messages) c.target_id-2.ensures c.take-letter.ensures.picked)
-    (only-messages b left c.take-letter.ensures.asked c.take-letter.ensures.issued lines)
-    (λ prune. subst (λ ls. next_aggregate ls < 2 ^ 32) lines (c.in_ok-aggregation.ensures.few prune))
-    (λ n its d kept. c.hear.ensures.turn.2 n (λ prune. c.in_ok-aggregation.ensures.drawn prune ∙ ap (λ ls. Some (next_aggregate ls)) lines ∙ ap (λ k. Some k) (sym (its prune))) d kept)
+    record {
+      turned =
+          ByHearing c.take-letter.result left.messages c.hear.ensures.turn.0
+          (subst (λ a. IsPicked b.messages a c.args.number c.take-letter.result left.messages) c.target_id-2.ensures c.take-letter.ensures.picked)
+          (only-messages b left c.take-letter.ensures.asked c.take-letter.ensures.issued lines)
+          (λ prune. subst (λ ls. next_aggregate ls < 2 ^ 32) lines (c.in_ok-aggregation.ensures.few prune))
+          (λ n its d kept. c.hear.ensures.turn.2 n (λ prune. c.in_ok-aggregation.ensures.drawn prune ∙ ap (λ ls. Some (next_aggregate ls)) lines ∙ ap (λ k. Some k) (sym (its prune))) d kept);
+      clock = λ whole. heard-gives g.C.Clock.is_read g.C.Clock.next c.args.t c.take-letter.result.message c.hear.ensures.turn.0 c.args.host.now.clock c.hear.new.self.clock c.hear.ensures.turn.1 (c.hear.ensures.read whole);
+    }
+
+-- or it did its idle work
+pub returns-then-count_to-eq0-clause-turned : goal.returns-then-count_to-eq0-clause-turned
+returns-then-count_to-eq0-clause-turned g c = record {
+  turned = ByIdling (ap (λ a. count_to a c.args.between.now.messages) (sym c.target_id.ensures) ∙ sym c.count_to.ensures ∙ c.if-count_to-eq0.true) refl c.idle.ensures.turn;
+  clock = λ whole. gives-none g.C.Clock.is_read g.C.Clock.next None c.args.t c.args.host.now.clock c.idle.new.self.clock refl c.idle.ensures.clock;
+}
 
 pub returns-clause-posts : goal.returns-clause-posts
 returns-clause-posts g c =

@@ -1,4 +1,4 @@
-use Rattle.run_targets.proofs.Runs.{all-served, answers-begin, breaks-early, breaks-late, comes, ends-begin, goes, put-served, put-unfused}
+use Rattle.run_targets.proofs.Runs.{all-served, answers-begin, breaks-early, breaks-late, comes, comes-read, ends-begin, goes, put-served, put-unfused}
 use Rattle.run_targets.proofs.Telling.{bytes-last, ends-last, in-order-last, kinds-last, told-last}
 use Rattle.run_loop.specs.Below.{given_by}
 use Rattle.world_plain.specs.ends.Ends.{rules_of}
@@ -21,7 +21,15 @@ returns-in-Ok-ran-clause-comes g c o started told =
     let b = c.new-2 in
     let ran = c.run_in_order-targets in
     comes g.S.Store.durable g.S.Store.state g.S.Store.may c.args.script.now c.args.job.now c.args.clients.items c.args.targets c.deref_mut-2.result.now c.arm.new.targets c.deref_mut-2.ensures.value c.in-Ok.watch c.arm.new.watch b.result c.as_slice.result.now c.arm.ensures c.as_slice.ensures c.in-Ok.ensures b.ensures.messages b.ensures.asked b.ensures.issued b.ensures.lines
-    g.C.Clock.is_read ran.result.0 ran.result.1 c.deref_mut-3.result.now c.disarm-2.new.targets c.deref_mut-3.ensures.value c.disarm-2.ensures ran.ensures.served o started told ran.result.2 c.in-Ok-ran.lines c.in-Ok-ran.is g.met.S.Store.steady g.met.S.Store.findable g.met.S.Store.alike
+    g.C.Clock.is_read g.C.Clock.next ran.result.0 ran.result.1 c.deref_mut-3.result.now c.disarm-2.new.targets c.deref_mut-3.ensures.value c.disarm-2.ensures ran.ensures.served o started told ran.result.2 c.in-Ok-ran.lines c.in-Ok-ran.is g.met.S.Store.steady g.met.S.Store.findable g.met.S.Store.alike
+    ran.ensures.run ran.ensures.accounts ran.ensures.reopens c.report_of.result c.report_of.ensures.report c.report_of.ensures.typed
+
+pub returns-in-Ok-ran-clause-read : goal.returns-in-Ok-ran-clause-read
+returns-in-Ok-ran-clause-read g c o started told =
+    let b = c.new-2 in
+    let ran = c.run_in_order-targets in
+    comes-read g.S.Store.durable g.S.Store.state g.S.Store.may c.args.script.now c.args.job.now c.args.clients.items c.args.targets c.deref_mut-2.result.now c.arm.new.targets c.deref_mut-2.ensures.value c.in-Ok.watch c.arm.new.watch b.result c.as_slice.result.now c.arm.ensures c.as_slice.ensures c.in-Ok.ensures b.ensures.messages b.ensures.asked b.ensures.issued b.ensures.lines
+    g.C.Clock.is_read g.C.Clock.next ran.result.0 ran.result.1 c.deref_mut-3.result.now c.disarm-2.new.targets c.deref_mut-3.ensures.value c.disarm-2.ensures ran.ensures.served o started told ran.result.2 c.in-Ok-ran.lines c.in-Ok-ran.is g.met.S.Store.steady g.met.S.Store.findable g.met.S.Store.alike
     ran.ensures.run ran.ensures.accounts ran.ensures.reopens c.report_of.result c.report_of.ensures.report c.report_of.ensures.typed
 
 pub returns-in-Ok-ran-clause-in_turn : goal.returns-in-Ok-ran-clause-in_turn
@@ -71,7 +79,7 @@ returns-in-Ok-ran-clause-served g c =
     let b = c.new-2 in
     let ran = c.run_in_order-targets in
     all-served g.S.Store.durable g.S.Store.state g.S.Store.may c.args.script.now c.args.job.now c.args.clients.items c.args.targets c.deref_mut-2.result.now c.arm.new.targets c.deref_mut-2.ensures.value c.in-Ok.watch c.arm.new.watch b.result c.as_slice.result.now c.arm.ensures c.as_slice.ensures c.in-Ok.ensures b.ensures.messages b.ensures.asked b.ensures.issued b.ensures.lines
-    g.C.Clock.is_read ran.result.0 ran.result.1 c.deref_mut-3.result.now c.disarm-2.new.targets c.deref_mut-3.ensures.value c.disarm-2.ensures ran.ensures.served
+    g.C.Clock.is_read g.C.Clock.next ran.result.0 ran.result.1 c.deref_mut-3.result.now c.disarm-2.new.targets c.deref_mut-3.ensures.value c.disarm-2.ensures ran.ensures.served
 
 pub returns-in-Ok-ran-clause-unfused : goal.returns-in-Ok-ran-clause-unfused
 returns-in-Ok-ran-clause-unfused g c = put-unfused g.S.Store.durable g.S.Store.state g.S.Store.may c.run_in_order-targets.result.0 c.deref_mut-3.result.now c.disarm-2.new.targets c.deref_mut-3.ensures.value c.disarm-2.ensures
@@ -81,7 +89,7 @@ returns-clause-served g c =
     let b = c.new-2 in
     let ran = c.run_in_order-targets in
     all-served g.S.Store.durable g.S.Store.state g.S.Store.may c.args.script.now c.args.job.now c.args.clients.items c.args.targets c.deref_mut-2.result.now c.arm.new.targets c.deref_mut-2.ensures.value c.in-Ok.watch c.arm.new.watch b.result c.as_slice.result.now c.arm.ensures c.as_slice.ensures c.in-Ok.ensures b.ensures.messages b.ensures.asked b.ensures.issued b.ensures.lines
-    g.C.Clock.is_read ran.result.0 ran.result.1 c.deref_mut-3.result.now c.disarm-2.new.targets c.deref_mut-3.ensures.value c.disarm-2.ensures ran.ensures.served
+    g.C.Clock.is_read g.C.Clock.next ran.result.0 ran.result.1 c.deref_mut-3.result.now c.disarm-2.new.targets c.deref_mut-3.ensures.value c.disarm-2.ensures ran.ensures.served
 
 pub returns-clause-unfused : goal.returns-clause-unfused
 returns-clause-unfused g c = put-unfused g.S.Store.durable g.S.Store.state g.S.Store.may c.run_in_order-targets.result.0 c.deref_mut-3.result.now c.disarm-2.new.targets c.deref_mut-3.ensures.value c.disarm-2.ensures
@@ -89,11 +97,11 @@ returns-clause-unfused g c = put-unfused g.S.Store.durable g.S.Store.state g.S.S
 -- memory was wanting before the run, or in it
 pub returns-in-Err-clause-broke : goal.returns-in-Err-clause-broke
 returns-in-Err-clause-broke g c o started told =
-    breaks-early g.S.Store.durable g.S.Store.state g.S.Store.may g.C.Clock.is_read c.args.script.now c.args.job.now o c.args.clients.items c.args.targets c.deref_mut.result.now c.disarm.new.targets c.deref_mut.ensures.value c.disarm.ensures g.met.S.Store.steady g.met.S.Store.alike started told
+    breaks-early g.S.Store.durable g.S.Store.state g.S.Store.may g.C.Clock.is_read g.C.Clock.next c.args.script.now c.args.job.now o c.args.clients.items c.args.targets c.deref_mut.result.now c.disarm.new.targets c.deref_mut.ensures.value c.disarm.ensures g.met.S.Store.steady g.met.S.Store.alike started told
 
 pub returns-clause-broke : goal.returns-clause-broke
 returns-clause-broke g c o started told =
     let b = c.new-2 in
     let ran = c.run_in_order-targets in
     breaks-late g.S.Store.durable g.S.Store.state g.S.Store.may c.args.script.now c.args.job.now c.args.clients.items c.args.targets c.deref_mut-2.result.now c.arm.new.targets c.deref_mut-2.ensures.value c.in-Ok.watch c.arm.new.watch b.result c.as_slice.result.now c.arm.ensures c.as_slice.ensures c.in-Ok.ensures b.ensures.messages b.ensures.asked b.ensures.issued b.ensures.lines
-    g.C.Clock.is_read ran.result.0 ran.result.1 c.deref_mut-3.result.now c.disarm-2.new.targets c.deref_mut-3.ensures.value c.disarm-2.ensures ran.ensures.served o started told ran.result.2 c.in-Err-ran.error c.in-Err-ran.is g.met.S.Store.steady g.met.S.Store.alike ran.ensures.broke
+    g.C.Clock.is_read g.C.Clock.next ran.result.0 ran.result.1 c.deref_mut-3.result.now c.disarm-2.new.targets c.deref_mut-3.ensures.value c.disarm-2.ensures ran.ensures.served o started told ran.result.2 c.in-Err-ran.error c.in-Err-ran.is g.met.S.Store.steady g.met.S.Store.alike ran.ensures.broke

@@ -49,7 +49,7 @@ returns-in-Ok-clause-broke g c settling k =
     let there = at-index xs c.args.t x c.requires.within c.index_mut.ensures.value in
     opened-broke g.S.Store.durable g.S.Store.state g.S.Store.may c.args.t c.next_restart-number.result x y c.restart.result c.try_opening.new.self (stage_now now) (stage_now c.opened.new.self)
     (record { there = there; stands = c.requires.stopped }) c.in_ok-try_opening.ensures.tried c.in_ok-try_opening.ensures.few c.next_restart-number.ensures e.plan e.clock e.opens e.turn e.left e.bare e.native e.posts e.line e.reads e.ends e.fresh e.opened
-    g.C.Clock.is_read settling k c.opened.result c.in-Ok.did c.in-Ok.is
+    g.C.Clock.is_read g.C.Clock.next settling k c.opened.result c.in-Ok.did c.in-Ok.is
     (c.opened.ensures.broke y (set-here xs c.args.t x y there))
 
 pub returns-in-Ok-clause-served : goal.returns-in-Ok-clause-served
@@ -87,7 +87,7 @@ returns-in-Err-clause-broke g c settling k =
     let there = at-index xs c.args.t x c.requires.within c.index_mut.ensures.value in
     opening-broke g.S.Store.durable g.S.Store.state g.S.Store.may c.args.t c.next_restart-number.result x y c.restart.result c.try_opening.new.self (stage_now now) (stage_now c.not_opened.new.self)
     (record { there = there; stands = c.requires.stopped }) c.in_ok-try_opening.ensures.tried c.in_ok-try_opening.ensures.few c.next_restart-number.ensures e.plan e.clock e.opens e.turn e.left e.bare e.native e.posts e.line e.reads e.ends e.fresh e.opened
-    g.C.Clock.is_read settling k c.not_opened.result c.in-Err.stop c.in-Err.is (ap (λ ts. ts.items) c.not_opened.ensures.targets)
+    g.C.Clock.is_read g.C.Clock.next settling k c.not_opened.result c.in-Err.stop c.in-Err.is (ap (λ ts. ts.items) c.not_opened.ensures.targets)
 
 pub returns-in-Err-clause-served : goal.returns-in-Err-clause-served
 returns-in-Err-clause-served g c =

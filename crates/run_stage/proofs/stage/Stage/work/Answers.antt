@@ -31,7 +31,7 @@ returns-in-Ok-clause-worked g c =
     let now = c.args.self.now in
     let x = c.index_mut.result.now in
     let e = c.in_ok-said.ensures in
-    worked-whole g.S.Store.durable g.S.Store.state g.S.Store.may g.C.Clock.is_read c.args.settling c.args.t c.args.number x c.hear_or_idle.new.host c.hear_or_idle.new.between c.in_ok-said.said (stage_now now) (stage_now c.follow.new.self)
+    worked-whole g.S.Store.durable g.S.Store.state g.S.Store.may g.C.Clock.is_read g.C.Clock.next c.args.settling c.args.t c.args.number x c.hear_or_idle.new.host c.hear_or_idle.new.between c.in_ok-said.said (stage_now now) (stage_now c.follow.new.self)
     (record { there = at-index now.targets.items c.args.t x c.requires.within c.index_mut.ensures.value; stands = c.requires.runs }) e.plan e.opened e.runs e.told e.clock e.posts e.once e.ends e.turned
     c.follow.result c.in-Ok.did c.target_id.result c.in-Ok.is c.target_id.ensures c.follow.ensures.followed
 
@@ -49,7 +49,7 @@ returns-in-Ok-clause-broke g c =
     let now = c.args.self.now in
     let x = c.index_mut.result.now in
     let e = c.in_ok-said.ensures in
-    work-broke g.S.Store.durable g.S.Store.state g.S.Store.may g.C.Clock.is_read c.args.settling c.args.t c.args.number x c.hear_or_idle.new.host c.hear_or_idle.new.between c.in_ok-said.said (stage_now now) (stage_now c.follow.new.self)
+    work-broke g.S.Store.durable g.S.Store.state g.S.Store.may g.C.Clock.is_read g.C.Clock.next c.args.settling c.args.t c.args.number x c.hear_or_idle.new.host c.hear_or_idle.new.between c.in_ok-said.said (stage_now now) (stage_now c.follow.new.self)
     (record { there = at-index now.targets.items c.args.t x c.requires.within c.index_mut.ensures.value; stands = c.requires.runs }) e.plan e.opened e.runs e.told e.clock e.posts e.once e.ends e.turned
     c.follow.result (ap (λ ts. ts.items) c.follow.ensures.targets)
 
@@ -63,7 +63,7 @@ returns-in-Err-clause-worked g c =
     let e = c.in_ok-said.ensures in
     let there = at-index xs c.args.t x c.requires.within c.index_mut.ensures.value in
     let same = same-there xs c.args.t c.index.result.now x (at-index xs c.args.t c.index.result.now c.requires.within c.index.ensures) there in
-    worked-cut g.S.Store.durable g.S.Store.state g.S.Store.may g.C.Clock.is_read c.args.settling c.args.t c.args.number x y c.hear_or_idle.new.between c.in_ok-said.said (stage_now now) (stage_now c.cut.new.self)
+    worked-cut g.S.Store.durable g.S.Store.state g.S.Store.may g.C.Clock.is_read g.C.Clock.next c.args.settling c.args.t c.args.number x y c.hear_or_idle.new.between c.in_ok-said.said (stage_now now) (stage_now c.cut.new.self)
     (record { there = there; stands = c.requires.runs }) e.plan e.opened e.runs e.told e.clock e.posts e.once e.ends e.turned
     c.cut.result c.in-Err.stop c.faults-before.result c.in-Err.is (c.faults-before.ensures ∙ ap (λ z. (g.S.Store.state z.store).faults) same) (c.cut.ensures.after y (set-here xs c.args.t x y there))
 
@@ -72,7 +72,7 @@ returns-in-Err-clause-broke g c =
     let now = c.args.self.now in
     let x = c.index_mut.result.now in
     let e = c.in_ok-said.ensures in
-    work-broke g.S.Store.durable g.S.Store.state g.S.Store.may g.C.Clock.is_read c.args.settling c.args.t c.args.number x c.hear_or_idle.new.host c.hear_or_idle.new.between c.in_ok-said.said (stage_now now) (stage_now c.cut.new.self)
+    work-broke g.S.Store.durable g.S.Store.state g.S.Store.may g.C.Clock.is_read g.C.Clock.next c.args.settling c.args.t c.args.number x c.hear_or_idle.new.host c.hear_or_idle.new.between c.in_ok-said.said (stage_now now) (stage_now c.cut.new.self)
     (record { there = at-index now.targets.items c.args.t x c.requires.within c.index_mut.ensures.value; stands = c.requires.runs }) e.plan e.opened e.runs e.told e.clock e.posts e.once e.ends e.turned
     c.cut.result (ap (λ ts. ts.items) c.cut.ensures.targets)
 
