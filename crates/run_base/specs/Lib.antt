@@ -1,7 +1,5 @@
 pub mod Letters
 pub mod Numbers
-pub mod OrderLaws
-pub mod Orders
 pub mod Picked
 pub mod Picks
 pub mod Quiet

@@ -3,8 +3,7 @@ ghost use Rattle.std.specs.Prelude.{◌≡◌, ◌≤◌, ◌<◌, ℕ, Bool, Li
 ghost use Rattle.base_types.specs.declared.script.StopDecl.{StopDecl};
 ghost use Rattle.daos_model.specs.declared.durable.Durable.{Durable};
 ghost use Rattle.daos_model.specs.Opening.{Opening};
-ghost use Rattle.run_base.specs.Orders.{after_pick, pick};
-ghost use Rattle.run_base.specs.Picks.{count_to};
+ghost use Rattle.run_base.specs.Picks.{count_to, after_pick, pick};
 ghost use Rattle.run_stage.specs.Below.{AllBeginInTurn, AllCanReopen, AllTellInOrder, AnswersGoOn, AreAccounted, AreDrawn, AreServed, Breaks, CanGo, EndsGoOn, GoesOn, HasRunWith, InRounds, IsActor, IsUp, RoundOf, RunBegins, Shows, TellInTurn, heard_in, left_of};
 ghost use Rattle.run_loop.specs.Loops.{all_from_draw, in_order, turn_of};
 ghost use Rattle.world_ended.specs.Clients.{AllEndWell};

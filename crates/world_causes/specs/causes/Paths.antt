@@ -1,23 +1,19 @@
 -- What the steps of a turn leave: the rows of containers, the free blocks but for what writes take, and what isn't settled.
-use Rattle.std.specs.Prelude.{ℕ, ◌≡◌, ◌≤◌, ◌<◌, ◌+◌, Bool, true, false, not, List, [], ◌∷◌, map, filter, Option, Some, None, refl, if◌then◌else◌}
-use Rattle.std.proofs.Common.{inl, inr, sym, ◌∙◌, ap, subst, arith}
-use Rattle.base_types.specs.declared.entry.Entry.{Entry}
+use Rattle.std.specs.Prelude.{ℕ, ◌≡◌, ◌≤◌, ◌<◌, ◌+◌, true, false, not, List, map, filter, Option, Some, None, refl}
+use Rattle.std.proofs.Common.{sym, ◌∙◌, ap, subst, arith}
 use Rattle.base_types.specs.declared.entry.Settle.TheVariants.{Abort, Commit}
 use Rattle.base_types.specs.declared.epoch.Epoch.{Epoch}
 use Rattle.base_types.specs.declared.id.AttemptId.{AttemptId}
-use Rattle.base_types.specs.declared.operation.MinorWrite.{MinorWrite}
 use Rattle.base_types.specs.declared.outcome.FloorWhy.{FloorWhy}
 use Rattle.base_types.specs.declared.report.Line.{Line}
 use Rattle.base_types.specs.declared.script.Script.{Script}
 use Rattle.model_laws.specs.Members.{Has, has-filter, has-from_filter, has-from_map}
 use Rattle.daos_model.specs.declared.durable.Durable.{Durable}
 use Rattle.daos_model.specs.declared.durable.Version.{Version}
-use Rattle.daos_model.specs.Answers.{is_before}
 use Rattle.daos_model.specs.Blocks.{blocks}
-use Rattle.daos_model.specs.Changes.{leased, prepared, settled}
-use Rattle.daos_model.specs.Durables.{entry_key, same_attempt}
+use Rattle.daos_model.specs.Changes.{leased, settled}
+use Rattle.daos_model.specs.Durables.{same_attempt}
 use Rattle.daos_model.specs.EntryLaws.{same_attempt-itself}
-use Rattle.daos_model.specs.Ordered.{put}
 use Rattle.daos_model.specs.Versions.{done_by, is_not_pending, is_pending}
 use Rattle.world_base.specs.declared.request.CommitRequest.{CommitRequest}
 use Rattle.world_base.specs.declared.request.FetchRequest.{FetchRequest}
@@ -42,10 +38,6 @@ use Rattle.world_base.specs.ChangeLaws.{conts-settled, versions-leased}
 conts-leased : (n : ℕ) (d : Durable) → (leased n d).conts ≡ d.conts
 unfolding leased
 conts-leased n d = refl
-
-conts-prepared : (e : Entry) (ws : List MinorWrite) (d : Durable) → (prepared e ws d).conts ≡ d.conts
-unfolding prepared
-conts-prepared e ws d = refl
 
 versions-committed : (a : AttemptId) (d : Durable) → (settled a Commit d).versions ≡ map (done_by a) d.versions
 unfolding settled
@@ -224,20 +216,6 @@ pub read-path : (script : Script) (t : TargetPlan) (lines : List Line) (top : �
 read-path script t lines top m reading q old s k did plain open' p =
     path-keeps (read.FetchNext t m reading q) (ReadSoFar script t lines top m reading q old) (read-step script t lines top m reading q old plain) read.Asked old did s k p (record { dated = tt; lasts = lasts-here script t lines top old m.leader.decided open' })
 
--- ---- an entry that is stored
-
-has-put : (e : Entry) (ks : List Entry) → Has e (put entry_key e ks)
-has-put e [] = inl refl
-has-put e (k ∷ ks) = by (has-put e ks) (is_before (entry_key k) (entry_key e))
-  where
-    by : Has e (put entry_key e ks) → (b : Bool) → Has e (if b then k ∷ put entry_key e ks else e ∷ k ∷ ks)
-    by rest true = inr rest
-    by rest false = inl refl
-
-has-stored : (e : Entry) (ws : List MinorWrite) (d : Durable) → Has e (prepared e ws d).entries
-unfolding prepared
-has-stored e ws d = has-put e d.entries
-
 -- ---- a Commit
 
 abbrev pub CommitDated : TargetPlan → TargetMemory → ℕ → CommitRequest → commit.CommitStage → Type 0
@@ -267,26 +245,6 @@ pub record CommitSoFar (t : TargetPlan) (m : TargetMemory) (reading : ℕ) (q : 
   pub free : old.free ≤ k.free + taken_at t q s
   pub olds : AreSameUntil t q s old.durable k.durable
 
-commit-step : (t : TargetPlan) (opening : Epoch × FloorWhy) (m : TargetMemory) (reading : ℕ) (q : CommitRequest) (old : Kept) (s : commit.CommitStage) (k : Kept) (o : Option Change) (u : commit.CommitStage) (l : Kept)
-    → commit.CommitNext t opening m reading q s k o u → Steps o k l → CommitSoFar t m reading q old s k → CommitSoFar t m reading q old u l
-commit-step t opening m reading q old s k o u l (commit.HasEpoch j e is) st h = subst (CommitSoFar t m reading q old (commit.Known e)) (sym st) (record { dated = is; conts = h.conts; free = h.free; olds = h.olds })
-commit-step t opening m reading q old s k o u l (commit.ExtendsLease j e lease low is) st h = record {
-  dated = h.dated;
-  conts = ap (λ d. d.conts) st.0 ∙ conts-leased lease k.durable ∙ h.conts;
-  free = let f : old.free ≤ k.free + 0 = h.free in let g : k.free ≤ l.free + 0 = st.1 in omega (arith, f, g);
-  olds = ap (λ d. d.versions) st.0 ∙ versions-leased lease k.durable ∙ h.olds;
-}
-commit-step t opening m reading q old s k o u l (commit.IsCovered j e low) st h = subst (CommitSoFar t m reading q old (commit.Checking e)) (sym st) (record { dated = h.dated; conts = h.conts; free = h.free; olds = h.olds })
-commit-step t opening m reading q old s k o u l (commit.Stores j e allowed space) st h = record {
-  dated = h.dated;
-  conts = ap (λ d. d.conts) st.0 ∙ conts-prepared (commit.led_entry t q e) (commit.own_writes t q.writes) k.durable ∙ h.conts;
-  free = sum (blocks (commit.own_writes t q.writes)) h.free st.1;
-  olds = subst (λ d. Has (commit.led_entry t q e) d.entries) (sym st.0) (has-stored (commit.led_entry t q e) (commit.own_writes t q.writes) k.durable);
-}
-  where
-    sum : (n : ℕ) → old.free ≤ k.free + 0 → k.free ≤ l.free + n → old.free ≤ l.free + n
-    sum n f g = omega (arith, f, g)
-
 pub commit-path : (t : TargetPlan) (opening : Epoch × FloorWhy) (m : TargetMemory) (reading : ℕ) (q : CommitRequest) (old : Kept) (s : commit.CommitStage) (k : Kept) (did : List Change)
     → Path (commit.CommitNext t opening m reading q) commit.Asked old did s k → CommitSoFar t m reading q old s k
 commit-path t opening m reading q old s k did p =
@@ -309,23 +267,6 @@ pub record PrepareSoFar (q : PrepareRequest) (old : Kept) (s : prepare.PrepareSt
   pub conts : k.durable.conts ≡ old.durable.conts
   pub free : old.free ≤ k.free + prepared_blocks q s
   pub olds : IsSameUntil q s old.durable k.durable
-
-prepare-step : (t : TargetPlan) (opening : Epoch × FloorWhy) (m : TargetMemory) (q : PrepareRequest) (old : Kept) (s : prepare.PrepareStage) (k : Kept) (o : Option Change) (u : prepare.PrepareStage) (l : Kept)
-    → prepare.PrepareNext t opening m q s k o u → Steps o k l → PrepareSoFar q old s k → PrepareSoFar q old u l
-prepare-step t opening m q old s k o u l (prepare.ExtendsLease j lease low is) st h = record {
-  conts = ap (λ d. d.conts) st.0 ∙ conts-leased lease k.durable ∙ h.conts;
-  free = let f : old.free ≤ k.free + 0 = h.free in let g : k.free ≤ l.free + 0 = st.1 in omega (arith, f, g);
-  olds = ap (λ d. d.versions) st.0 ∙ versions-leased lease k.durable ∙ h.olds;
-}
-prepare-step t opening m q old s k o u l (prepare.IsCovered j low) st h = subst (PrepareSoFar q old prepare.Checking) (sym st) (record { conts = h.conts; free = h.free; olds = h.olds })
-prepare-step t opening m q old s k o u l (prepare.Stores j allowed space) st h = record {
-  conts = ap (λ d. d.conts) st.0 ∙ conts-prepared q.entry q.writes k.durable ∙ h.conts;
-  free = sum (blocks q.writes) h.free st.1;
-  olds = subst (λ d. Has q.entry d.entries) (sym st.0) (has-stored q.entry q.writes k.durable);
-}
-  where
-    sum : (n : ℕ) → old.free ≤ k.free + 0 → k.free ≤ l.free + n → old.free ≤ l.free + n
-    sum n f g = omega (arith, f, g)
 
 pub prepare-path : (t : TargetPlan) (opening : Epoch × FloorWhy) (m : TargetMemory) (q : PrepareRequest) (old : Kept) (s : prepare.PrepareStage) (k : Kept) (did : List Change)
     → Path (prepare.PrepareNext t opening m q) prepare.Heard old did s k → PrepareSoFar q old s k

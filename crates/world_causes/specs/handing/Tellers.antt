@@ -25,7 +25,7 @@ use Rattle.world_base.specs.Letters.{client, is_tell, reset_message}
 use Rattle.world_letters.specs.epochs.Epochs.{IsPresent}
 use Rattle.world_commit.specs.fates.Facts.{Attempts, IsAskedSo, IsSaidSo}
 use Rattle.world_causes.specs.handing.Begun.{handed-where, lost-question}
-use Rattle.world_causes.specs.handing.Handing.{asked-by, ended-attempt, told-to}
+use Rattle.world_causes.specs.handing.Handing.{ended-attempt, told-to}
 use Rattle.world_causes.specs.causes.Causes.{EndsOf}
 use Rattle.world_causes.specs.handing.Targets.{unanswered-by}
 use Rattle.world_causes.specs.losses.ClientHears.{TellsLoss}
@@ -67,13 +67,6 @@ module _ (r : Rules) (h : History) (w : World) (attempts : Attempts r h w) (outc
       let one : attempt_id (client_plan r n) c a ≡ x = cc in
       subst (IsPresent r w) one (record { c = c; a = a; here = here; at = at; own = refl })
 
-  -- a client asks, or is told
-  asks : (l : Letter) (x : AttemptId) → Has l w.messages → is_request l.message ≡ true → request_of l.message ≡ Some x → IsPresent r w x
-  asks l x i is of =
-      let t = taken-from w.messages l (contains-from_has w.messages l i) in
-      let z = asked-by r w k from l t.0 t.1 is in
-      present z.n z.c z.a z.q x z.here z.at z.question (ap (λ y. request_of y.message) (sym z.is) ∙ of)
-
   told : (l : Letter) (x : AttemptId) → Has l w.messages → l.to.client ≡ true → is_tell l.message ≡ false → ((q : Post) → IsReplyTo q l.message → request_of q.message ≡ Some x) → IsPresent r w x
   told l x i to off of =
       let t = taken-from w.messages l (contains-from_has w.messages l i) in
@@ -89,9 +82,6 @@ module _ (r : Rules) (h : History) (w : World) (attempts : Attempts r h w) (outc
       present l.to.number z.0.c p.a z.0.q x z.0.here p.at z.0.question (ap request_of z.1 ∙ of)
 
   module _ (l : Letter) (x : AttemptId) (i : Has l w.messages) where
-    own-request : (y : AttemptId) (m : Message) → request_of m ≡ Some y → same_attempt y x ≡ true → request_of m ≡ Some x
-    own-request y m of is = of ∙ ap (λ z. Some z) (same-is y x is)
-
     lost : (q : Message) → is_asked_of x q ≡ true → IsAskedSo r h w l.to l.from q → TellsLoss l.message q → (is_request q ≡ true → l.to.client ≡ true) → IsBegun x
     lost (message.Prepare e first ws inc) is so tells to = born e.attempt x (same-is e.attempt x is) so.born
     lost (message.Status y inc) is so tells to = born y x (same-is y x is) so.born

@@ -3,10 +3,9 @@ use Rattle.std.specs.Prelude.{ℕ, ◌≡◌, ◌⊎◌, ◌<◌, ◌≤◌, ◌
 use Rattle.std.proofs.Common.{inl, inr, sym, ◌∙◌, ap, subst, arith}
 use Rattle.std.proofs.lemmas.Option.{slice_get_within}
 use Rattle.base_types.specs.declared.report.Attempt.{Attempt}
-use Rattle.base_types.specs.declared.report.Line.TheVariants as line
 use Rattle.model_laws.specs.Decided.{taken_in}
 use Rattle.model_laws.specs.DecidedLaws.{all-from_has, has-all}
-use Rattle.model_laws.specs.Lists.{any-of, has-cut}
+use Rattle.model_laws.specs.Lists.{any-of}
 use Rattle.model_laws.specs.Members.{Has, contains-from_has, has-filter}
 use Rattle.daos_model.specs.declared.durable.Version.{Version}
 use Rattle.daos_model.specs.declared.stand.SnapMap.{SnapMap}
@@ -34,8 +33,9 @@ use Rattle.world_letters.specs.waits.Requests.{is_lost_request}
 use Rattle.world_letters.specs.waits.Waits.{Conversation}
 use Rattle.world_making.specs.freezings.Freezings.{EndComes, Freezings, HasItsLine, IsFated, IsFatedSnap, LossComes}
 use Rattle.world_making.specs.freezings.InTheEnd.{committed-created}
-use Rattle.world_upheld.specs.below.Plain.{durables_of, rules_of}
-use Rattle.world_upheld.specs.below.Legal.{Concluded, among-tries, report_over}
+use Rattle.world_upheld.specs.below.Legal.{durables_of}
+use Rattle.world_closing.specs.Rules.{rules_of}
+use Rattle.world_upheld.specs.below.Legal.{Concluded, report_over}
 use Rattle.world_closing.specs.stands.Containers.{parts-same}
 use Rattle.world_closing.specs.stands.Created.{IsCreatedThere}
 use Rattle.world_closing.specs.stands.Stands.{HoldsOpenings, IsMadeHere}
@@ -62,10 +62,6 @@ module _ (r : Rules) (v : World) (talk : Conversation r v) (told : AreAllTold r 
           let within : l.to.number < length v.clients = slice_get_within v.clients l.to.number c here in
           let clients : length v.clients ≡ length r.script.clients = told.clients in
           told.none l.to.number l (omega (arith, within, clients)) (contains-from_has v.messages l i) to
-
--- an attempt with its line is among those that lines tell of
-try-among : (v : World) (a : Attempt) → Has (line.Try a) v.lines → Has a (tries v.lines)
-try-among v a i = let c = has-cut v.lines (line.Try a) i in among-tries v.lines c.0 a c.1 c.2
 
 -- ---- snapshots
 
@@ -96,7 +92,7 @@ module _ (g : Run) (held : ℕ → List Version) (h : History) (v : World) (give
   taken = took g.script (resolved (durables_of v)) v.lines
 
   same-maps : (e : ℕ) → SameMap (as_of g.opening.stand taken e) (as_of g.opening.stand (taken_in (transactions g.script c.so.later)) e)
-  same-maps e = took-same_map r g.opening held h v given c apart e
+  same-maps e = took-same_map r g.opening held h v given.apart c apart e
 
   -- a snapshot of target 0 is one of the opening, or new
   each-new : (s : SnapMap) → Has s (stand (durables_of v)).snaps → IsKeptIn g.opening.stand.snaps s ⊎ IsNewSnapshot g.script g.opening.stand taken (tries v.lines) s

@@ -11,7 +11,6 @@ use Rattle.std.specs.Prelude.{ℕ, ◌≡◌, ◌++◌, slice_get, is_some}
 use Rattle.std.proofs.Common.{◌∙◌, ap}
 use Rattle.daos_model.specs.BoolLaws.{clash}
 use Rattle.daos_model.specs.Opening.{Opening, top}
-use Rattle.model_laws.specs.Members.{has-from_contains}
 use Rattle.world_commit.specs.attempts.History.{GrowsBy, History}
 use Rattle.world_base.specs.declared.world.World.{World}
 use Rattle.world_base.specs.ClientTurns.{attempt_id}
@@ -21,11 +20,11 @@ use Rattle.world_causes.specs.causes.Causes.{Stored}
 use Rattle.world_letters.specs.clients.Snapshots.{is_at_snapshot}
 use Rattle.world_letters.specs.epochs.Epochs.{IsEpochOf, IsIssued, IsOwn, IsSeen}
 use Rattle.world_causes.specs.handing.Begun.{leaders-targets, losses-asked, readers-new}
-use Rattle.world_causes.specs.handing.Handing.{commits-of_clients, hands-over}
+use Rattle.world_causes.specs.handing.Handing.{hands-over}
 use Rattle.world_causes.specs.losses.Readers.{OpenAreHeld}
 use Rattle.world_causes.specs.handing.Places.{places-right}
 use Rattle.world_causes.specs.handing.Targets.{PlacesAreRight, asks-its_targets}
-use Rattle.world_causes.specs.handing.Tellers.{are-begun, ends-told}
+use Rattle.world_causes.specs.handing.Tellers.{are-begun}
 use Rattle.world_legal.specs.reasons.Downs.{DownsAreTold, events-keep-downs}
 use Rattle.world_legal.specs.reasons.Knowing.{DownsAreKnown}
 use Rattle.world_causes.specs.losses.Keeping.{AllBeside}
@@ -35,14 +34,14 @@ use Rattle.world_making.specs.losses.RefusalEvents.{freeze-refusals-keep}
 use Rattle.world_commit.specs.requests.Rows.{commits-find}
 use Rattle.world_causes.specs.showing.Happening.{stored_in}
 use Rattle.world_standing.specs.standing.Events.{decided-issued}
-use Rattle.world_causes.specs.stored.Over.{IsStoringKnown, StoringOver}
+use Rattle.world_causes.specs.stored.Over.{StoringOver}
 use Rattle.world_upheld.specs.stored.Clients.{IsTalkKnown}
 use Rattle.world_upheld.specs.stored.Events.{all-events-keep-stored, stored-writes-stay}
 use Rattle.world_upheld.specs.stored.Writing.{StoredWrite}
 use Rattle.world_upheld.specs.upheld.Begins.{AreRulesInForm}
 use Rattle.world_upheld.specs.upheld.Events as stands
 use Rattle.world_upheld.specs.upheld.Upheld.{Grounds}
-use Rattle.world_contents.specs.verdicts.Verdicts.{Agrees}
+use Rattle.world_causes.specs.outcomes.Outcomes.{Agrees}
 use Rattle.world_upheld.specs.reasons.Accounted.{AccountedFor, AllEventsKeepAccounts}
 use Rattle.world_upheld.specs.reasons.Knowing.{all-events-keep_known}
 
@@ -95,21 +94,6 @@ module _ (r : Rules) (o : Opening) (h later : History) (stored : Stored) (w v : 
   losses-then =
       all-events-keep-losses r h w v (beside r o h stored w A k) k.refusals
       (leaders-targets r later v grounds-then.outcomes grounds-then.heard.stand (places-of_rules r A)) e k.losses
-
-  known : IsStoringKnown r h later w e.u
-  known =
-      let s = k.grounds in
-      record {
-        asked = right;
-        attempts = s.heard.attempts;
-        attempts_then = stands.attempts-happened r o h later w v A.some_attempt s e grows;
-        hands = hands-over r w s.heard.talk s.heard.requests;
-        handed = λ x born. s.outcomes.handed x born;
-        handed_then = λ x born. (stands.told r o h later w v A.some_attempt s e grows).outcomes.handed x born;
-        commits_then = commits-of_clients e.u (stands.requests-happened r o h later w v A.some_attempt s e grows);
-        past = λ a c i here. s.heard.epochs.past a c i here;
-        own = λ l x i ends. ends-told r w s.heard.talk s.heard.requests l x (has-from_contains w.messages l i) ends;
-      }
 
   talks : IsTalkKnown r h w
   talks =
