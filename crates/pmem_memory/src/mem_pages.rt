@@ -111,10 +111,10 @@ impl Pages for MemPages {
     ) -> Result<(), Stopped> {
         steps.tick();
         self.reads = self.reads.saturating_add(1);
-        *to = match self.blocks.get(block.saturating_sub(FIRST) as usize) {
-            Some(bytes) => *bytes,
-            None => [0; 256],
-        };
+        match self.blocks.get(block.saturating_sub(FIRST) as usize) {
+            Some(bytes) => to.copy_from_slice(bytes),
+            None => *to = [0; 256],
+        }
         Ok(())
     }
 

@@ -62,7 +62,7 @@ heads_cmp n xs ys lx ly hx hy =
     cmp_numbers n (take n xs) (take n ys) (length-take-le n xs lx) (length-take-le n ys ly) (take_bytes n xs hx) (take_bytes n ys hy) ∙ (ap (λ z. nat_cmp z (big_from 0 n (take n ys))) a ∙ ap (nat_cmp (big_number n xs)) b)
 
 -- the first n of the first m are the first n
-take_of_take : (n m : ℕ) (xs : List ℕ) → n ≤ m → take n (take m xs) ≡ take n xs
+pub take_of_take : (n m : ℕ) (xs : List ℕ) → n ≤ m → take n (take m xs) ≡ take n xs
 take_of_take zero m xs h = refl
 take_of_take (suc n) zero xs h = absurd (omega arith)
 take_of_take (suc n) (suc m) [] h = refl
@@ -77,3 +77,9 @@ takes_cmp n i j xs ys hi hj lx ly =
     let y : take n ys ++ drop n (take j ys) ≡ take j ys = ap (λ z. z ++ drop n (take j ys)) (sym b) ∙ take-append-drop n (take j ys) in
     let w = append_cmp (take n xs) (take n ys) (drop n (take i xs)) (drop n (take j ys)) (length-take-le n xs lx ∙ sym (length-take-le n ys ly)) in
     ap (λ z. slice_cmp nat_cmp z (take j ys)) (sym x) ∙ (ap (slice_cmp nat_cmp (take n xs ++ drop n (take i xs))) (sym y) ∙ w)
+
+-- where the first n differ, they decide
+pub decided : (n i j : ℕ) (xs ys : List ℕ) (o : Ordering) → ((p : Ordering) → ordering_then o p ≡ o) → slice_cmp nat_cmp (take n xs) (take n ys) ≡ o → n ≤ i → n ≤ j → n ≤ length xs → n ≤ length ys → o ≡ slice_cmp nat_cmp (take i xs) (take j ys)
+decided n i j xs ys o first is hi hj lx ly =
+    let rest = slice_cmp nat_cmp (drop n (take i xs)) (drop n (take j ys)) in
+    sym (first rest) ∙ (ap (λ z. ordering_then z rest) (sym is) ∙ sym (takes_cmp n i j xs ys hi hj lx ly))

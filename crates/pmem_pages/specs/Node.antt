@@ -7,6 +7,7 @@ use Rattle.byteorder.specs.Endian.{big_bytes, big_number}
 use Rattle.pmem_pages.specs.declared.node.TreeKey.{TreeKey}
 use Rattle.pmem_pages.specs.declared.node.Value.{Value}
 use Rattle.pmem_pages.specs.declared.node.Node.{Node}
+use Rattle.pmem_pages.specs.declared.node.Links.{Links}
 
 -- the bytes of a key, by which keys are ordered
 abbrev pub key_text : TreeKey → List ℕ
@@ -60,6 +61,13 @@ node_of kind bs = record {
   key = record { len = min (big_number 2 (drop 2 bs)) 64; bytes = take 64 (drop 12 bs) };
   value = record { len = value_len kind; bytes = take 180 (drop 76 bs) };
 }
+
+-- what a node says besides its pair, and a node that says that of itself
+abbrev pub links_of : Node → Links
+links_of n = record { height = n.height; left = n.left; right = n.right }
+
+abbrev pub with_links : Node → Links → Node
+with_links n l = record { height = l.height; left = l.left; right = l.right; key = n.key; value = n.value }
 
 -- the bytes of a block that names its kind, and a length that a key may have
 pub record IsNodeBlock (kind : ℕ) (bs : List ℕ) : Type 0 where

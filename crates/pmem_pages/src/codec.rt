@@ -4,9 +4,9 @@ ghost use Rattle.std.specs.Ordering.{nat_cmp};
 ghost use Rattle.std.specs.Cmp.Lexicographic.{slice_cmp};
 ghost use Rattle.byteorder.specs.Endian.{big_bytes, big_number};
 ghost use Rattle.pmem_pages.specs.declared.node.Node.{Node as NodeOf};
-ghost use Rattle.pmem_pages.specs.Node.{key_cmp, value_len, node_bytes, node_of, IsNode, IsNodeBlock};
+ghost use Rattle.pmem_pages.specs.Node.{key_cmp, key_text, value_len, node_bytes, node_of, links_of, with_links, IsNode, IsNodeBlock};
 
-use crate::node::{Node, TreeKey, Value};
+use crate::node::{Links, Node, TreeKey, Value};
 use byteorder::{BigEndian, ByteOrder};
 use std::cmp::Ordering;
 
@@ -126,6 +126,55 @@ pub fn read_node(kind: u8, from: &[u8; 256]) -> Node
             len: value_length(kind),
             bytes: value,
         },
+    }
+}
+
+/// The links of the node in a block, whatever its bytes are.
+#[tactic(auto, unfolding(crate::specs::Node::node_of))]
+pub fn read_links(from: &[u8; 256]) -> Links
+    ensures { (kind : ℕ) → result ≡ links_of (node_of kind from.now) }
+{
+    Links {
+        height: from[1],
+        left: four_at(from, 4),
+        right: four_at(from, 8),
+    }
+}
+
+/// Writes other links into the block of a node.
+pub fn write_links(links: Links, to: &mut [u8; 256])
+    ensures { (kind : ℕ) (n : NodeOf) → to.old ≡ node_bytes kind n → to.new ≡ node_bytes kind (with_links n links) }
+{
+    to[1] = links.height;
+    to[4..8].copy_from_slice(&four_bytes(links.left));
+    to[8..12].copy_from_slice(&four_bytes(links.right));
+}
+
+// How a key lies to that of the node in a block, byte by byte.
+#[tactic(auto, unfolding(crate::specs::Node::key_cmp, crate::specs::Node::node_of))]
+fn compare_bytes_in(key: &TreeKey, len: u8, block: &[u8; 256]) -> Ordering
+    requires key { key.now.len ≤ 64 }
+    requires len { len ≤ 64 }
+    ensures { result ≡ slice_cmp nat_cmp (key_text key.now) (take len (drop 12 block.now)) }
+{
+    let left = &key.bytes[..usize::from(key.len)];
+    let right = &block[12..12 + usize::from(len)];
+    left.cmp(right)
+}
+
+/// How a key lies to that of the node in a block, as `compare` says it.
+pub fn compare_in(key: &TreeKey, block: &[u8; 256]) -> Ordering
+    requires { key.now.len ≤ 64 }
+    ensures { (kind : ℕ) → result ≡ key_cmp key.now (node_of kind block.now).key }
+{
+    let len = two_at(block, 2).min(64) as u8;
+    if key.len < 8 || len < 8 {
+        return compare_bytes_in(key, len, block);
+    }
+    match compare_heads(&key.bytes, &block[12..]) {
+        Ordering::Less => Ordering::Less,
+        Ordering::Equal => compare_bytes_in(key, len, block),
+        Ordering::Greater => Ordering::Greater,
     }
 }
 

@@ -31,3 +31,11 @@ pub struct Node {
     pub key: TreeKey,
     pub value: Value,
 }
+
+/// What a node says besides its pair: its height, and the blocks of the nodes below it, or 0 for none.
+#[derive(Clone, Copy)]
+pub struct Links {
+    pub height: u8,
+    pub left: u32,
+    pub right: u32,
+}

@@ -4,7 +4,7 @@ use Rattle.std.proofs.lemmas.Bool.{cases_lt}
 use Rattle.std.proofs.lemmas.Bool.Decides.{eqb_tells}
 use Rattle.std.specs.declared.cmp.Ordering.TheVariants.{Less, Greater}
 use Rattle.pmem_pages.specs.Blocks.{Blocks, Budget, IsSpent}
-use Rattle.pmem_pages.specs.Node.{key_cmp}
+use Rattle.pmem_pages.specs.Node.{key_cmp, links_of}
 use Rattle.pmem_pages.specs.Shape.{Entry, Shape, Fork, root_of, height, entries, count, node_at, Rises, inserted}
 use Rattle.pmem_pages.proofs.Lists.{count_one, count_own, count_other, count_parts, count_inserted, Rises-front, entry_at_left, inserted_left, inserted_past}
 use Rattle.pmem_pages.proofs.Shapes.{stands_on}
@@ -158,7 +158,7 @@ module _ (m : Blocks) (kind at depth : ℕ) (x : Entry) (l : Shape) (e : Entry) 
                   }
             ]
 
-        pub ends_left : (b0 b1 b2 : Budget) → GrowsAtEnd x.key l s b0 b1 → IsSpent 3 768 b1 b2 → (s.height ≤ b.height + 1 → b.height ≤ s.height + 1 → IsSpent 1 256 b1 b2) → (Fits (node_at l e r) s b → b2 ≡ b1) → GrowsAtEnd x.key (Fork l e r) w b0 b2
+        pub ends_left : (b0 b1 b2 : Budget) → GrowsAtEnd x.key l s b0 b1 → IsSpent 3 768 b1 b2 → (s.height ≤ b.height + 1 → b.height ≤ s.height + 1 → IsSpent 1 256 b1 b2) → (Fits (links_of (node_at l e r)) s b → b2 ≡ b1) → GrowsAtEnd x.key (Fork l e r) w b0 b2
         ends_left b0 b1 b2 ch three one idle =
             let near = c.balanced.0 in
             let nl = near.left in

@@ -3,9 +3,10 @@ pub mod Ends
 pub mod Growing
 pub mod GrowingRight
 pub mod Inserting
+pub mod Setting
 pub mod Shrinking
 pub mod Removing
 pub mod Found
+pub mod Valued
 pub mod Inserted
 pub mod Removed
-pub mod Valued

@@ -20,9 +20,6 @@ pub record CanGrow (m : Blocks) (kind at depth : ℕ) (x : Entry) (t : Shape) : 
   pub outside : count x.block (entries t) ≡ 0
   pub missing : entry_at x.key (entries t) ≡ None
 
-abbrev pub SomeGrows : Blocks → ℕ → ℕ → ℕ → Entry → Type 0
-SomeGrows m kind at depth x = (t : Shape) × CanGrow m kind at depth x t
-
 -- The tree with the entry in its place, as high as before or one higher. Where it is higher, and wasn't
 -- empty, it leans.
 pub record Grown (m : Blocks) (kind : ℕ) (t : Shape) (x : Entry) (n : Blocks) (s : Sub) : Type 0 where
@@ -40,6 +37,3 @@ pub record Grown (m : Blocks) (kind : ℕ) (t : Shape) (x : Entry) (n : Blocks) 
 pub record GrowsCheaply (t : Shape) (s : Sub) (before now : Budget) : Type 0 where
   pub at_most : IsSpent (height t + 3) (256 * (height t + 3)) before now
   pub grew : s.height ≡ height t + 1 → IsSpent (height t + 1) (256 * (height t + 1)) before now
-
-abbrev pub OfGrowing : Blocks → ℕ → ℕ → ℕ → Entry → (Shape → Type 0) → Type 0
-OfGrowing m kind at depth x P = (t : Shape) → CanGrow m kind at depth x t → P t

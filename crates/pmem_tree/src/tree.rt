@@ -1,5 +1,5 @@
 // A tree, and its calls.
-ghost use Rattle.std.specs.Prelude.{◌≡◌, true, IfOk, OnOk, OnErr, IsTrue, ◌⊎◌, ◌<◌, Some, IsErrOf, ◌↔◌, ◌+◌, None};
+ghost use Rattle.std.specs.Prelude.{◌≡◌, true, IfOk, OnOk, OnErr, IsTrue, ◌⊎◌, ◌<◌, ◌≤◌, Some, IsErrOf, ◌↔◌, ◌+◌, None, ⊤};
 ghost use Rattle.pmem_pages.specs.Node.{IsKind, IsKey, IsValue};
 ghost use Rattle.pmem_pages.specs.Shape.{Shape, IsTree, entries, entry_at, first_above, last_under, Entry};
 ghost use Rattle.pmem_tree_base.specs.Calls.{Goes};
@@ -8,10 +8,10 @@ ghost use Rattle.pmem_tree.specs.Calls.{OfTree, StepsAtMost, HasTree, StagesAtMo
 ghost use Rattle.pmem_pages.specs.Blocks.{IsSpent};
 ghost use Rattle.pmem_tree_base.specs.declared.refusal.TreeNo.{TreeNo};
 ghost use Rattle.pmem_tree.specs.Ends.{StagesAtEnd};
-ghost use Rattle.pmem_tree.specs.Changes.{Puts, Inserts, Removes};
+ghost use Rattle.pmem_tree.specs.Changes.{Puts, Inserts, PutAt, Removes, put_blocks};
 
 use crate::HIGHEST;
-use crate::grow::insert_at;
+use crate::grow::{Fresh, set_at};
 use crate::shrink::remove_at;
 use pmem_pages::node::{Pair, TreeKey, Value};
 use pmem_pages::pages::Pages;
@@ -19,7 +19,7 @@ use pmem_pages::refusal::Stopped;
 use pmem_pages::steps::Steps;
 use pmem_tree_base::find::{find, first_after, last_before};
 use pmem_tree_base::put::put_at;
-use pmem_tree_base::read::{Spot, sub_at};
+use pmem_tree_base::read::sub_at;
 use pmem_tree_base::refusal::TreeNo;
 use std::sync::ledger::Ledger;
 
@@ -176,16 +176,67 @@ impl Tree {
         ensures went_on { OnOk result (P.stopped pages.new ≡ P.stopped pages.old) }
     {
         let at = pages.take_block()?;
-        let fresh = Spot {
+        let fresh = Fresh {
             kind: self.kind,
-            at,
+            block: Some(at),
             pair: Pair {
                 key: *key,
                 value: *value,
             },
         };
         let whole = sub_at(pages, self.kind, self.root, steps)?;
-        let grown = insert_at(pages, &fresh, self.root, whole.height, steps)?;
+        let grown = set_at(pages, &fresh, self.root, whole.height, steps)?;
+        self.root = grown.root;
+        Ok(())
+    }
+
+    /// Puts a pair into the tree, whether its key is there or not: another value where it is, and else a new
+    /// pair. Where the key has that value already, nothing is staged. After `TooMuch` the stage has to be
+    /// dropped.
+    ///
+    /// # Errors
+    ///
+    /// `NoBlock` comes only where the key isn't there and no block is free. Where the pages tell their blocks,
+    /// `TooMuch` comes only where fewer than `16 * d + 32` ranges or 256 times as many bytes are left to stage,
+    /// with a number of pairs of `d` binary digits. `Stopped` comes only where the pages answered it.
+    pub fn set<P: Pages, L: Ledger>(
+        &mut self,
+        pages: &mut P,
+        key: &TreeKey,
+        value: &Value,
+        steps: &mut Steps<L>,
+    ) -> Result<(), TreeNo>
+        requires kind { IsKind self.old.kind }
+        requires key { IsKey key.now }
+        requires value { IsValue self.old.kind value.now }
+        requires tree { HasTree P.tells (P.blocks pages.old) self.old.kind self.old.root (λ t. ⊤) }
+        ensures set { OnOk result (OfTree P.tells (P.blocks pages.old) self.old.kind self.old.root (λ t. PutAt (P.blocks pages.old) self.old.kind t key.now value.now (P.blocks pages.new) self.new.root)) }
+        ensures idle { OnOk result (OfTree P.tells (P.blocks pages.old) self.old.kind self.old.root (λ t. (e : Entry) → entry_at key.now (entries t) ≡ Some e → e.value ≡ value.now → (P.blocks pages.new ≡ P.blocks pages.old) × (P.budget pages.new ≡ P.budget pages.old))) }
+        ensures kind { self.new.kind ≡ self.old.kind }
+        ensures root_kept { OnErr result (self.new.root ≡ self.old.root) }
+        ensures no_block { IsErrOf result TreeNo.NoBlock → (P.budget pages.old).free ≡ 0 }
+        ensures missing { IsErrOf result TreeNo.NoBlock → OfTree P.tells (P.blocks pages.old) self.old.kind self.old.root (λ t. entry_at key.now (entries t) ≡ None) }
+        ensures too_much { IsErrOf result TreeNo.TooMuch → OfTree P.tells (P.blocks pages.old) self.old.kind self.old.root (λ t. TooFew t (P.budget pages.old)) }
+        ensures steps { OfTree P.tells (P.blocks pages.old) self.old.kind self.old.root (λ t. StepsAtMost 16 16 t steps.old steps.new) }
+        ensures staged { OnOk result (OfTree P.tells (P.blocks pages.old) self.old.kind self.old.root (λ t. StagesAtMost 4 8 t (P.budget pages.old) (P.budget pages.new))) }
+        ensures few { OnOk result (OfTree P.tells (P.blocks pages.old) self.old.kind self.old.root (λ t. entry_at key.now (entries t) ≡ None → StagesAtEnd 6 key.now t (P.budget pages.old) (P.budget pages.new))) }
+        ensures one { OnOk result (OfTree P.tells (P.blocks pages.old) self.old.kind self.old.root (λ t. (e : Entry) → entry_at key.now (entries t) ≡ Some e → IsSpent 1 256 (P.budget pages.old) (P.budget pages.new))) }
+        ensures takes { OnOk result (OfTree P.tells (P.blocks pages.old) self.old.kind self.old.root (λ t. (P.budget pages.new).free + put_blocks (entry_at key.now (entries t)) ≡ (P.budget pages.old).free)) }
+        ensures free { (P.budget pages.old).free ≤ (P.budget pages.new).free + 1 }
+        ensures goes { Goes P.stopped P.count P.burns pages.old pages.new }
+        ensures stopped { IsErrOf result TreeNo.Stopped → P.stopped pages.new ≡ true }
+        ensures went_on { OnOk result (P.stopped pages.new ≡ P.stopped pages.old) }
+    {
+        let fresh = Fresh {
+            kind: self.kind,
+            block: None,
+            pair: Pair {
+                key: *key,
+                value: *value,
+            },
+        };
+        let whole = sub_at(pages, self.kind, self.root, steps)?;
+        let grown = set_at(pages, &fresh, self.root, whole.height, steps)?;
         self.root = grown.root;
         Ok(())
     }

@@ -3,7 +3,7 @@ use Rattle.std.proofs.Common.{◌≡◌, ◌≢◌, ℕ, List, Some, sym, ap, �
 use Rattle.pmem_pages.specs.Blocks.{Blocks, IsTaken}
 use Rattle.pmem_pages.specs.declared.node.Node.{Node}
 use Rattle.pmem_pages.specs.declared.node.Pair.{Pair}
-use Rattle.pmem_pages.specs.Node.{node_of}
+use Rattle.pmem_pages.specs.Node.{node_bytes, node_of}
 use Rattle.pmem_pages.specs.Shape.{Entry, Shape, Leaf, Fork, root_of, Stands, node_at}
 use Rattle.pmem_pages.proofs.Shapes.{read_again}
 use Rattle.pmem_tree_base.specs.Nodes.{SomeNode, IsNodeAt, entry_of}
@@ -23,3 +23,11 @@ pub entry_held : (at : ℕ) (p : Pair) (node : Node) (l : Shape) (e : Entry) (r 
 entry_held at p node l e r a is h =
     let k : p ≡ record { key = e.key; value = e.value } = h ∙ ap (λ (n : Node). record { key = n.key; value = n.value }) is in
     λ i. record { block = sym a i; key = sym (ap (λ (z : Pair). z.key) k) i; value = sym (ap (λ (z : Pair). z.value) k) i }
+
+-- the bytes of a node's block are those of the node that they say
+pub bytes_read : (m : Blocks) (kind at : ℕ) (bytes : List ℕ) → SomeNode m kind at → m at ≡ Some bytes → bytes ≡ node_bytes kind (node_of kind bytes)
+bytes_read m kind at bytes w b =
+    let h = w.3 in
+    let there : m w.1.block ≡ Some bytes = ap m (sym h.at_is) ∙ b in
+    let same : bytes ≡ node_bytes kind (node_at w.0 w.1 w.2) = cc (h.stands.0.block, there) in
+    same ∙ ap (node_bytes kind) (sym (read_again m kind bytes w.0 w.1 w.2 h.stands there))

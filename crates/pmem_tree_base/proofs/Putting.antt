@@ -4,7 +4,6 @@ use Rattle.std.specs.declared.cmp.Ordering.TheVariants.{Less, Equal, Greater}
 use Rattle.pmem_pages.specs.Blocks.{Blocks, put}
 use Rattle.pmem_pages.specs.declared.node.Node.{Node}
 use Rattle.pmem_pages.specs.declared.node.Pair.{Pair}
-use Rattle.pmem_pages.specs.declared.node.Value.{Value}
 use Rattle.pmem_pages.specs.Node.{node_bytes, key_cmp}
 use Rattle.pmem_pages.specs.Shape.{Entry, Shape, Leaf, Fork, root_of, height, entries, count, node_at, with_node, IsEntry, Stands, Keeps}
 use Rattle.pmem_pages.specs.Parts.{with_value}
@@ -13,7 +12,7 @@ use Rattle.pmem_pages.proofs.Shapes.{stands_on}
 use Rattle.pmem_tree_base.specs.Nodes.{SomeNode, IsNodeAt}
 use Rattle.pmem_tree_base.proofs.Held.{some_node}
 use Rattle.pmem_tree_base.proofs.Sides.{past_left, at_left, entry_at_right, entry_at_here}
-use Rattle.pmem_tree_base.proofs.Staged.{fork_stands, keeps_put, put_same}
+use Rattle.pmem_tree_base.proofs.Staged.{fork_stands, keeps_put}
 use Rattle.pmem_tree_base.specs.Put.{CanPut, SomePuts, Put, OfPutting, OfSame}
 
 pub put_node : (m : Blocks) (kind at depth : ℕ) (p : Pair) → SomePuts m kind at depth p → at ≢ 0 → SomeNode m kind at
@@ -143,14 +142,10 @@ module _ (m : Blocks) (kind at depth : ℕ) (p : Pair) (node : Node) (ne : at �
       let bytes = ap (λ (k : Node). record { height = k.height; left = k.left; right = k.right; key = k.key; value = p.value }) is in
       puts_here m kind at depth p gone l f r c (sym (cmp gone l f r c) ∙ equal) n (e ∙ (ap (λ (z : Blocks). put z at content) same ∙ (ap (λ (b : ℕ). put m b content) c.root_is ∙ ap (λ (k : Node). put m f.block (Some (node_bytes kind k))) bytes)))
 
-  -- where the value is the one that stands there
-  pub puts_as_it_is : key_cmp p.key node.key ≡ Equal → node.value ≡ p.value → (m1 n : Blocks) → m1 ≡ m → n ≡ m1 → OfPutting m kind at depth p (λ t. Put m kind t p n)
-  puts_as_it_is equal value m1 n same idle gone Leaf c = absurd (ne c.root_is)
-  puts_as_it_is equal value m1 n same idle gone (Fork l f r) c =
-      let written : Node = record { height = node.height; left = node.left; right = node.right; key = node.key; value = p.value } in
-      let as_read : written ≡ node_at l f r = ap (λ (v : Value). record { height = node.height; left = node.left; right = node.right; key = node.key; value = v }) (sym value) ∙ here gone l f r c in
-      let stands : m1 at ≡ Some (node_bytes kind written) = ap (λ (z : Blocks). z at) same ∙ (ap m c.root_is ∙ (c.stands.0.block ∙ ap (λ (k : Node). Some (node_bytes kind k)) (sym as_read))) in
-      puts_from_here equal m1 n same (idle ∙ sym (put_same m1 at (Some (node_bytes kind written)) stands)) gone (Fork l f r) c
+  -- the node stands there, as it was read
+  pub put_stands_there : SomePuts m kind at depth p → m at ≡ Some (node_bytes kind node)
+  put_stands_there (gone, Leaf, c) = absurd (ne c.root_is)
+  put_stands_there (gone, Fork l f r, c) = ap m c.root_is ∙ (c.stands.0.block ∙ ap (λ (k : Node). Some (node_bytes kind k)) (sym (here gone l f r c)))
 
   -- nothing changed where the value was the same
   module _ {A B : Type 0} where
@@ -162,10 +157,10 @@ module _ (m : Blocks) (kind at depth : ℕ) (p : Pair) (node : Node) (ne : at �
     same_from_right more m1 same f g gone Leaf c v = absurd (ne c.root_is)
     same_from_right more m1 same f g gone (Fork l e r) c v = f (g gone r (child_right more m1 same gone l e r c) v)
 
-  pub same_here : {B : Type 0} → key_cmp p.key node.key ≡ Equal → node.value ≢ p.value → OfSame m kind at depth p B
-  same_here equal other gone Leaf c v = absurd (ne c.root_is)
-  same_here equal other gone (Fork l e r) c v =
+  pub same_from_here : {B : Type 0} → key_cmp p.key node.key ≡ Equal → (node.value ≡ p.value → B) → OfSame m kind at depth p B
+  same_from_here equal f gone Leaf c v = absurd (ne c.root_is)
+  same_from_here equal f gone (Fork l e r) c v =
       let found = entry_at_here p.key (entries l) e (entries r) c.rises (sym (cmp gone l e r c) ∙ equal) in
       let there = c.there in
       let same : e ≡ gone = cc in
-      absurd (other (ap (λ (n : Node). n.value) (here gone l e r c) ∙ (ap (λ (z : Entry). z.value) same ∙ v)))
+      f (ap (λ (n : Node). n.value) (here gone l e r c) ∙ (ap (λ (z : Entry). z.value) same ∙ v))

@@ -1,8 +1,10 @@
 -- A node of a tree, as the code holds it.
-use Rattle.std.specs.Prelude.{◌≡◌, ◌+◌, ℕ, max}
+use Rattle.std.specs.Prelude.{◌≡◌, ◌+◌, ℕ, List, max}
 use Rattle.pmem_pages.specs.Blocks.{Blocks}
 use Rattle.pmem_pages.specs.declared.node.Node.{Node}
 use Rattle.pmem_pages.specs.declared.node.Pair.{Pair}
+use Rattle.pmem_pages.specs.declared.node.Value.{Value}
+use Rattle.pmem_pages.specs.Node.{node_of}
 use Rattle.pmem_pages.specs.Shape.{Entry, Shape, Fork, root_of, height, Stands, node_at}
 use Rattle.pmem_tree_base.specs.declared.read.Opened.{Opened}
 use Rattle.pmem_tree_base.specs.declared.read.Sub.{Sub}
@@ -26,6 +28,14 @@ entry_of at p = record { block = at; key = p.key; value = p.value }
 -- the node of a pair between two trees that the code holds
 abbrev pub node_between : Pair → Sub → Sub → Node
 node_between p l r = record { height = max l.height r.height + 1; left = l.root; right = r.root; key = p.key; value = p.value }
+
+-- the pair of the node in a block
+abbrev pub pair_in : ℕ → List ℕ → Pair
+pair_in kind bs = record { key = (node_of kind bs).key; value = (node_of kind bs).value }
+
+-- a node with another value
+abbrev pub valued_node : Node → Value → Node
+valued_node n v = record { height = n.height; left = n.left; right = n.right; key = n.key; value = v }
 
 -- what the code holds of a tree is its root and its height
 pub record IsSub (s : Sub) (t : Shape) : Type 0 where

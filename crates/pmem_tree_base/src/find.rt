@@ -6,7 +6,7 @@ ghost use Rattle.pmem_tree_base.specs.Find.{SomeBelow, OfBelow, value_of, value_
 
 use crate::read::{pair_in, read_at, read_in};
 use pmem_pages::BLOCK;
-use pmem_pages::codec::{compare, read_node};
+use pmem_pages::codec::{compare, compare_in, read_node};
 use pmem_pages::node::{Node, Pair, TreeKey, Value};
 use pmem_pages::pages::Pages;
 use pmem_pages::refusal::Stopped;
@@ -49,8 +49,7 @@ fn seek<P: Pages, L: Ledger>(
         return Ok(false);
     }
     let node = read_in(pages, kind, at, block, steps)?;
-    let here = node.key;
-    match compare(key, &here) {
+    match compare_in(key, block) {
         Ordering::Less => seek(pages, kind, node.left, depth - 1, key, block, steps),
         Ordering::Equal => Ok(true),
         Ordering::Greater => seek(pages, kind, node.right, depth - 1, key, block, steps),

@@ -1,13 +1,13 @@
 // A node is read.
 ghost use Rattle.std.specs.Prelude.{◌≡◌, ◌≤◌, ◌+◌, true, IfOk, OnOk, OnErr, IsTrue};
-ghost use Rattle.pmem_pages.specs.Node.{node_of};
+ghost use Rattle.pmem_pages.specs.Node.{links_of, node_bytes, node_of};
 ghost use Rattle.pmem_pages.specs.Shape.{Shape};
 ghost use Rattle.pmem_tree_base.specs.Calls.{Goes};
 ghost use Rattle.pmem_tree_base.specs.Nodes.{SomeNode, IsNodeAt, IsSub, StandsAt, SomeStandsAt, OpensAt};
 
 use pmem_pages::BLOCK;
-use pmem_pages::codec::read_node;
-use pmem_pages::node::{Node, Pair};
+use pmem_pages::codec::{read_links, read_node};
+use pmem_pages::node::{Links, Node, Pair};
 use pmem_pages::pages::Pages;
 use pmem_pages::refusal::Stopped;
 use pmem_pages::steps::Steps;
@@ -62,7 +62,7 @@ pub fn read_at<P: Pages, L: Ledger>(
     Ok(read_node(kind, &block))
 }
 
-/// Reads the node in a block, in one step, and keeps its bytes.
+/// Reads the block of a node, in one step, and answers the node's links.
 ///
 /// # Errors
 ///
@@ -73,11 +73,11 @@ pub fn read_in<P: Pages, L: Ledger>(
     at: u32,
     to: &mut [u8; 256],
     steps: &mut Steps<L>,
-) -> Result<Node, Stopped>
+) -> Result<Links, Stopped>
     requires { IsTrue P.tells → SomeNode (P.blocks pages.old) kind at }
-    ensures node { IfOk result (λ n. IsTrue P.tells → IsNodeAt (P.blocks pages.old) kind at n) }
-    ensures bytes { IfOk result (λ n. n ≡ node_of kind to.new) }
-    ensures key { IfOk result (λ n. n.key.len ≤ 64) }
+    ensures links { IfOk result (λ l. l ≡ links_of (node_of kind to.new)) }
+    ensures node { OnOk result (IsTrue P.tells → IsNodeAt (P.blocks pages.old) kind at (node_of kind to.new)) }
+    ensures bytes { OnOk result (IsTrue P.tells → to.new ≡ node_bytes kind (node_of kind to.new)) }
     ensures kept { IsTrue P.tells → P.blocks pages.new ≡ P.blocks pages.old }
     ensures budget { P.budget pages.new ≡ P.budget pages.old }
     ensures step { steps.new ≡ steps.old + 1 }
@@ -86,7 +86,7 @@ pub fn read_in<P: Pages, L: Ledger>(
     ensures went_on { OnOk result (P.stopped pages.new ≡ P.stopped pages.old) }
 {
     pages.read_block(at, to, steps)?;
-    Ok(read_node(kind, to))
+    Ok(read_links(to))
 }
 
 /// The root and the height of the tree below a block, in at most one step.
@@ -113,7 +113,8 @@ pub fn sub_at<P: Pages, L: Ledger>(
     if at == 0 {
         return Ok(Sub { root: 0, height: 0 });
     }
-    let node = read_at(pages, kind, at, steps)?;
+    let mut block = [0; BLOCK];
+    let node = read_in(pages, kind, at, &mut block, steps)?;
     Ok(Sub {
         root: at,
         height: node.height,

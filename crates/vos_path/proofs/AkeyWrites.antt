@@ -1,6 +1,5 @@
 -- A write comes to an akey, and then that into the tree of its dkey.
-use Rattle.std.proofs.Common.{◌≡◌, ℕ, ◌+◌, ◌*◌, ◌<◌, ◌^◌, Bool, true, List, Option, Some, zero, suc, refl, sym, ap, ◌∙◌, subst, arith}
-use Rattle.std.specs.Prelude.{is_some}
+use Rattle.std.proofs.Common.{◌≡◌, ℕ, ◌+◌, ◌*◌, ◌<◌, ◌^◌, true, List, Option, Some, zero, suc, refl, sym, ap, ◌∙◌, subst, arith}
 use Rattle.std.specs.List.{find}
 use Rattle.std.specs.Option.{option_and_then, option_map}
 use Rattle.base_types.specs.declared.operation.Write.{Write}
@@ -17,11 +16,12 @@ use Rattle.pmem_tree_base.specs.Find.{value_of}
 use Rattle.vos_values.specs.Values.{akey_in, akey_value}
 use Rattle.vos_levels.specs.Levels.{HasMore, Hung, hung, hung_root, is_level, things}
 use Rattle.vos_path.specs.declared.stamp.Stamp.{Stamp}
-use Rattle.vos_path.specs.Calls.{LacksFor, PutAt, SpendsAtMost, Turns, akey_or_zero, for_pair}
+use Rattle.vos_path.specs.Calls.{LacksFor, SpendsAtMost, Turns, akey_or_zero, for_pair}
+use Rattle.pmem_tree.specs.Changes.{PutAt}
 use Rattle.vos_path.specs.Nodes.{AkeysNoted, ValuesNoted}
 use Rattle.vos_path.specs.Objects.{Akey, akey_level, akey_path, akey_versions, akeys_versions, held_values, no_values, values_or_none, values_owner, values_roots, values_versions}
 use Rattle.vos_path.specs.Writes.{AkeysAreNew, AkeysAreSmall, IsSmall, ValuesAreNew, ValuesAreSmall, fresh}
-use Rattle.vos_path.proofs.Finding.{akey_found, akey_zero, some_mapped, some_there, found_holds, listed_found, no_values_hold, no_values_own}
+use Rattle.vos_path.proofs.Finding.{akey_found, akey_zero, found_holds, listed_found, no_values_hold, no_values_own}
 use Rattle.vos_path.proofs.Lists.{all_found}
 use Rattle.vos_path.proofs.Naming.{name_exact}
 use Rattle.vos_path.proofs.Putting.{changed_part, level_equal, level_put, still}
@@ -92,8 +92,3 @@ module _ (m : Blocks) (g : Hung Akey) (held : Holds (hung akey_level) m g) (name
 
   pub akey_roots_are : (roots : AkeyRoots) → roots ≡ akey_or_zero found → roots ≡ values_roots (values_or_none (akey_at name g))
   akey_roots_are roots e = e ∙ (ap akey_or_zero akey_said ∙ akey_zero (akey_at name g))
-
-  pub akey_is_there : (had : Bool) → had ≡ is_some found → is_some (entry_at key (entries g.0)) ≡ had
-  akey_is_there had e =
-      ap (λ k. is_some (entry_at k (entries g.0))) key_is
-      ∙ (some_there akey_level (name_key name) m g held ∙ (sym (some_mapped (λ a. values_roots (held_values a)) (akey_at name g)) ∙ sym (e ∙ ap is_some akey_said)))

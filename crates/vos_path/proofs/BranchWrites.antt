@@ -1,6 +1,6 @@
 -- A write comes below a dkey or an object, and then that into the tree of these.
 use Rattle.std.proofs.Common.{◌≡◌, ℕ, ◌+◌, ◌*◌, ◌≤◌, Bool, true, false, not, List, [], ◌++◌, Option, refl, sym, ap, ◌∙◌, subst, arith}
-use Rattle.std.specs.Prelude.{All, is_some}
+use Rattle.std.specs.Prelude.{All}
 use Rattle.std.specs.List.{find}
 use Rattle.std.specs.Option.{option_and_then, option_map}
 use Rattle.base_types.specs.declared.operation.Write.{Write}
@@ -17,13 +17,14 @@ use Rattle.vos_levels.specs.Calls.{Becomes}
 use Rattle.vos_levels.specs.Levels.{HasMore, Hung, Level, hung, hung_root, is_level, things}
 use Rattle.vos_ilog.specs.Logs.{log_owner}
 use Rattle.vos_path.specs.declared.stamp.Stamp.{Stamp}
-use Rattle.vos_path.specs.Calls.{LacksFor, PutAt, SpendsAtMost, Turns, roots_or_zero}
+use Rattle.vos_path.specs.Calls.{LacksFor, SpendsAtMost, Turns, roots_or_zero}
+use Rattle.pmem_tree.specs.Changes.{PutAt}
 use Rattle.vos_path.specs.Objects.{Below, Branch, below_or_none, below_owner, below_roots, branch_level, held_below, no_below, punches, together}
 use Rattle.vos_path.specs.Writes.{IsNoted, IsNotedIf, IsSmall, fresh, fresh_entry, is_update}
 use Rattle.vos_path.specs.Nodes.{BothNoted, LogNoted, OnePut, noted}
 use Rattle.vos_ilog.specs.declared.ilog.LogEntry.{LogEntry}
 use Rattle.vos_path.proofs.AkeyWrites.{put_lacks}
-use Rattle.vos_path.proofs.Finding.{found_holds, listed_found, no_below_holds, no_below_owns, roots_found, roots_zero, some_mapped, some_there}
+use Rattle.vos_path.proofs.Finding.{found_holds, listed_found, no_below_holds, no_below_owns, roots_found, roots_zero}
 use Rattle.vos_path.proofs.Lists.{all_found, more_after, more_before}
 use Rattle.vos_path.proofs.Putting.{changed_part, level_put, still}
 use Rattle.vos_path.proofs.Written.{both_change, fewer_than, first_changes, first_stands, punches_kept, punches_more, spent_at_most, spent_then}
@@ -113,11 +114,6 @@ module _ {N A : Type 0} (kind : ℕ) (key : N → TreeKey) (Good : N → Type 0)
 
     pub branch_roots_are : (roots : Roots) → roots ≡ roots_or_zero found → roots ≡ below_roots (below_or_none (branch_at g))
     branch_roots_are roots e = e ∙ (ap roots_or_zero branch_said ∙ roots_zero (branch_at g))
-
-    pub branch_is_there : (had : Bool) → had ≡ is_some found → is_some (entry_at k (entries g.0)) ≡ had
-    branch_is_there had e =
-        ap (λ z. is_some (entry_at z (entries g.0))) key_is
-        ∙ (some_there (branch_level kind key Good L) (key name) m g held ∙ (sym (some_mapped (λ b. below_roots (held_below b)) (branch_at g)) ∙ sym (e ∙ ap is_some branch_said)))
 
   -- it takes what it became in the place of what it was
   module _ (exact : (b : Branch N A) → Good b.name → is_level (branch_level kind key Good L) (key name) b ≡ true → b.name ≡ name) (good : Good name) (m n : Blocks) (g : Hung (Branch N A)) (held : Holds (hung (branch_level kind key Good L)) m g)

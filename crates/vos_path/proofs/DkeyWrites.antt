@@ -1,6 +1,5 @@
 -- A dkey, and an object, that a write names.
-use Rattle.std.proofs.Common.{◌≡◌, ℕ, Bool, true, List, Option, refl, sym}
-use Rattle.std.specs.Prelude.{is_some}
+use Rattle.std.proofs.Common.{◌≡◌, ℕ, true, List, Option, refl, sym}
 use Rattle.std.specs.Option.{option_and_then}
 use Rattle.std.proofs.lemmas.List.Elements.{All-nil}
 use Rattle.daos_model.specs.declared.durable.Version.{Version}
@@ -16,13 +15,14 @@ use Rattle.vos_values.specs.Keys.{IsName, IsObjectKey, name_key, object_key}
 use Rattle.vos_values.specs.Values.{roots_in, roots_value}
 use Rattle.vos_levels.specs.Levels.{HasMore, Hung, hung, hung_root, is_level}
 use Rattle.vos_path.specs.declared.stamp.Stamp.{Stamp}
-use Rattle.vos_path.specs.Calls.{PutAt, Turns, roots_or_zero}
+use Rattle.vos_path.specs.Calls.{Turns, roots_or_zero}
+use Rattle.pmem_tree.specs.Changes.{PutAt}
 use Rattle.base_types.specs.declared.operation.Write.{Write}
 use Rattle.vos_path.specs.Nodes.{DkeyNoted, DkeysNoted, ObjectNoted, ObjectsNoted}
 use Rattle.vos_path.specs.Objects.{Akey, Below, Dkey, Object, Objects, akey_level, below_dkey_versions, below_object_versions, below_or_none, below_owner, below_roots, dkey_level, dkeys_versions, object_level, objects_owner, objects_versions}
 use Rattle.vos_path.specs.Writes.{BelowDkeyIsNew, BelowDkeyIsSmall, BelowObjectIsSmall, DkeysAreNew, DkeysAreSmall, ObjectsAreSmall}
 use Rattle.vos_path.proofs.AkeyWrites.{some_power}
-use Rattle.vos_path.proofs.BranchWrites.{branch_all, branch_at, branch_holds, branch_is_there, branch_roots_are, branch_still, branch_written}
+use Rattle.vos_path.proofs.BranchWrites.{branch_all, branch_at, branch_holds, branch_roots_are, branch_still, branch_written}
 use Rattle.vos_path.proofs.Naming.{name_exact, object_exact}
 use Rattle.vos_path.proofs.Putting.{level_equal}
 
@@ -43,10 +43,6 @@ dkey_small d g name h = branch_all 2 name_key IsName akey_level name (BelowDkeyI
 pub dkey_roots_are : (m : Blocks) (g : Hung Dkey) → Holds (hung dkey_level) m g → (name : List ℕ) (k : TreeKey) → k ≡ name_key name → (found : Option Roots) → found ≡ option_and_then roots_in (value_of (entry_at k (entries g.0)))
     → (roots : Roots) → roots ≡ roots_or_zero found → roots ≡ below_roots (below_or_none (dkey_at name g))
 dkey_roots_are m g held name k is found says roots e = branch_roots_are 2 name_key IsName akey_level name m g held k is found says roots e
-
-pub dkey_is_there : (m : Blocks) (g : Hung Dkey) → Holds (hung dkey_level) m g → (name : List ℕ) (k : TreeKey) → k ≡ name_key name → (found : Option Roots) → found ≡ option_and_then roots_in (value_of (entry_at k (entries g.0)))
-    → (had : Bool) → had ≡ is_some found → is_some (entry_at k (entries g.0)) ≡ had
-dkey_is_there m g held name k is found says had e = branch_is_there 2 name_key IsName akey_level name m g held k is found says had e
 
 dkey_exact : (name : List ℕ) → IsName name → (b : Dkey) → IsName b.name → is_level dkey_level (name_key name) b ≡ true → b.name ≡ name
 dkey_exact name good b ok level = sym (name_exact name b.name good ok (level_equal dkey_level (name_key name) b level))
@@ -73,10 +69,6 @@ object_small d g name h = branch_all 1 object_key (IsObjectKey Two) dkey_level n
 pub object_roots_are : (m : Blocks) (g : Objects) → Holds objects_owner m g → (name : ObjectKey) (k : TreeKey) → k ≡ object_key name → (found : Option Roots) → found ≡ option_and_then roots_in (value_of (entry_at k (entries g.0)))
     → (roots : Roots) → roots ≡ roots_or_zero found → roots ≡ below_roots (below_or_none (object_at name g))
 object_roots_are m g held name k is found says roots e = branch_roots_are 1 object_key (IsObjectKey Two) dkey_level name m g held k is found says roots e
-
-pub object_is_there : (m : Blocks) (g : Objects) → Holds objects_owner m g → (name : ObjectKey) (k : TreeKey) → k ≡ object_key name → (found : Option Roots) → found ≡ option_and_then roots_in (value_of (entry_at k (entries g.0)))
-    → (had : Bool) → had ≡ is_some found → is_some (entry_at k (entries g.0)) ≡ had
-object_is_there m g held name k is found says had e = branch_is_there 1 object_key (IsObjectKey Two) dkey_level name m g held k is found says had e
 
 pub objects_exact : (name : ObjectKey) → IsObjectKey Two name → (b : Object) → IsObjectKey Two b.name → is_level object_level (object_key name) b ≡ true → b.name ≡ name
 objects_exact name good b ok level = sym (object_exact name b.name good ok (level_equal object_level (object_key name) b level))

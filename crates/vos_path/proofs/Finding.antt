@@ -1,11 +1,11 @@
 -- What a look-up finds at a level whose things stand in parts of them.
 use Rattle.std.proofs.Common.{◌≡◌, ℕ, ◌<◌, ◌^◌, Bool, true, false, List, [], ◌∷◌, Option, Some, None, refl, sym, ap, ◌∙◌, subst, arith}
-use Rattle.std.specs.Prelude.{if◌then◌else◌, is_some}
+use Rattle.std.specs.Prelude.{if◌then◌else◌}
 use Rattle.std.specs.List.{find}
 use Rattle.std.specs.Option.{option_and_then, option_map}
 use Rattle.pmem_pages.specs.Blocks.{Blocks}
 use Rattle.pmem_pages.specs.Owners.{Holds, Owner, times}
-use Rattle.pmem_pages.specs.Shape.{Entry, Fork, Leaf, Shape, Stands, entries, entry_at, root_of}
+use Rattle.pmem_pages.specs.Shape.{Fork, Leaf, Shape, Stands, entries, entry_at, root_of}
 use Rattle.pmem_pages.specs.declared.node.TreeKey.{TreeKey}
 use Rattle.pmem_pages.specs.declared.node.Value.{Value}
 use Rattle.pmem_tree_base.specs.Find.{value_of}
@@ -76,15 +76,6 @@ found_good {A = A} L test (x ∷ xs) a g h = by (test x) h (found_good L test xs
     by true f r = let same : x ≡ a = cc in subst (λ z. L.Good z) same g.0
     by false f r = r f
 
-pub some_there : {A : Type 0} (L : Level A) (k : TreeKey) (m : Blocks) (g : Hung A) → Holds (hung L) m g → is_some (entry_at k (entries g.0)) ≡ is_some (find (is_level L k) (things g))
-some_there {A = A} L k m g h = by (entry_at k (entries g.0)) (find (is_level L k) (things g)) (value_found L k (is_level L k) (tells_level L k) (entries g.0) g.1 h.here.1.leads h.here.1.rises)
-  where
-    by : (x : Option Entry) (y : Option A) → value_of x ≡ option_map L.value y → is_some x ≡ is_some y
-    by None None e = refl
-    by None (Some a) e = absurd (let n : ⊥ = cc in n)
-    by (Some x) None e = absurd (let n : ⊥ = cc in n)
-    by (Some x) (Some a) e = refl
-
 module _ {A P : Type 0} (kind : ℕ) (f : A → P) (O : Owner P) (key : A → TreeKey) (value : A → Value) (Good : A → Type 0) (k : TreeKey) (m : Blocks) (g : Hung A) (h : Holds (hung (part_level kind f O key value Good)) m g) where
   -- what is found stands
   pub one_holds : (a : A) → find (is_level (part_level kind f O key value Good) k) (things g) ≡ Some a → Holds O m (f a)
@@ -141,7 +132,3 @@ module _ {N A : Type 0} (kind : ℕ) (key : N → TreeKey) (Good : N → Type 0)
 pub roots_zero : {N A : Type 0} (x : Option (Branch N A)) → roots_or_zero (option_map (λ b. below_roots (held_below b)) x) ≡ below_roots (below_or_none x)
 roots_zero None = refl
 roots_zero (Some b) = refl
-
-pub some_mapped : {A B : Type 0} (f : A → B) (x : Option A) → is_some (option_map f x) ≡ is_some x
-some_mapped f None = refl
-some_mapped f (Some a) = refl

@@ -21,7 +21,8 @@ use Rattle.vos_levels.proofs.Testing.{AllGood, all_good}
 use Rattle.vos_ilog.specs.declared.ilog.LogEntry.{LogEntry}
 use Rattle.vos_ilog.specs.Logs.{IsLogEntry, Log, is_at, log_level, log_owner, moment_of, value_of_entry}
 use Rattle.vos_path.specs.declared.stamp.Stamp.{Stamp}
-use Rattle.vos_path.specs.Calls.{IsPut, PutAt}
+use Rattle.vos_path.specs.Calls.{IsPut}
+use Rattle.pmem_tree.specs.Changes.{PutAt}
 use Rattle.vos_path.specs.Objects.{is_punch}
 use Rattle.vos_path.specs.Writes.{IsNoted, fresh_entry, has_punch_at, is_punch_at}
 use Rattle.vos_path.proofs.Lists.{filter_put}

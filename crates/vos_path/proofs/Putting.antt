@@ -20,7 +20,8 @@ use Rattle.vos_levels.specs.Levels.{HasMore, Hung, Level, TellsKey, hung, hung_r
 use Rattle.vos_levels.proofs.Changing.{count_is, hung_more, hung_other, hung_tree}
 use Rattle.vos_levels.proofs.Settling.{becomes_shown}
 use Rattle.vos_levels.proofs.Spots.{find_none, find_spot, look, mapped_spot}
-use Rattle.vos_path.specs.Calls.{IsPut, PutAt, PutBy, Turns}
+use Rattle.vos_path.specs.Calls.{IsPut, Turns}
+use Rattle.pmem_tree.specs.Changes.{PutAt, PutBy}
 use Rattle.vos_path.specs.Nodes.{OnePut}
 use Rattle.vos_path.specs.Objects.{listed, or_none, together}
 use Rattle.vos_path.proofs.Lists.{together_more}

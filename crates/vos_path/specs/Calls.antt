@@ -2,10 +2,6 @@
 use Rattle.std.specs.Prelude.{◌≡◌, ◌+◌, ◌*◌, ℕ, Bool, IsTrue, List, ◌∷◌, ◌++◌, Option, Some, None}
 use Rattle.pmem_pages.specs.Blocks.{Blocks, Budget, IsSpent}
 use Rattle.pmem_pages.specs.Owners.{Changed, Holds, Owner}
-use Rattle.pmem_pages.specs.Shape.{Entry, Shape, entries, entry_at}
-use Rattle.pmem_pages.specs.declared.node.TreeKey.{TreeKey}
-use Rattle.pmem_pages.specs.declared.node.Value.{Value}
-use Rattle.pmem_tree.specs.Changes.{Inserts, Puts}
 use Rattle.vos_values.specs.declared.values.AkeyRoots.{AkeyRoots}
 use Rattle.vos_values.specs.declared.values.Roots.{Roots}
 use Rattle.vos_levels.specs.Levels.{HasMore}
@@ -28,15 +24,7 @@ pub record Turns {G R V : Type 0} (O : Owner G) (roots : G → R) (shown : G →
   pub shown_is : Q (shown g) (shown now)
   pub nodes : N g now
 
--- ---- a pair comes into a tree, or has another value
-
-abbrev pub PutBy : Option Entry → Blocks → ℕ → Shape → TreeKey → Value → Blocks → ℕ → Type 0
-PutBy None m kind t key value n root = Inserts m kind t key value n root
-PutBy (Some e) m kind t key value n root = Puts m kind t key value n root
-
--- a pair whose key wasn't there comes in, and one whose key was there has another value
-abbrev pub PutAt : Blocks → ℕ → Shape → TreeKey → Value → Blocks → ℕ → Type 0
-PutAt m kind t key value n root = PutBy (entry_at key (entries t)) m kind t key value n root
+-- ---- a thing comes into a list, or in the place of another
 
 -- a list with another in the place of one
 pub record Swapped {A : Type 0} (a b : A) (before after : List A) : Type 0 where
@@ -45,7 +33,7 @@ pub record Swapped {A : Type 0} (a b : A) (before after : List A) : Type 0 where
   pub before_is : before ≡ left ++ a ∷ right
   pub after_is : after ≡ left ++ b ∷ right
 
--- a thing comes into a list, or in the place of another
+-- by what stood there
 abbrev pub IsPut : {A : Type 0} → Option A → A → List A → List A → Type 0
 IsPut None b xs ys = HasMore b xs ys
 IsPut (Some a) b xs ys = Swapped a b xs ys

@@ -14,7 +14,6 @@ ghost use Rattle.vos_path.specs.Writes.{AkeysAreNew, AkeysAreSmall, NamesAreKeys
 
 use crate::find::{akey_or_zero, find_akey};
 use crate::name::key_of;
-use crate::set::put;
 use crate::stamp::Stamp;
 use crate::values::write_values;
 use base_types::operation::Write;
@@ -62,12 +61,5 @@ pub fn write_akeys<P: Pages, L: Ledger>(
     let key = key_of(name);
     let found = find_akey(*akeys, pages, &key, steps)?;
     let roots = write_values(akey_or_zero(found), pages, stamp, write, steps)?;
-    put(
-        akeys,
-        pages,
-        &key,
-        &akey_value(roots),
-        found.is_some(),
-        steps,
-    )
+    akeys.set(pages, &key, &akey_value(roots), steps)
 }

@@ -18,7 +18,6 @@ use crate::akeys::write_akeys;
 use crate::find::{find_roots, roots_or_zero};
 use crate::log::{note, note_update};
 use crate::name::key_of;
-use crate::set::put;
 use crate::stamp::Stamp;
 use base_types::operation::Write;
 use pmem_pages::pages::Pages;
@@ -163,12 +162,5 @@ pub fn write_dkeys<P: Pages, L: Ledger>(
     let key = key_of(name);
     let found = find_roots(*dkeys, pages, &key, steps)?;
     let roots = write_dkey(roots_or_zero(found), pages, stamp, write, steps)?;
-    put(
-        dkeys,
-        pages,
-        &key,
-        &roots_value(roots),
-        found.is_some(),
-        steps,
-    )
+    dkeys.set(pages, &key, &roots_value(roots), steps)
 }

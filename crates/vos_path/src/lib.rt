@@ -7,6 +7,5 @@ pub mod find;
 pub mod log;
 pub mod name;
 pub mod objects;
-pub mod set;
 pub mod stamp;
 pub mod values;

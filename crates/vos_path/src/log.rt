@@ -11,7 +11,6 @@ ghost use Rattle.vos_ilog.specs.Logs.{log_owner, value_of_entry};
 ghost use Rattle.vos_path.specs.Calls.{SpendsAtMost, for_pair};
 ghost use Rattle.vos_path.specs.Writes.{IsNoted, IsNotedIf, IsSmall, fresh_entry, has_punch_at, is_update, log_pairs};
 
-use crate::set::set;
 use crate::stamp::Stamp;
 use base_types::operation::Write;
 use pmem_pages::pages::Pages;
@@ -74,7 +73,7 @@ pub fn note<P: Pages, L: Ledger>(
     let key = key_at(stamp.at);
     let value = value_of(stamp, punch);
     let mut tree = Tree { kind: 4, root };
-    set(&mut tree, pages, &key, &value, steps)?;
+    tree.set(pages, &key, &value, steps)?;
     Ok(tree.root)
 }
 

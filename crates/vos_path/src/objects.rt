@@ -19,7 +19,6 @@ use crate::dkeys::write_dkeys;
 use crate::find::{find_roots, roots_or_zero};
 use crate::log::{note, note_update};
 use crate::name::key_of_object;
-use crate::set::put;
 use crate::stamp::Stamp;
 use base_types::operation::Write;
 use pmem_pages::pages::Pages;
@@ -164,12 +163,5 @@ pub fn write_objects<P: Pages, L: Ledger>(
     });
     let found = find_roots(*objects, pages, &key, steps)?;
     let roots = write_object(roots_or_zero(found), pages, stamp, write, steps)?;
-    put(
-        objects,
-        pages,
-        &key,
-        &roots_value(roots),
-        found.is_some(),
-        steps,
-    )
+    objects.set(pages, &key, &roots_value(roots), steps)
 }

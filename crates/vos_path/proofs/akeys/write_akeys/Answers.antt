@@ -8,11 +8,12 @@ use Rattle.vos_values.specs.Values.{akey_value}
 use Rattle.vos_levels.specs.Levels.{HasMore}
 use Rattle.vos_levels.proofs.Calls.{on_ok_then}
 use Rattle.vos_versions.proofs.Marks.{err_other}
-use Rattle.vos_path.specs.Calls.{LacksFor, PutAt, SpendsAtMost, Turns, for_pair}
+use Rattle.vos_path.specs.Calls.{LacksFor, SpendsAtMost, Turns, for_pair}
+use Rattle.pmem_tree.specs.Changes.{PutAt}
 use Rattle.vos_path.specs.Nodes.{ValuesNoted}
 use Rattle.vos_path.specs.Objects.{akey_level, values_or_none, values_owner, values_roots, values_versions}
 use Rattle.vos_path.specs.Writes.{data_blocks, fresh, values_pairs}
-use Rattle.vos_path.proofs.AkeyWrites.{akey_at, akey_holds, akey_is_there, akey_new, akey_roots_are, akey_small, akeys_still, akeys_written, put_lacks, put_spends}
+use Rattle.vos_path.proofs.AkeyWrites.{akey_at, akey_holds, akey_new, akey_roots_are, akey_small, akeys_still, akeys_written, put_lacks, put_spends}
 use Rattle.vos_path.proofs.Naming.{named}
 use Rattle.vos_path.proofs.Putting.{tree_of}
 use Rattle.vos_path.proofs.akeys.write_akeys.Goals as goal
@@ -48,8 +49,8 @@ returns-in_err-roots-clause-too_much g c refused told x held at new d small =
     let stands = subst (λ b. Holds values_owner b (values_or_none (akey_at c.in-Some.name x))) (sym e) (akey_holds m x c.in-Some.name held) in
     subst (LacksFor (data_blocks c.args.write.now) (values_pairs c.args.write.now (for_pair d)) d) c.find_akey.ensures.budget (c.in_err-roots.ensures.too_much (err_other c.in_err-roots.field-0.0 TooMuch (subst (λ z. IsErrOf z TooMuch) is refused)) told (values_or_none (akey_at c.in-Some.name x)) stands roots (akey_new c.args.stamp x c.in-Some.name new) d (akey_small d x c.in-Some.name small))
 
-pub put-requires-clause-tree : goal.put-requires-clause-tree
-put-requires-clause-tree g c told =
+pub set-requires-clause-tree : goal.set-requires-clause-tree
+set-requires-clause-tree g c told =
     let s = c.requires.here told in
     let held = s.1.0 in
     let at = s.1.1.0 in
@@ -62,10 +63,10 @@ put-requires-clause-tree g c told =
     let stands = subst (λ b. Holds values_owner b (values_or_none (akey_at c.in-Some.name s.0))) (sym e) (akey_holds m s.0 c.in-Some.name held) in
     let t = subst (λ b. Turns values_owner values_roots (values_versions (write_path c.args.write.now)) b (values_or_none (akey_at c.in-Some.name s.0)) (g.P.Pages.blocks c.write_values.new.pages) c.in_ok-roots.roots (HasMore (fresh c.args.stamp c.args.write.now)) (ValuesNoted c.args.stamp c.args.write.now)) e (c.in_ok-roots.ensures.written told (values_or_none (akey_at c.in-Some.name s.0)) stands roots (akey_new c.args.stamp s.0 c.in-Some.name s.1.1.1)) in
     let still = akeys_still m (g.P.Pages.blocks c.write_values.new.pages) s.0 held c.args.stamp c.args.write.now c.in-Some.name is_name c.in_ok-roots.roots t c.args.akeys.now.root at in
-    (s.0.0, (subst (λ z. IsTree (g.P.Pages.blocks c.write_values.new.pages) z c.args.akeys.now.root s.0.0) (sym c.requires.kind) still, akey_is_there m s.0 held c.in-Some.name c.key_of-key.result c.key_of-key.ensures.key c.in_ok-found.found (c.in_ok-found.ensures.found told s.0.0 tree) c.is_some.result c.is_some.ensures))
+    (s.0.0, (subst (λ z. IsTree (g.P.Pages.blocks c.write_values.new.pages) z c.args.akeys.now.root s.0.0) (sym c.requires.kind) still, tt))
 
 pub returns-clause-written : goal.returns-clause-written
-returns-clause-written g c = on_ok_then c.put.result (λ h told x held at new ob d a path.
+returns-clause-written g c = on_ok_then c.set.result (λ h told x held at new ob d a path.
     let akey : (write_path c.args.write.now).akey ≡ Some c.in-Some.name = ap (λ p. p.akey) (sym c.path.ensures) ∙ c.in-Some.is in
     let is_name = named (write_path c.args.write.now).akey c.in-Some.name akey c.requires.names.akey in
     let m = g.P.Pages.blocks c.args.pages.now in
@@ -75,12 +76,11 @@ returns-clause-written g c = on_ok_then c.put.result (λ h told x held at new ob
     let stands = subst (λ b. Holds values_owner b (values_or_none (akey_at c.in-Some.name x))) (sym e) (akey_holds m x c.in-Some.name held) in
     let t = subst (λ b. Turns values_owner values_roots (values_versions (write_path c.args.write.now)) b (values_or_none (akey_at c.in-Some.name x)) (g.P.Pages.blocks c.write_values.new.pages) c.in_ok-roots.roots (HasMore (fresh c.args.stamp c.args.write.now)) (ValuesNoted c.args.stamp c.args.write.now)) e (c.in_ok-roots.ensures.written told (values_or_none (akey_at c.in-Some.name x)) stands roots (akey_new c.args.stamp x c.in-Some.name new)) in
     let still = akeys_still m (g.P.Pages.blocks c.write_values.new.pages) x held c.args.stamp c.args.write.now c.in-Some.name is_name c.in_ok-roots.roots t c.args.akeys.now.root at in
-    let there = akey_is_there m x held c.in-Some.name c.key_of-key.result c.key_of-key.ensures.key c.in_ok-found.found (c.in_ok-found.ensures.found told x.0 tree) c.is_some.result c.is_some.ensures in
-    let o = g.P.Pages.blocks c.put.new.pages in
-    let root = c.put.new.tree.root in
-    let put = h told x.0 (subst (λ z. IsTree (g.P.Pages.blocks c.write_values.new.pages) z c.args.akeys.now.root x.0) (sym c.requires.kind) still) there in
+    let o = g.P.Pages.blocks c.set.new.pages in
+    let root = c.set.new.self.root in
+    let put = h told x.0 (subst (λ z. IsTree (g.P.Pages.blocks c.write_values.new.pages) z c.args.akeys.now.root x.0) (sym c.requires.kind) still) in
     let put2 : PutAt (g.P.Pages.blocks c.write_values.new.pages) akey_level.kind x.0 (name_key c.in-Some.name) (akey_value c.in_ok-roots.roots) o root = subst (λ z. PutAt (g.P.Pages.blocks c.write_values.new.pages) akey_level.kind x.0 (name_key c.in-Some.name) z o root) c.akey_value.ensures.value (subst (λ z. PutAt (g.P.Pages.blocks c.write_values.new.pages) akey_level.kind x.0 z c.akey_value.result o root) c.key_of-key.ensures.key (subst (λ z. PutAt (g.P.Pages.blocks c.write_values.new.pages) z x.0 c.key_of-key.result c.akey_value.result o root) c.requires.kind put)) in
-    akeys_written m (g.P.Pages.blocks c.write_values.new.pages) x held c.args.stamp c.args.write.now c.in-Some.name is_name c.in_ok-roots.roots t ob d a path akey o root put2) c.put.ensures.put
+    akeys_written m (g.P.Pages.blocks c.write_values.new.pages) x held c.args.stamp c.args.write.now c.in-Some.name is_name c.in_ok-roots.roots t ob d a path akey o root put2) c.set.ensures.set
 
 pub returns-clause-too_much : goal.returns-clause-too_much
 returns-clause-too_much g c refused told x held at new d small =
@@ -93,13 +93,12 @@ returns-clause-too_much g c refused told x held at new d small =
     let stands = subst (λ b. Holds values_owner b (values_or_none (akey_at c.in-Some.name x))) (sym e) (akey_holds m x c.in-Some.name held) in
     let t = subst (λ b. Turns values_owner values_roots (values_versions (write_path c.args.write.now)) b (values_or_none (akey_at c.in-Some.name x)) (g.P.Pages.blocks c.write_values.new.pages) c.in_ok-roots.roots (HasMore (fresh c.args.stamp c.args.write.now)) (ValuesNoted c.args.stamp c.args.write.now)) e (c.in_ok-roots.ensures.written told (values_or_none (akey_at c.in-Some.name x)) stands roots (akey_new c.args.stamp x c.in-Some.name new)) in
     let still = akeys_still m (g.P.Pages.blocks c.write_values.new.pages) x held c.args.stamp c.args.write.now c.in-Some.name is_name c.in_ok-roots.roots t c.args.akeys.now.root at in
-    let there = akey_is_there m x held c.in-Some.name c.key_of-key.result c.key_of-key.ensures.key c.in_ok-found.found (c.in_ok-found.ensures.found told x.0 tree) c.is_some.result c.is_some.ensures in
     let spent = c.in_ok-roots.ensures.staged told (values_or_none (akey_at c.in-Some.name x)) stands roots (akey_new c.args.stamp x c.in-Some.name new) d (akey_small d x c.in-Some.name small) in
     put_lacks (data_blocks c.args.write.now) (values_pairs c.args.write.now (for_pair d)) d x (g.P.Pages.budget c.args.pages.now) (g.P.Pages.budget c.write_values.new.pages) small.0 (subst (λ b. SpendsAtMost (data_blocks c.args.write.now) (values_pairs c.args.write.now (for_pair d)) b (g.P.Pages.budget c.write_values.new.pages)) c.find_akey.ensures.budget spent)
-    (c.put.ensures.too_much refused told x.0 (subst (λ z. IsTree (g.P.Pages.blocks c.write_values.new.pages) z c.args.akeys.now.root x.0) (sym c.requires.kind) still) there)
+    (c.set.ensures.too_much refused told x.0 (subst (λ z. IsTree (g.P.Pages.blocks c.write_values.new.pages) z c.args.akeys.now.root x.0) (sym c.requires.kind) still))
 
 pub returns-clause-staged : goal.returns-clause-staged
-returns-clause-staged g c = on_ok_then c.put.result (λ h told x held at new d small.
+returns-clause-staged g c = on_ok_then c.set.result (λ h told x held at new d small.
     let akey : (write_path c.args.write.now).akey ≡ Some c.in-Some.name = ap (λ p. p.akey) (sym c.path.ensures) ∙ c.in-Some.is in
     let is_name = named (write_path c.args.write.now).akey c.in-Some.name akey c.requires.names.akey in
     let m = g.P.Pages.blocks c.args.pages.now in
@@ -109,7 +108,6 @@ returns-clause-staged g c = on_ok_then c.put.result (λ h told x held at new d s
     let stands = subst (λ b. Holds values_owner b (values_or_none (akey_at c.in-Some.name x))) (sym e) (akey_holds m x c.in-Some.name held) in
     let t = subst (λ b. Turns values_owner values_roots (values_versions (write_path c.args.write.now)) b (values_or_none (akey_at c.in-Some.name x)) (g.P.Pages.blocks c.write_values.new.pages) c.in_ok-roots.roots (HasMore (fresh c.args.stamp c.args.write.now)) (ValuesNoted c.args.stamp c.args.write.now)) e (c.in_ok-roots.ensures.written told (values_or_none (akey_at c.in-Some.name x)) stands roots (akey_new c.args.stamp x c.in-Some.name new)) in
     let still = akeys_still m (g.P.Pages.blocks c.write_values.new.pages) x held c.args.stamp c.args.write.now c.in-Some.name is_name c.in_ok-roots.roots t c.args.akeys.now.root at in
-    let there = akey_is_there m x held c.in-Some.name c.key_of-key.result c.key_of-key.ensures.key c.in_ok-found.found (c.in_ok-found.ensures.found told x.0 tree) c.is_some.result c.is_some.ensures in
     let spent = c.in_ok-roots.ensures.staged told (values_or_none (akey_at c.in-Some.name x)) stands roots (akey_new c.args.stamp x c.in-Some.name new) d (akey_small d x c.in-Some.name small) in
-    put_spends (data_blocks c.args.write.now) (values_pairs c.args.write.now (for_pair d)) d x (g.P.Pages.budget c.args.pages.now) (g.P.Pages.budget c.write_values.new.pages) (g.P.Pages.budget c.put.new.pages) small.0 (subst (λ b. SpendsAtMost (data_blocks c.args.write.now) (values_pairs c.args.write.now (for_pair d)) b (g.P.Pages.budget c.write_values.new.pages)) c.find_akey.ensures.budget spent)
-    (h told x.0 (subst (λ z. IsTree (g.P.Pages.blocks c.write_values.new.pages) z c.args.akeys.now.root x.0) (sym c.requires.kind) still) there)) c.put.ensures.staged
+    put_spends (data_blocks c.args.write.now) (values_pairs c.args.write.now (for_pair d)) d x (g.P.Pages.budget c.args.pages.now) (g.P.Pages.budget c.write_values.new.pages) (g.P.Pages.budget c.set.new.pages) small.0 (subst (λ b. SpendsAtMost (data_blocks c.args.write.now) (values_pairs c.args.write.now (for_pair d)) b (g.P.Pages.budget c.write_values.new.pages)) c.find_akey.ensures.budget spent)
+    (h told x.0 (subst (λ z. IsTree (g.P.Pages.blocks c.write_values.new.pages) z c.args.akeys.now.root x.0) (sym c.requires.kind) still))) c.set.ensures.staged

@@ -17,8 +17,8 @@ returns-in_err-set-clause-too_much g c refused told x held at =
 pub returns-clause-noted : goal.returns-clause-noted
 returns-clause-noted g c told x held at none =
     let m = g.P.Pages.blocks c.args.pages.now in
-    log_noted m (g.P.Pages.blocks c.set.new.pages) x c.args.stamp c.args.punch 4 c.set.new.tree.root c.key_at-key.result c.value_of-value.result refl c.key_at-key.ensures.key c.value_of-value.ensures.value c.key_at-key.ensures.moment c.value_of-value.ensures.by held none
-    (c.in_ok-set.ensures.put told x.0 (log_tree m 4 c.args.root x refl held at))
+    log_noted m (g.P.Pages.blocks c.set.new.pages) x c.args.stamp c.args.punch 4 c.set.new.self.root c.key_at-key.result c.value_of-value.result refl c.key_at-key.ensures.key c.value_of-value.ensures.value c.key_at-key.ensures.moment c.value_of-value.ensures.by held none
+    (c.in_ok-set.ensures.set told x.0 (log_tree m 4 c.args.root x refl held at))
 
 pub returns-clause-staged : goal.returns-clause-staged
 returns-clause-staged g c told x held at =

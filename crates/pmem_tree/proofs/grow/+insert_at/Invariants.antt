@@ -1,4 +1,0 @@
-use Rattle.pmem_tree.proofs.grow.+insert_at.Given as goal
-
-abbrev pub decreases-insert_at : goal.decreases-insert_at
-decreases-insert_at g l = l.depth
