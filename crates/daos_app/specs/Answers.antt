@@ -18,12 +18,11 @@ use Rattle.report_writer.specs.Reports.{report_text}
 use Rattle.model_reports.specs.Rooms.{FindsRoom, HasPlaces, HasRoom, SnapshotsFindPlaces}
 use Rattle.daos_run.specs.Alone.{IsOfLoneClient}
 use Rattle.daos_run.specs.Back.{IsReadBack}
-use Rattle.daos_run.specs.Comes.{FindsPlaces, FollowsFromZeros}
+use Rattle.daos_run.specs.Comes.{FindsPlaces, FollowsFromZeros, AreIssuedThere}
 use Rattle.daos_run.specs.Legal.{IsInRealTime, IsLegal}
 use Rattle.daos_status.specs.declared.status.Status.{Status}
 use Rattle.daos_status.specs.declared.status.Status.TheVariants as status
 use Rattle.daos_summary.specs.Summaries.{summary_text}
-use Rattle.world_plain.specs.lone.LoneRuns.{AreIssuedThere}
 
 -- ---- what is written
 

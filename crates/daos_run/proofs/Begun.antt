@@ -1,5 +1,5 @@
 -- Clients and targets that have started are those of the world that a run begins with.
-use Rattle.std.specs.Prelude.{ℕ, ◌≡◌, ◌≤◌, ◌+◌, ◌^◌, ◌/◌, true, false, List, length, map, slice_get, Option, Some, None, refl}
+use Rattle.std.specs.Prelude.{ℕ, ◌≡◌, ◌≤◌, ◌+◌, ◌^◌, ◌/◌, true, false, List, length, map, slice_get, Option, Some}
 use Rattle.std.specs.List.{list_all}
 use Rattle.std.proofs.Common.{sym, ◌∙◌, ap, subst, arith}
 use Rattle.std.proofs.lemmas.Bool.{and_parts}
@@ -8,53 +8,31 @@ use Rattle.base_types.specs.declared.epoch.Epoch.{Epoch}
 use Rattle.base_types.specs.Scripts.{IsInForm}
 use Rattle.base_types.specs.declared.job.Job.{Job}
 use Rattle.base_types.specs.declared.script.Command.{Command}
-use Rattle.base_types.specs.declared.script.Command.TheVariants.{Aggregate, Run, Skip, Snap, Tell}
+use Rattle.base_types.specs.declared.script.Command.TheVariants.{Snap}
 use Rattle.base_types.specs.declared.script.Script.{Script}
 use Rattle.base_types.specs.declared.snapshot.Snap as frozen
 use Rattle.base_types.specs.Epochs.{restart_floor}
 use Rattle.model_laws.specs.DecidedLaws.{all-from_has, has-all}
-use Rattle.model_laws.specs.Lists.{passes-at}
 use Rattle.daos_model.specs.declared.durable.Durable.{Durable}
 use Rattle.daos_model.specs.FormLaws.{length-map}
 use Rattle.daos_model.specs.Opening.{Opening}
 use Rattle.daos_model.specs.Sound.{Sound}
 use Rattle.daos_run.specs.Opens.{AreFirst, IsNew}
-use Rattle.script_traits.specs.Plain.{IsPlain, are_plain, is_plain, is_plain_command}
-use Rattle.run_targets.specs.Ends.{AllTell, BeginsSo, HasStarted, HaveStarted, first_world, from-map, given_by, same-lists, stores_of}
+use Rattle.script_traits.specs.Plain.{IsPlain, are_plain, is_plain}
+use Rattle.run_targets.specs.Ends.{AllTell, BeginsSo, HasStarted, HaveStarted, first_world, from-map, given_by, same-lists, stores_of, first_tracker, rules_of}
 use Rattle.run_targets.specs.Below.{TargetOf, state_of}
 use Rattle.target_parts.specs.Knowing.{IsHeard}
 use Rattle.vos_store.specs.Calls.{State}
 use Rattle.world_base.specs.ClientTurns.{at_first, plan_of}
 use Rattle.world_base.specs.declared.client.ClientState.{ClientState}
-use Rattle.world_plain.specs.whole.Begins.{IsSimple, first_tracker}
 use Rattle.run_starts.specs.Below.{AreRulesInForm}
-use Rattle.world_plain.specs.ends.Ends.{rules_of}
-use Rattle.world_letters.specs.epochs.Epochs.{is_unsnapped}
 use Rattle.world_base.specs.Events.{client_plan, commands_or_none}
 
 -- ---- scripts
 
--- a command without snapshots reads at none, makes none, and doesn't aggregate
-unsnapped-if-plain : (d : Command) → is_plain_command d ≡ true → is_unsnapped d ≡ true
-unsnapped-if-plain (Run ops skips None) h = refl
-unsnapped-if-plain (Run ops skips (Some name)) h = let no : ⊥ = cc in absurd no
-unsnapped-if-plain (Snap name cont) h = let no : ⊥ = cc in absurd no
-unsnapped-if-plain (Aggregate cont) h = let no : ⊥ = cc in absurd no
-unsnapped-if-plain (Tell client) h = refl
-unsnapped-if-plain (Skip turns) h = refl
-
 pub lists-plain : (s : Script) → IsPlain s → list_all are_plain s.clients ≡ true
 unfolding is_plain
 lists-plain s h = (and_parts _ (list_all are_plain s.clients) h).1
-
-unsnapped : (s : Script) (lists : List (List Command)) (n k : ℕ) (d : Command) → list_all are_plain lists ≡ true → slice_get (commands_or_none (slice_get lists n)) k ≡ Some d → is_unsnapped d ≡ true
-unsnapped s lists n k d all at = by (slice_get lists n) refl
-  where
-    by : (o : Option (List Command)) → slice_get lists n ≡ o → is_unsnapped d ≡ true
-    by None none = let bad : slice_get (commands_or_none None) k ≡ Some d = ap (λ o. slice_get (commands_or_none o) k) (sym none) ∙ at in let no : ⊥ = cc in absurd no
-    by (Some list) is =
-        let there : slice_get list k ≡ Some d = ap (λ o. slice_get (commands_or_none o) k) (sym is) ∙ at in
-        unsnapped-if-plain d (passes-at is_plain_command list k d (passes-at are_plain lists n list all is) there)
 
 -- the rules of a run are in form
 pub are-in_form : (s : Script) (j : Job) (o : Opening) → IsInForm j.targets s → 1 ≤ j.targets → j.targets ≤ 64 → 1 ≤ j.attempts → AreRulesInForm (rules_of (given_by s j o))
@@ -64,12 +42,6 @@ are-in_form s j o F some few least = record {
   few_targets = let same : s.targets ≡ j.targets = F.read_for in omega (arith, same, few);
   some_attempt = omega (arith, least);
 }
-
--- and a run of a script without snapshots is simple
-pub is-simple : (s : Script) (j : Job) (o : Opening) → IsInForm j.targets s → IsPlain s → 1 ≤ j.targets → j.targets ≤ 64 → 1 ≤ j.attempts → IsSimple (rules_of (given_by s j o))
-is-simple s j o F plain some few least =
-    let k = are-in_form s j o F some few least in
-    record { form = k.form; some_target = k.some_target; few_targets = k.few_targets; unsnapped = λ n m d at. unsnapped s s.clients n m d (lists-plain s plain) at; some_attempt = k.some_attempt }
 
 -- ---- what targets keep
 

@@ -11,7 +11,7 @@ use Rattle.daos_run.specs.Stops.{MayStop}
 use Rattle.run_targets.specs.Below.{IsServed, length-set, served-same}
 use Rattle.run_starts.specs.Calls.{AreTooMany}
 use Rattle.run_targets.specs.Ends.{one-there, same-lists}
-use Rattle.daos_run.specs.Slots.{AreAsBefore, AreFree, AreSet, ClocksStay, EachStore, FromTo, FusesAreGone, HasNoFuse, IsAt, IsDisarmed, StoresAreServed, stores_in}
+use Rattle.daos_run.specs.Slots.{AreAsBefore, AreSet, ClocksStay, EachStore, FromTo, FusesAreGone, HasNoFuse, IsAt, IsDisarmed, StoresAreServed, stores_in}
 use Rattle.daos_run.proofs.Places.{at-low, in-place, store-at, stores-many}
 use Rattle.run_opening.specs.All.{AreKept}
 use Rattle.daos_run.proofs.Slots.{same-pair}
@@ -142,9 +142,6 @@ module _ {S C : Type 0} (durable : S → Option Durable) (state : S → State) (
 
     pub all-gone : FusesAreGone state now
     all-gone t y to = let w = was-there t y to in unfused-gone durable state may w.0.0 y.0 w.2
-
-    pub all-free-on : (free : ℕ → ℕ) → AreFree state old free → AreFree state now free
-    all-free-on free k t y to = let w = was-there t y to in subst (λ n. free t ≤ n) (sym (unfused-free durable state may w.0.0 y.0 w.2)) (k t w.0 w.1)
 
     -- so what may stop a run on them is the same
     too-many-before : (cs : List ContId) (target together : ℕ) → AreTooMany durable cs (stores_in now) target together → AreTooMany durable cs (stores_in old) target together

@@ -6,7 +6,6 @@ use Rattle.base_types.specs.declared.epoch.Epoch.{Epoch}
 use Rattle.base_types.specs.declared.script.Command.{Command}
 use Rattle.base_types.specs.declared.script.Script.{Script}
 use Rattle.base_types.specs.declared.snapshot.Snap.{Snap}
-use Rattle.daos_run.specs.Opens.{AreFirst}
 use Rattle.daos_run.proofs.Slots.{at-end, length-end}
 use Rattle.world_base.specs.ClientTurns.{at_first, plan_of}
 
@@ -16,16 +15,6 @@ pub record AreSoFar (s : Script) (held : List Snap) (attempts : ℕ) (tracker : 
   pub plans : (k : ℕ) (c : ClientNow) → slice_get cs k ≡ Some c → (list : List Command) × (slice_get s.clients k ≡ Some list) × (c.plan ≡ plan_of s k attempts list)
   pub states : (k : ℕ) (c : ClientNow) → slice_get cs k ≡ Some c → c.state ≡ at_first s held tracker
 
-pub none-yet : (s : Script) (held : List Snap) (attempts : ℕ) (tracker : Epoch) (cs : List ClientNow) → cs ≡ [] → AreSoFar s held attempts tracker cs 0
-none-yet s held attempts tracker cs none = record {
-  many = ap length none;
-  plans = λ k c at. absurd (nowhere k c at);
-  states = λ k c at. absurd (nowhere k c at);
-}
-  where
-    nowhere : (k : ℕ) (c : ClientNow) → slice_get cs k ≡ Some c → ⊥
-    nowhere k c at = let bad : slice_get [] k ≡ Some c = ap (λ xs. slice_get xs k) (sym none) ∙ at in let no : ⊥ = cc in no
-
 pub one-more : (s : Script) (held : List Snap) (attempts : ℕ) (tracker : Epoch) (cs cs' : List ClientNow) (n : ℕ) (c : ClientNow) (list : List Command) → AreSoFar s held attempts tracker cs n → cs' ≡ cs ++ c ∷ [] → slice_get s.clients n ≡ Some list → c.plan ≡ plan_of s n attempts list
     → c.state ≡ at_first s held tracker → AreSoFar s held attempts tracker cs' (n + 1)
 one-more s held attempts tracker cs cs' n c list k more here plan state = record {
@@ -34,6 +23,3 @@ one-more s held attempts tracker cs cs' n c list k more here plan state = record
       (list, ap (slice_get s.clients) k.many ∙ here, plan ∙ ap (λ j. plan_of s j attempts list) (sym k.many)) m d (ap (λ xs. slice_get xs m) (sym more) ∙ at);
   states = λ m d at. at-end (λ j e. e.state ≡ at_first s held tracker) cs c k.states state m d (ap (λ xs. slice_get xs m) (sym more) ∙ at);
 }
-
-pub all-made : (s : Script) (held : List Snap) (attempts : ℕ) (tracker : Epoch) (cs : List ClientNow) (n : ℕ) → AreSoFar s held attempts tracker cs n → n ≡ length s.clients → AreFirst s held attempts tracker cs
-all-made s held attempts tracker cs n k all = record { many = k.many ∙ all; plans = k.plans; states = k.states }

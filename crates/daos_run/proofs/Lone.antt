@@ -16,19 +16,18 @@ use Rattle.model_reports.specs.Restarts.{never-restart}
 use Rattle.daos_model.specs.declared.durable.Durable.{Durable}
 use Rattle.base_types.specs.Scripts.{IsInForm}
 use Rattle.daos_model.specs.Family.{resolved}
-use Rattle.daos_model.specs.Finals.{opening_of}
 use Rattle.daos_model.specs.Headline.{Headline}
 use Rattle.daos_model.specs.Opening.{Opening, Outside, fresh, undisturbed}
 use Rattle.daos_model.specs.Stops.{stop_numbers}
 use Rattle.model_reports.specs.Lines.{lists-of-transactions}
 use Rattle.model_reports.specs.RoomLaws.{places-are-found, room-is-found, transactions-find-room}
 use Rattle.model_reports.specs.Rooms.{FindsRoom, HasPlaces, HasRoom, OnlyTransactions, SnapshotsFindPlaces, is_transaction}
-use Rattle.daos_run.proofs.Begun.{is-simple, lists-plain}
+use Rattle.daos_run.proofs.Begun.{lists-plain}
 use Rattle.daos_run.specs.Alone.{IsOfLoneClient}
 use Rattle.daos_run.specs.Comes.{ComesFrom, FindsPlaces}
-use Rattle.run_opening.specs.All.{AreKept, MayBeFound}
-use Rattle.run_opening.specs.Opened.{lasting_snaps}
-use Rattle.run_targets.specs.Ends.{IsLegal, IsOutside, TellsOfLoneClient, given_by, some-may_be, some_lasts}
+use Rattle.run_opening.specs.All.{MayBeFound}
+use Rattle.daos_run.specs.Alone.{TellsOfLoneClient}
+use Rattle.run_targets.specs.Ends.{IsLegal, IsOutside, given_by, some-may_be, some_lasts}
 use Rattle.run_targets.specs.Below.{AreAlike, AreFindable}
 use Rattle.script_traits.specs.Plain.{IsPlain, is_plain_command}
 use Rattle.vos_store.specs.Calls.{State}
@@ -109,7 +108,7 @@ module _ {S : Type 0} (durable : S → Option Durable) (state : S → State) (ma
       let k = all-found durable may findable alike x told ys in
       places-found s j opening silent (resolved k.0) q places least (K.comes.stand k.0 silent k.1 (silent-fits state K.opened ys)).told
 
-  -- where no snapshot lasted over the opening
-  pub tells-of-lone-client : j.targets ≤ 64 → (B : List Durable) (free : ℕ → ℕ) → AreKept durable old B → opening ≡ opening_of s B free → lasting_snaps s B ≡ [] → IsPlain s → HasOneClient s → s.stops ≡ [] → stop_numbers q.lines ≡ [] → TellsOfLoneClient (given_by s j opening) q
-  tells-of-lone-client few B free kept is none plain one stopless unstopped =
-      of-lone-client s j opening q F plain some least one stopless (K.comes.unstopped (K.plain B free kept is none (is-simple s j opening F plain some few least)) unstopped).legal
+  -- where no line tells of a stop
+  pub tells-of-lone-client : IsPlain s → HasOneClient s → s.stops ≡ [] → stop_numbers q.lines ≡ [] → TellsOfLoneClient (given_by s j opening) q
+  tells-of-lone-client plain one stopless unstopped =
+      of-lone-client s j opening q F plain some least one stopless (K.comes.unstopped unstopped).legal

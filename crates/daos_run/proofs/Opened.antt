@@ -8,7 +8,6 @@ use Rattle.base_types.specs.declared.script.Script.{Script}
 use Rattle.base_types.specs.declared.snapshot.Snap.{Snap}
 use Rattle.daos_model.specs.declared.durable.Durable.{Durable}
 use Rattle.daos_run.specs.declared.stop.RunStop.{RunStop}
-use Rattle.daos_run.specs.declared.stop.RunStop.TheVariants.{Memory as NoMemory}
 use Rattle.daos_run.specs.Slots.{AreApart, AreSet, AreSetBack, AreTaken, ClocksStay, EachStore, FromTo, IsAt, stores_in}
 use Rattle.daos_run.specs.Stops.{ArePartsCalled, MayStop, is_fault_of, stopped_by}
 use Rattle.daos_run.proofs.Places.{at-low, store-at, stores-many}
@@ -24,9 +23,8 @@ use Rattle.run_starts.specs.Stops.{is_fault_of as is_start_fault}
 use Rattle.run_starts.specs.declared.stop.StartStop.{StartStop}
 use Rattle.run_starts.specs.declared.stop.StartStop.TheVariants as start
 use Rattle.target_parts.specs.Parts.{Runs}
-use Rattle.target_parts.specs.Running.{runs_as, runs_first}
+use Rattle.target_parts.specs.Running.{runs_as}
 use Rattle.vos_store.specs.Calls.{State}
-use Rattle.vos_store.specs.Refusals.{always_stop}
 
 fault-same : (t : ℕ) (why : StartStop) → is_fault_of t (stopped_by why) ≡ is_start_fault t why
 fault-same t (start.Stopped target) = refl
@@ -116,20 +114,6 @@ module _ {S C : Type 0} (targets : ℕ) (old : List (Option (S × C))) (stores :
       by start.Memory k = tt
 
 -- ---- nothing was taken
-
-module _ {S C : Type 0} (durable : S → Option Durable) (state : S → State) (targets : ℕ) (old : List (Option (S × C))) (before : AreSet targets old) where
-  same-from : (P : ℕ → S → S → Type 0) → ((t : ℕ) (x : S × C) → IsAt old t x → P t x.0 x.0) → FromTo old old P
-  same-from P k t x z at to = subst (λ w. P t x.0 w.0) (same-pair old t x z at to) (k t x at)
-
-  pub called-none : EachStore (λ t store. (state store).stopped ≡ false) old → (new : List (Option (S × C))) → new ≡ old → ArePartsCalled {T = Epoch × List Snap} durable state targets (Err NoMemory) old new
-  called-none run new is = subst (ArePartsCalled {T = Epoch × List Snap} durable state targets (Err NoMemory) old) (sym is) (record {
-    set = before;
-    clocks = λ t x z at to. ap (λ w. w.1) (same-pair old t z x to at);
-    runs = same-from (λ t a b. Runs {T = Epoch × List Snap} (is_fault_of t) (Err NoMemory) (state a) (state b) (durable a) (durable b))
-        (λ t x at. runs_as {T = Unit {0}} {U = Epoch × List Snap} always_stop (Ok (tt {0})) (is_fault_of t) (Err NoMemory) (state x.0) (state x.0) (durable x.0) (durable x.0) refl (runs_first (state x.0) (durable x.0) (run t x at)));
-    free = same-from (λ t a b. (state a).free ≤ (state b).free) (λ t x at. omega arith);
-    still = λ t x z at to. tt;
-  })
 
 module _ {S C : Type 0} (durable : S → Option Durable) (state : S → State) (may : S → Durable → Type 0) (steady : (x : S) (d g : Durable) → (state x).stopped ≡ false → durable x ≡ Some d → may x g → g ≡ d)
     (targets : ℕ) (old : List (Option (S × C))) (before : AreSet targets old) (run : EachStore (λ t store. (state store).stopped ≡ false) old) where

@@ -1,22 +1,18 @@
 -- Runs over empty stores in memory.
-use Rattle.std.specs.Prelude.{ℕ, ◌≡◌, ◌≤◌, ◌<◌, ◌+◌, ◌*◌, ◌-◌, ◌^◌, ◌++◌, true, All, IfErr, IfOk, IsOkUnless, List, [], ◌∷◌, filter, length, map, slice_get, Option, Some, None, Result, Ok, Err, refl}
-use Rattle.std.specs.List.{list_all}
+use Rattle.std.specs.Prelude.{ℕ, ◌≡◌, ◌≤◌, ◌<◌, ◌+◌, ◌*◌, ◌-◌, ◌^◌, true, IfErr, IfOk, IsOkUnless, List, [], ◌∷◌, length, map, slice_get, Option, Some, None, Result, Ok, Err, refl, Bool, false, if◌then◌else◌}
+use Rattle.std.specs.List.{list_any}
 use Rattle.std.proofs.Common.{inl, inr, ◌∙◌, ap, arith, subst, sym}
 use Rattle.std.proofs.lemmas.Bool.{true≢false}
 use Rattle.base_types.specs.declared.job.Job.{Job}
 use Rattle.base_types.specs.declared.report.Report.{Report}
-use Rattle.base_types.specs.declared.script.Command.{Command}
-use Rattle.base_types.specs.declared.script.Command.TheVariants.{Aggregate, Run, Skip, Snap, Tell}
+use Rattle.base_types.specs.declared.script.ContDecl.{ContDecl}
 use Rattle.base_types.specs.declared.script.Script.{Script}
-use Rattle.base_types.specs.Keys.{IsKey}
-use Rattle.base_types.specs.Scripts.{SnapName, all_snaps, snap_of, snaps_of}
-use Rattle.daos_model.specs.BoolLaws.{and_left, and_right}
 use Rattle.daos_model.specs.declared.durable.Durable.{Durable}
 use Rattle.daos_model.specs.Finals.{HeadlineOver}
-use Rattle.daos_model.specs.Changes.{enlisted}
-use Rattle.daos_model.specs.Durables.{empty_durable}
-use Rattle.daos_model.specs.Family.{is_created, resolved}
-use Rattle.daos_model.specs.FormLaws.{length-map}
+use Rattle.daos_model.specs.Changes.{enlisted, with_cont, with_conts}
+use Rattle.daos_model.specs.Durables.{empty_durable, cont_key, is_row_of, new_row}
+use Rattle.daos_model.specs.Family.{resolved}
+use Rattle.daos_model.specs.FormLaws.{length-map, length-put}
 use Rattle.daos_model.specs.Opening.{Given, fresh, fresh_opening, undisturbed}
 use Rattle.daos_model.specs.Stops.{stop_numbers}
 use Rattle.daos_run.specs.declared.stop.RunStop.{RunStop}
@@ -29,10 +25,10 @@ use Rattle.daos_run.specs.Starts.{IsNewStore}
 use Rattle.daos_run.specs.Stops.{HasRisen, IsOpeningFault, MayStop}
 use Rattle.daos_run.proofs.Places.{in-place, store-at, stores-many}
 use Rattle.daos_run.proofs.Unstopped.{no-down-told, no-stops-told}
-use Rattle.run_targets.specs.Ends.{IsInRealTime, IsKeyed, IsLegal, IsOrdered, IsOutside, from-map, given_by, legal-by-any, one-there}
+use Rattle.run_targets.specs.Ends.{IsInRealTime, IsKeyed, IsLegal, IsOrdered, IsOutside, from-map, given_by, legal-by-any, one-there, durables_of, AreIssuedThere, declared_conts}
 use Rattle.run_opening.specs.All.{AreKept}
 use Rattle.run_opening.specs.Laws.{AreUnused}
-use Rattle.run_opening.specs.Opened.{enlisted_family, keeps, lasting_snaps}
+use Rattle.run_opening.specs.Opened.{enlisted_family}
 use Rattle.run_opening.specs.FloorLaws.{unused-floored}
 use Rattle.run_opening.specs.UnusedLaws.{unused-open, unused-sound, unused-stand}
 use Rattle.run_starts.specs.Starts.{CanOpen}
@@ -45,10 +41,23 @@ use Rattle.vos_store.specs.Calls.{State}
 use Rattle.vos_plain.specs.Plain.{plain_durable, plain_state}
 use Rattle.vos_plain.specs.declared.store.PlainStore.{PlainStore}
 use Rattle.world_base.specs.declared.target.TargetState.{TargetState}
-use Rattle.world_plain.specs.ends.Ends.{durables_of}
-use Rattle.world_plain.specs.lone.LoneRuns.{AreIssuedThere}
-use Rattle.world_plain.specs.whole.Begins.{declared_conts}
-use Rattle.world_plain.specs.whole.Fresh.{fresh-opens}
+use Rattle.base_types.specs.declared.id.ContId.{ContId}
+use Rattle.daos_model.specs.declared.durable.ContRow.{ContRow}
+use Rattle.daos_model.specs.Ordered.{put}
+
+cont-few : (c : ContId) (rows : List ContRow) → length (with_cont c rows) ≤ length rows + 1
+cont-few c rows = by (list_any (is_row_of c) rows)
+  where
+    by : (b : Bool) → length (if b then rows else put cont_key (new_row c) rows) ≤ length rows + 1
+    by true = omega arith
+    by false = let k : length (put cont_key (new_row c) rows) ≡ length rows + 1 = length-put cont_key (new_row c) rows in omega (arith, k)
+
+conts-few : (cs : List ContId) (rows : List ContRow) → length (with_conts cs rows) ≤ length rows + length cs
+conts-few [] rows = omega arith
+conts-few (c ∷ cs) rows =
+    let k : length (with_conts cs (with_cont c rows)) ≤ length (with_cont c rows) + length cs = conts-few cs (with_cont c rows) in
+    let l : length (with_cont c rows) ≤ length rows + 1 = cont-few c rows in
+    omega (arith, k, l)
 
 -- it tells what it keeps
 abbrev pub told_by : PlainStore → Option Durable
@@ -66,17 +75,16 @@ may-run targets size_mib store few new = record {
 
 -- ---- stores that were never used
 
--- a script finds no snapshot to last
-pub none-lasts : (s : Script) (B : List Durable) → AreUnused B → lasting_snaps s B ≡ []
-none-lasts s [] unused = refl
-none-lasts s (d ∷ B) unused = ap (λ y. filter (keeps s) (filter is_created y.snaps)) (unused 0 d refl).1
-
 can-open : (B : List Durable) → AreUnused B → CanOpen B
 can-open B unused = record { sound = unused-sound B unused; floored = unused-floored B unused }
 
 -- with a script's containers they have no more than 256
 few-together : (s : Script) (incarnation : ℕ) → length s.conts ≤ 256 → length (enlisted (declared_conts s) (empty_durable incarnation)).conts ≤ 256
-few-together s incarnation few = (fresh-opens s 1 0 0 incarnation few).0.form.few_conts
+unfolding enlisted
+few-together s incarnation few =
+    let k : length (with_conts (declared_conts s) []) ≤ 0 + length (declared_conts s) = conts-few (declared_conts s) [] in
+    let l : length (declared_conts s) ≡ length s.conts = length-map (λ (d : ContDecl). d.id) s.conts in
+    omega (arith, k, l, few)
 
 -- what its next opening may find
 abbrev pub found_in : PlainStore → Durable → Type 0

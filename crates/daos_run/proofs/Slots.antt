@@ -4,7 +4,7 @@ use Rattle.std.proofs.Common.{inl, inr, sym, ◌∙◌, ap, subst, arith}
 use Rattle.std.proofs.lemmas.Bool.{cases_eq}
 use Rattle.std.proofs.lemmas.Option.{slice_get_within}
 use Rattle.model_laws.specs.Lists.{length-replicate}
-use Rattle.daos_run.specs.Slots.{AreBack, HaveStores, IsAt}
+use Rattle.daos_run.specs.Slots.{HaveStores, IsAt}
 use Rattle.run_targets.specs.Ends.{one-there}
 use Rattle.run_targets.specs.Below.{TargetOf, length-set}
 use Rattle.world_base.specs.StepLaws.{set-here, set-there}
@@ -135,8 +135,3 @@ module _ {S C : Type 0} where
         waits = λ t low. ap (λ l. slice_get l t) is ∙ set-there now (length left') t (Some (x.store, x.clock)) (λ same. omega (arith, low, same)) ∙ k.waits t (omega (arith, longer, low));
         others = λ t past. ap (λ l. slice_get l t) is ∙ set-there now (length left') t (Some (x.store, x.clock)) (λ same. omega (arith, past, same, longer, many)) ∙ k.others t past;
       }
-
-  pub all-back : (all left : List (TargetOf S C)) (old now : List (Option (S × C))) (n : ℕ) → AreBackSoFar all left old now n → n ≡ length all → AreBack all old now
-  all-back all left old now n k done =
-      let many = k.so_many in
-      record { many = k.many; back = λ t x at. k.back t x (omega (arith, many, done)) at; left = k.others }

@@ -10,7 +10,7 @@ use Rattle.daos_run.specs.Slots.{AreAsBefore, AreBack, AreClocksIn, AreSet, AreT
 use Rattle.daos_run.specs.Starts.{AreStarted, StartsOver}
 use Rattle.daos_run.proofs.Places.{at-low}
 use Rattle.daos_run.proofs.Slots.{at-end, length-end, same-pair}
-use Rattle.daos_run.proofs.Taking.{none-taken, one-taken}
+use Rattle.daos_run.proofs.Taking.{one-taken}
 use Rattle.run_targets.specs.Ends.{AreClocksAt}
 use Rattle.run_targets.specs.Below.{AreServed, IsServed, TargetOf, length-set}
 use Rattle.target_parts.specs.Readings.{IsReadOn}
@@ -25,13 +25,6 @@ module _ {S C : Type 0} (durable : S → Option Durable) (j : Job) where
     pub started : AreStarted durable j n old xs
     pub taken : AreTaken n old slots
     pub room : j.targets ≤ cap
-
-  pub none-started : (old : List (Option (S × C))) (xs : List (TargetOf S C)) (cap : ℕ) → xs ≡ [] → j.targets ≤ cap → AreStartedSoFar 0 old old xs cap
-  none-started old xs cap none room = record {
-    started = record { many = ap length none; each = λ t x pair at here. (let bad : slice_get [] t ≡ Some x = ap (λ ys. slice_get ys t) (sym none) ∙ at in let no : ⊥ = cc in absurd no) };
-    taken = none-taken old;
-    room = room;
-  }
 
   pub one-started : (n : ℕ) (old slots slots' : List (Option (S × C))) (xs xs' : List (TargetOf S C)) (cap cap' : ℕ) (pair : S × C) (x : TargetOf S C) → AreStartedSoFar n old slots xs cap → IsAt slots n pair → slots' ≡ set slots n None
       → xs' ≡ xs ++ x ∷ [] → cap ≤ cap' → StartsOver durable j n pair x → AreStartedSoFar (n + 1) old slots' xs' cap'
@@ -97,10 +90,6 @@ module _ {S C : Type 0} (durable : S → Option Durable) (j : Job) where
       };
       same = there-again;
     }
-
-  -- ---- nothing was taken
-  pub all-as_before : (old : List (Option (S × C))) → AreSet j.targets old → AreAsBefore j.targets old old
-  all-as_before old before = record { set = before; same = λ u x at. at }
 
   -- ---- all started, and ran
   module _ (old slots new : List (Option (S × C))) (xs ys : List (TargetOf S C)) (before : AreSet j.targets old) (A : AreStarted durable j j.targets old xs) (T : AreTaken j.targets old slots)

@@ -1,5 +1,5 @@
 -- A run of targets that started over stores which were opened for it, from the clients' first turns to the report.
-use Rattle.std.specs.Prelude.{ℕ, ◌≡◌, ◌≤◌, ◌<◌, ◌+◌, ◌^◌, Bool, true, false, List, [], length, map, slice_get, Option, Some, None, is_some, Ok, refl}
+use Rattle.std.specs.Prelude.{ℕ, ◌≡◌, ◌≤◌, ◌<◌, ◌+◌, ◌^◌, Bool, true, false, List, length, map, slice_get, Option, Some, None, is_some, Ok, refl}
 use Rattle.std.proofs.Math.Path.{path_j, subst_refl}
 use Rattle.std.proofs.Common.{inr, sym, ◌∙◌, ap, subst, arith}
 use Rattle.std.proofs.lemmas.Bool.{true≢false}
@@ -28,7 +28,7 @@ use Rattle.daos_run.proofs.Disarmed.{kept-from, unfused-free, unfused-may_run, u
 use Rattle.daos_run.proofs.Places.{at-low, in-place, store-at, stores-back, stores-many}
 use Rattle.daos_run.proofs.Slots.{same-pair}
 use Rattle.model_laws.specs.Lists.{at-within}
-use Rattle.run_targets.specs.Ends.{AllTell, BeginsSo, BreaksOffSo, ClocksGave, ComesTo, HaveStarted, IsOutside, IsSoundAgain, RunsPlainly, first_world, from-map, given_by, one-there, or_empty, same-lists, state_now, stores_of}
+use Rattle.run_targets.specs.Ends.{AllTell, BeginsSo, BreaksOffSo, ClocksGave, ComesTo, HaveStarted, IsOutside, IsSoundAgain, first_world, from-map, given_by, one-there, or_empty, same-lists, state_now, stores_of, rules_of, durable_of, durables_of}
 use Rattle.run_opening.specs.All.{AreKept, FromTo as ListsFromTo, MayBeFound}
 use Rattle.run_opening.specs.Opened.{lasting_snaps}
 use Rattle.run_targets.specs.Below.{AreAlike, TargetOf, served-by-runs, served-on}
@@ -37,8 +37,6 @@ use Rattle.run_starts.specs.Starts.{AreOpened, BeginsAs, CanOpen, begun_family}
 use Rattle.vos_store.specs.Calls.{State}
 use Rattle.world_base.specs.declared.world.World.{World}
 use Rattle.world_base.specs.Events.{Rules}
-use Rattle.world_plain.specs.ends.Ends.{durable_of, durables_of, rules_of}
-use Rattle.world_plain.specs.whole.Begins.{IsSimple}
 use Rattle.run_starts.specs.Below.{AreRulesInForm}
 
 -- ---- what stores keep that tell it
@@ -257,19 +255,6 @@ module _ {S C : Type 0} (durable : S → Option Durable) (state : S → State) (
         pub started : HaveStarted durable state (given s j B free) cs xs
         started = have-started durable state s j (opening_of s B free) tracker held cs xs F K so.tracker_is A.many some few least (ready free) (λ told. begins-so)
 
-        -- and where no snapshot lasts over the opening, and the script makes none, as if there were no snapshots
-        pub runs-plainly : lasting_snaps s B ≡ [] → IsSimple r → RunsPlainly durable (given s j B free) (stores_in opened)
-        runs-plainly none simple =
-            let plain = so.begins.plain none free in
-            record {
-              simple = simple;
-              opening = plain.plain;
-              unsnapped = λ t x d at told.
-                  let f = at-within (begun_family s B) t (subst (λ n. t < n) (sym so.kept.many) (slice_get_within (stores_in opened) t x at)) in
-                  let same : f.0 ≡ d = let e : Some f.0 ≡ Some d = sym (so.kept.each t x f.0 at f.1) ∙ told in cc in
-                  subst (λ y. y.snaps ≡ []) same (plain.each t f.0 f.1).snaps;
-            }
-
     -- whether or not they tell what they keep
     module _ (alike : AreAlike durable) (lease : ℕ) (is : tracker ≡ record { 0 = restart_floor lease }) where
       started-untold : ((y : S) → is_some (durable y) ≡ true → ⊥) → HaveStarted durable state (given_by s j (untold lease)) cs xs
@@ -336,12 +321,12 @@ module _ {S C : Type 0} (durable : S → Option Durable) (state : S → State) (
         kept = λ B k. (O B (now-kept B k)).kept;
         since = since;
         comes = ends-so L free q c;
-        plain = λ B other k is none simple.
+        unsnapped = λ B k none.
             (let same : B ≡ L = same-lists B L (k.many ∙ sym kept.many) (λ t d e at to.
             let x = at-within (stores_in old) t (subst (λ n. t < n) k.many (slice_get_within B t d at)) in
             let two : Some d ≡ Some e = sym (k.each t x.0 d x.1 at) ∙ kept.each t x.0 e x.1 to in
             let one : d ≡ e = cc in one) in
-            runs-plainly L kept free room (ap (lasting_snaps s) (sym same) ∙ none) simple);
+            (O L (now-kept L kept)).begins.unsnapped (ap (lasting_snaps s) (sym same) ∙ none));
         sound = λ E k can lasts found.
             again-so lasts ((ends-so L free q c).sound (begun_family s E) (record { many = (O E (now-kept E k)).kept.many; each = (O E (now-kept E k)).kept.each }) (O E (now-kept E k)).begins.sound lasts found);
       }

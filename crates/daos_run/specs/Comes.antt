@@ -6,10 +6,9 @@ use Rattle.daos_model.specs.declared.durable.Durable.{Durable}
 use Rattle.daos_model.specs.Changes.{enlisted}
 use Rattle.daos_model.specs.Durables.{empty_durable}
 use Rattle.daos_model.specs.Opening.{Given, Outside}
-use Rattle.daos_model.specs.Finals.{opening_of}
 use Rattle.model_reports.specs.Rooms.{HasPlaces}
 use Rattle.daos_run.specs.Slots.{AreClocksIn, stores_in}
-use Rattle.run_targets.specs.Ends.{ClocksGave, ComesTo, FollowsOrder, IsOutside, RunsPlainly, StandsForAttempts, memory_at_first}
+use Rattle.run_targets.specs.Ends.{ClocksGave, ComesTo, FollowsOrder, IsOutside, StandsForAttempts, memory_at_first, rules_of, declared_conts}
 use Rattle.run_opening.specs.All.{AreKept, FromTo, MayBeFound}
 use Rattle.run_opening.specs.Left.{IsLeftOf}
 use Rattle.run_opening.specs.Opened.{lasting_snaps}
@@ -18,8 +17,7 @@ use Rattle.run_starts.specs.Starts.{CanOpen, begun_family}
 use Rattle.script_traits.specs.Plain.{IsPlain}
 use Rattle.vos_store.specs.Calls.{State}
 use Rattle.world_base.specs.declared.target.TargetState.{TargetState}
-use Rattle.world_plain.specs.ends.Ends.{rules_of}
-use Rattle.world_plain.specs.whole.Begins.{IsSimple, declared_conts}
+pub use Rattle.run_targets.specs.Ends.{AreIssuedThere}
 
 -- A script makes no snapshot, or beside so many there is a place for each that it makes, each attempted as often as is allowed.
 abbrev pub FindsPlaces : Script → ℕ → ℕ → Type 0
@@ -32,8 +30,8 @@ pub record IsOpenedFrom {S : Type 0} (durable : S → Option Durable) (state : S
   pub still : (d : Durable) → durable old ≡ Some d → d.entries ≡ [] → (state new).free ≡ (state old).free
 
 -- What a run comes to from these stores: what it comes to from them once they got the script's containers and were opened together. An outside
--- that may have failed them since before may have failed them since. Where no snapshot lasts over the opening, and the script makes none, it runs as
--- if there were no snapshots. Whatever the next openings find, another run of any script may begin with it, where one might begin with these stores.
+-- that may have failed them since before may have failed them since. Where no snapshot lasts over the opening, none is there when the run
+-- begins. Whatever the next openings find, another run of any script may begin with it, where one might begin with these stores.
 pub record ComesFrom {S : Type 0} (durable : S → Option Durable) (state : S → State) (may : S → Durable → Type 0) (g : Given) (old new : List S) (q : Report) : Type 0 where
   pub opened : List S
   pub many : length opened ≡ length old
@@ -41,7 +39,7 @@ pub record ComesFrom {S : Type 0} (durable : S → Option Durable) (state : S �
   pub kept : (B : List Durable) → AreKept durable old B → AreKept durable opened (begun_family g.script B)
   pub since : (o : Outside) → IsOutside state o old new → IsOutside state o opened new
   pub comes : ComesTo durable state may g opened new q
-  pub plain : (B : List Durable) (free : ℕ → ℕ) → AreKept durable old B → g.opening ≡ opening_of g.script B free → lasting_snaps g.script B ≡ [] → IsSimple (rules_of g) → RunsPlainly durable g opened
+  pub unsnapped : (B : List Durable) → AreKept durable old B → lasting_snaps g.script B ≡ [] → g.opening.stand.snaps ≡ []
   pub sound : (B : List Durable) → AreKept durable old B → CanOpen B → (lasts : List Durable) → MayBeFound may new lasts → CanOpen lasts
 
 -- So it comes from these stores with their clocks; and in the run that the report follows, the clock at each place gave just the readings at which its

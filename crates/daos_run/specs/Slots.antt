@@ -54,10 +54,6 @@ pub record AreClocksIn {S C : Type 0} (old new : List (Option (S × C))) (t : �
 abbrev pub AreFree : {S C : Type 0} → (S → State) → List (Option (S × C)) → (ℕ → ℕ) → Type 0
 AreFree state slots free = EachStore (λ t store. free t ≤ (state store).free) slots
 
--- so many blocks are free on each target, and no more
-abbrev pub AreFreeExactly : {S C : Type 0} → (S → State) → List (Option (S × C)) → (ℕ → ℕ) → Type 0
-AreFreeExactly state slots free = EachStore (λ t store. (state store).free ≡ free t) slots
-
 -- between these two moments each store had calls
 abbrev pub StoresAreServed : {S C : Type 0} → (S → Option Durable) → (S → State) → List (Option (S × C)) → List (Option (S × C)) → Type 0
 StoresAreServed durable state old new = FromTo old new (λ t a b. IsServed (state a) (state b) (durable a) (durable b))

@@ -9,7 +9,7 @@ ghost use Rattle.daos_run.specs.Stops.{ArePartsCalled, MayStop, stopped_by};
 ghost use Rattle.run_opening.specs.All.{AreKept, MayBeFound};
 ghost use Rattle.run_opening.specs.Left.{IsLeftOf};
 ghost use Rattle.run_starts.specs.Starts.{AreOpened, CanOpen, MayOpenAgain};
-ghost use Rattle.world_plain.specs.whole.Begins.{declared_conts};
+ghost use Rattle.run_targets.specs.Ends.{declared_conts};
 
 use crate::apart::{set_back, take_all};
 use crate::parts::Parts;

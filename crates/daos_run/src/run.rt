@@ -3,8 +3,7 @@ ghost use Rattle.std.specs.Prelude.{◌≡◌, ◌≤◌, [], replicate, IfOk, I
 ghost use Rattle.daos_model.specs.Opening.{fresh};
 ghost use Rattle.daos_run.specs.Back.{IsReadBack};
 ghost use Rattle.daos_run.specs.Comes.{FindsPlaces, FollowsFromZeros};
-ghost use Rattle.run_targets.specs.Ends.{IsInRealTime, IsLegal};
-ghost use Rattle.world_plain.specs.lone.LoneRuns.{AreIssuedThere};
+ghost use Rattle.run_targets.specs.Ends.{IsInRealTime, IsLegal, AreIssuedThere};
 ghost use Rattle.report_writer.specs.Forms.{IsReportOf};
 ghost use Rattle.model_lone.specs.Only.{TellsOfOnlyClient};
 ghost use Rattle.model_reports.specs.Lone.{HasOneClient};

@@ -2,6 +2,7 @@
 ghost use Rattle.std.specs.Prelude.{◌≡◌, ◌≤◌, ℕ, List, [], length, IfErr, IfOk};
 ghost use Rattle.daos_model.specs.declared.durable.Durable.{Durable};
 ghost use Rattle.daos_model.specs.Stops.{stop_numbers};
+ghost use Rattle.daos_run.specs.Alone.{TellsOfLoneClient};
 ghost use Rattle.daos_run.specs.Back.{IsReadBack};
 ghost use Rattle.daos_run.specs.Comes.{BreaksOff, ComesFrom, ComesFromClocks, FindsPlaces};
 ghost use Rattle.daos_run.specs.Opens.{MayRun, given};
@@ -13,14 +14,12 @@ ghost use Rattle.model_reports.specs.Rooms.{FindsRoom, HasPlaces, HasRoom, Snaps
 ghost use Rattle.run_targets.specs.Below.{AllBeginInTurn, AllTellInOrder};
 ghost use Rattle.world_ended.specs.Clients.{AllEndWell};
 ghost use Rattle.world_letters.specs.kinds.Fitting.{AllAnswersFit};
-ghost use Rattle.run_targets.specs.Ends.{IsKeyed, IsReportOfLines, TellsOfLoneClient};
+ghost use Rattle.run_targets.specs.Ends.{IsKeyed, IsReportOfLines, declared_conts};
 ghost use Rattle.report_round_trip.specs.Values.{AllTellBytes};
 ghost use Rattle.run_opening.specs.All.{AreKept, MayBeFound};
-ghost use Rattle.run_opening.specs.Opened.{lasting_snaps};
 ghost use Rattle.run_starts.specs.Starts.{CanOpen};
 ghost use Rattle.base_types.specs.Scripts.{IsInForm};
 ghost use Rattle.script_traits.specs.Plain.{IsPlain};
-ghost use Rattle.world_plain.specs.whole.Begins.{declared_conts};
 
 use crate::opening::{clients_of, open_parts};
 use crate::parts::Parts;
@@ -90,7 +89,7 @@ pub fn run_on<R: Threads + Wait + Sync, S: Fuse + Send, C: Clock + Send, G: Gate
     ensures alone { (B : List Durable) → AreKept S.durable (stores_in parts.old) B → (free : ℕ → ℕ) → AreFree S.state parts.old free
         → HasOneClient script.now → IfOk result (λ report. stop_numbers report.lines ≡ [] → TellsOfOnlyClient script.now report) }
     ensures lone { (B : List Durable) → AreKept S.durable (stores_in parts.old) B → (free : ℕ → ℕ) → AreFree S.state parts.old free
-        → lasting_snaps script.now B ≡ [] → IsPlain script.now → HasOneClient script.now → script.now.stops ≡ []
+        → IsPlain script.now → HasOneClient script.now → script.now.stops ≡ []
         → IfOk result (λ report. stop_numbers report.lines ≡ [] → TellsOfLoneClient (given script.now job.now B free) report) }
     ensures told { IfOk result (IsReportOfLines script.now) }
     ensures in_turn { IfOk result (λ report. AllBeginInTurn job.now.attempts script.now report.lines) }

@@ -6,6 +6,7 @@ pub mod Lines
 pub mod Lone
 pub mod Once
 pub mod Restarts
+pub mod Resolved
 pub mod RoomLaws
 pub mod Rooms
 pub mod Stopless

@@ -1,8 +1,6 @@
 pub mod Changes
 pub mod Letters
 pub mod Numbers
-pub mod OrderLaws
-pub mod Orders
 pub mod Picked
 pub mod Picks
 pub mod Quiet

@@ -1,7 +1,7 @@
 -- Which actors have something to do, and what a turn of an actor is.
-use Rattle.std.specs.Prelude.{ℕ, zero, suc, ◌≡◌, ◌++◌, Bool, true, false, ◌||◌, not, nat_lt, List, [], ◌∷◌, filter, length, slice_get, Option, Some, None, if◌then◌else◌}
+use Rattle.std.specs.Prelude.{ℕ, zero, suc, ◌++◌, Bool, true, false, ◌||◌, not, nat_lt, List, [], ◌∷◌, filter, length, slice_get, Option, Some, None, if◌then◌else◌, ◌%◌, ◌==◌}
 use Rattle.base_messages.specs.declared.actor.ActorId.{ActorId}
-use Rattle.run_base.specs.Letters.{IsPicked, letters_to}
+use Rattle.run_base.specs.Letters.{letters_to}
 use Rattle.world_base.specs.declared.client.ClientPlan.{ClientPlan}
 use Rattle.world_base.specs.declared.client.ClientState.{ClientState}
 use Rattle.world_base.specs.declared.letter.Letter.{Letter}
@@ -11,9 +11,10 @@ use Rattle.world_base.specs.declared.target.TargetPlan.{TargetPlan}
 use Rattle.world_base.specs.declared.target.TargetState.{TargetState}
 use Rattle.world_base.specs.declared.world.World.{World}
 use Rattle.world_base.specs.ClientTurns.{is_done, waits}
-use Rattle.world_base.specs.Events.{ClientGoes, ClientHears, Rules, TargetHears, TargetIdles, client_plan, target_plan}
+use Rattle.world_base.specs.Events.{Rules, client_plan, target_plan}
 use Rattle.world_base.specs.Letters.{client, target}
 use Rattle.world_base.specs.Idle.{has_idle}
+use Rattle.base_random.specs.Draws.{drawn}
 
 -- ---- actors
 
@@ -79,12 +80,10 @@ is_due settling r w a =
 abbrev pub due : Bool → Rules → World → List ActorId
 due settling r w = filter (is_due settling r w) (actors w)
 
--- ---- turns
+-- a number below so many, by the one drawn after x; where there is none, none is drawn
+abbrev pub pick : ℕ → ℕ → ℕ
+pick x many = if many == 0 then 0 else drawn x % many
 
--- A turn of an actor, from one world to the next. Where it hears a letter in it, that is the one of number k, from 0 and in order of
--- sending, among those in flight to it; where it hears none, a client goes on or counts a skip, and a target does its idle work.
-pub data TurnOf (settling : Bool) (r : Rules) (a : ActorId) (k : ℕ) (w v : World) : Type 0 where
-  Going : (g : ClientGoes r w v) → a ≡ client g.n → heard w a ≡ 0 → TurnOf settling r a k w v
-  Hearing : (g : ClientHears r w v) → a ≡ client g.n → IsPicked w.messages a k g.l g.rest → TurnOf settling r a k w v
-  Serving : (g : TargetHears r w v) → a ≡ target g.t → IsPicked w.messages a k g.l g.rest → TurnOf settling r a k w v
-  Idling : (g : TargetIdles r w v) → g.settling ≡ settling → a ≡ target g.t → heard w a ≡ 0 → TurnOf settling r a k w v
+-- what was drawn last then
+abbrev pub after_pick : ℕ → ℕ → ℕ
+after_pick x many = if many == 0 then x else drawn x

@@ -37,14 +37,14 @@ QuietSkipsNone = (settling : Bool) (r : Rules) (w : World) (n : ℕ) (c : Client
 
 -- ---- lists
 
-none-passes : {T : Type 0} (test : T → Bool) (xs : List T) (x : T) → filter test xs ≡ [] → Has x xs → test x ≡ false
+pub none-passes : {T : Type 0} (test : T → Bool) (xs : List T) (x : T) → filter test xs ≡ [] → Has x xs → test x ≡ false
 none-passes {T = T} test xs x none i = by (test x) refl
   where
     by : (b : Bool) → test x ≡ b → test x ≡ false
     by true h = let no : Has x [] = subst (λ ys. Has x ys) none (has-filter test xs x i h) in absurd no
     by false h = h
 
-has-number : (name : ℕ → ActorId) (n k : ℕ) → k < n → Has (name k) (numbered name n)
+pub has-number : (name : ℕ → ActorId) (n k : ℕ) → k < n → Has (name k) (numbered name n)
 has-number name zero k within = absurd (omega (arith, within))
 has-number name (suc n) k within = elim (cases_eq k n) [
   | inl same ↦ has-right (numbered name n) (name n ∷ []) (name k) (inl (ap name same))
@@ -56,17 +56,17 @@ within-length [] n x h = let no : ⊥ = cc in absurd no
 within-length (y ∷ ys) zero x h = omega arith
 within-length (y ∷ ys) (suc n) x h = let k : n < length ys = within-length ys n x h in omega (arith, k)
 
-none-left : {T : Type 0} (xs : List T) → not (length xs == 0) ≡ false → xs ≡ []
+pub none-left : {T : Type 0} (xs : List T) → not (length xs == 0) ≡ false → xs ≡ []
 none-left [] h = refl
 none-left (x ∷ xs) h = let no : ⊥ = grind (arith, nat_tests) in absurd no
 
 -- ---- tests
 
-left-false : (a b : Bool) → a || b ≡ false → (a ≡ false) × (b ≡ false)
+pub left-false : (a b : Bool) → a || b ≡ false → (a ≡ false) × (b ≡ false)
 left-false true b h = let no : ⊥ = cc in absurd no
 left-false false b h = (refl, h)
 
-one-true : (a b : Bool) → not (a || b) ≡ false → (a ≡ true) ⊎ (b ≡ true)
+pub one-true : (a b : Bool) → not (a || b) ≡ false → (a ≡ true) ⊎ (b ≡ true)
 one-true true b h = inl refl
 one-true false true h = inr refl
 one-true false false h = let no : ⊥ = cc in absurd no

@@ -1,6 +1,6 @@
 // What a run in an order reports, where targets may stop and open again.
 
-ghost use Rattle.run_laws.specs.reports.Reports.{NoneUnknownWithoutGivenUp, OrdersAreLegal, OrdersIssueThere, OrdersLeaveInTheEnd, OrdersOfOnlyClients, OrdersReportInForm, UnknownIsOfGivenUp, UnstoppedOrdersEndPlainly, UnstoppedOrdersOfLoneClients};
+ghost use Rattle.run_laws.specs.reports.Reports.{NoneUnknownWithoutGivenUp, OrdersAreLegal, OrdersIssueThere, OrdersLeaveInTheEnd, OrdersOfOnlyClients, OrdersReportInForm, UnknownIsOfGivenUp, UnstoppedOrdersEndPlainly};
 
 /// Says what a run in the order that the job names comes to, where targets may stop, open again, or be given
 /// up, snapshots be made and read, and containers aggregated, of a script in form, from its beginning. Each epoch of
@@ -22,14 +22,12 @@ pub fn laws_of_ordered_reports()
     ensures alone { OrdersOfOnlyClients }
 {}
 
-/// Says that such a run of a script without snapshots and aggregation, over stores without snapshots, of which no
-/// line tells of a stop ends as one in which nothing can stop: its report is legal though the outside failed no
-/// region, whichever attempts are taken as resolved; it names no target as given up; its lines tell of attempts
-/// alone, and of each what became of it; and nothing is left to settle at any target. So what holds of a client that
-/// is alone holds of it.
+/// Says that such a run of which no line tells of a stop ends as one in which nothing can stop, whatever its script does:
+/// its report is legal though the outside failed no region, whichever attempts are taken as resolved; it names no
+/// target as given up, and it is known what became of each attempt; and nothing is left to settle at any target: each
+/// entry is committed, and so at all members of its attempt.
 pub fn laws_of_unstopped_reports()
-    ensures plainly { UnstoppedOrdersEndPlainly }
-    ensures lone { UnstoppedOrdersOfLoneClients }
+    ensures { UnstoppedOrdersEndPlainly }
 {}
 
 /// Says that a legal report tells of an attempt as unknown only by a target of the attempt that was given up,

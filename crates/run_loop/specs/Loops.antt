@@ -7,8 +7,7 @@ use Rattle.std.proofs.lemmas.List.Elements.{All-get_or}
 use Rattle.base_messages.specs.declared.actor.ActorId.{ActorId}
 use Rattle.base_random.specs.Draws.{drawn}
 use Rattle.daos_model.specs.declared.durable.Durable.{Durable}
-use Rattle.run_base.specs.Orders.{after_pick, pick}
-use Rattle.run_base.specs.Picks.{is_due, numbered}
+use Rattle.run_base.specs.Picks.{is_due, numbered, after_pick, pick}
 use Rattle.run_stage.specs.Below.{AllAreDue, GoesOn, IsBothWays, IsRun, Shows, StageNow, Way, all-draws-way, all-rounds-way, all_from_draw, all_rounds, client-due-shown, draws-are-run, due-shown, first_targets, from_draw, goes-as, goes-then, had-none-way, had-turn-way, heard_in, is_due_client, many-clients, more-draws-way, more-rounds-way, round-way, round_of, rounds-are-run, some_rounds, turn_of, turned, turns-are-run}
 use Rattle.vos_store.specs.Calls.{State}
 use Rattle.world_base.specs.declared.world.World.{World}

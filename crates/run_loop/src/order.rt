@@ -3,8 +3,7 @@ ghost use Rattle.std.specs.Prelude.{◌≡◌, ◌≤◌, ◌<◌, ℕ, Bool, Li
 ghost use Rattle.base_types.specs.declared.script.StopDecl.{StopDecl};
 ghost use Rattle.daos_model.specs.declared.durable.Durable.{Durable};
 ghost use Rattle.daos_model.specs.Opening.{Opening};
-ghost use Rattle.run_base.specs.Orders.{after_pick, pick};
-ghost use Rattle.run_base.specs.Picks.{count_to};
+ghost use Rattle.run_base.specs.Picks.{after_pick, count_to, pick};
 ghost use Rattle.run_stage.specs.Below.{AllBeginInTurn, AllCanReopen, AllTellInOrder, AnswersGoOn, AreAccounted, AreDrawn, AreServed, Breaks, CanGo, EndsGoOn, GoesOn, HasRunWith, IsActor, IsUp, RunBegins, Shows, TellInTurn, all_from_draw, all_rounds, heard_in, in_order, left_of, round_of, turn_of};
 ghost use Rattle.world_ended.specs.Clients.{AllEndWell};
 ghost use Rattle.world_letters.specs.kinds.Fitting.{AllAnswersFit};

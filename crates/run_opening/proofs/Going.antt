@@ -3,7 +3,7 @@ use Rattle.std.specs.Prelude.{◌≡◌, Bool, false, [], Option, Some, None, Re
 use Rattle.std.specs.Option.{option_map}
 use Rattle.std.proofs.Common.{refl, ◌∙◌, ap, subst, arith}
 use Rattle.daos_model.specs.declared.durable.Durable.{Durable}
-use Rattle.vos_store.specs.Calls.{Looks, Makes, State, Turns}
+use Rattle.vos_store.specs.Calls.{Makes, State, Turns}
 use Rattle.vos_store.specs.Refusals.{says}
 use Rattle.target_parts.specs.Running.{runs_as, runs_call, runs_first, runs_on, still_runs}
 use Rattle.run_opening.specs.Steps.{Goes, same}
@@ -71,20 +71,6 @@ goes-call stop result c h k old new may may' running t m still = record {
   made = m.done;
   still = on-any result still;
 }
-
--- and one that changes nothing
-pub goes-look : {T E : Type 0} (stop : E → Bool) (result : Result T E) (h k : State) (old new : Option Durable) (may may' : Durable → Type 0) → h.stopped ≡ false
-    → Turns 0 stop result h k → k.free ≡ h.free → Looks (says stop result) old new may may' → Goes stop same result h k old new
-goes-look {T = T} {E = E} stop result h k old new may may' running t free m = record {
-  runs = runs_call 0 stop result h k old new running t m.told;
-  free = (let p = t.free in omega arith);
-  made = by result m.same;
-  still = on-any result (λ d is none. (free, none));
-}
-  where
-    by : (result : Result T E) → (says stop result ≡ false → new ≡ old) → OnOk result (new ≡ option_map same old)
-    by (Ok x) is = is refl ∙ map-itself old
-    by (Err e) is = tt
 
 -- what is told now comes of what was told before
 pub was : (c : Durable → Durable) (old new : Option Durable) (x : Durable) → new ≡ option_map c old → new ≡ Some x → (d : Durable) × (old ≡ Some d) × (x ≡ c d)

@@ -12,7 +12,7 @@ use Rattle.base_types.specs.declared.snapshot.Snap.{Snap}
 use Rattle.daos_model.specs.declared.durable.Durable.{Durable}
 use Rattle.daos_model.specs.Changes.{settled, thawed}
 use Rattle.model_laws.specs.TargetLaws.{number_same}
-use Rattle.vos_store.specs.Calls.{Looks, Makes, State}
+use Rattle.vos_store.specs.Calls.{Makes, State}
 use Rattle.run_opening.specs.declared.stop.OpeningStop.{OpeningStop}
 use Rattle.run_opening.specs.All.{AllRun, GoesAll, GoesAt, alike}
 use Rattle.run_opening.specs.Left.{Leaves, LeavesAll, LeavesAt, first_ended, first_forgotten, first_thawed, nothing, only_parts, or_not}
@@ -83,9 +83,6 @@ module _ {S : Type 0} (durable : S → Option Durable) (state : S → State) (ma
       by : may old x ⊎ ((was ≡ false) × (Some x ≡ option_map change (durable old))) → (n : ℕ) × (x ≡ or_not change n d)
       by (inl before) = (0, steady old d x running told before)
       by (inr made) = (1, let e : Some x ≡ Some (change d) = made.1 ∙ ap (option_map change) told in cc)
-
-  pub leaves-look : (stopped : Bool) (old new : S) → (state old).stopped ≡ false → Looks stopped (durable old) (durable new) (may old) (may new) → Leaves durable may nothing old new
-  leaves-look stopped old new running k d x told found = (0, steady old d x running told (k.left x found))
 
   -- the same parts, said in another way of what is kept
   pub leaves-as : (p q : ℕ → Durable → Durable) (old new : S) → ((d : Durable) (n : ℕ) → durable old ≡ Some d → (m : ℕ) × (p n d ≡ q m d)) → Leaves durable may p old new → Leaves durable may q old new

@@ -105,9 +105,6 @@ left-some xs d rises =
 
 -- what a script drops isn't among what lasts
 module _ (s : Script) (F : List Durable) where
-  lasts : List Snap
-  lasts = lasting_snaps s F
-
   kept-of : (y : Snap) → is_at_one_of (lasting_snaps s F) y ≡ true → keeps s y ≡ true
   kept-of y at =
       let x = has-any (is_snap_at y.cont y.epoch) (lasting_snaps s F) at in

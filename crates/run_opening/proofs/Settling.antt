@@ -13,7 +13,6 @@ use Rattle.daos_model.specs.declared.durable.Version.{Version}
 use Rattle.daos_model.specs.BoolLaws.{clash, not_true, or_left, or_right}
 use Rattle.daos_model.specs.Changes.{committed_at, is_other}
 use Rattle.daos_model.specs.Durables.{entry_of, is_entry_of, same_attempt, version_key}
-use Rattle.daos_model.specs.EntryLaws.{same_attempt-itself}
 use Rattle.daos_model.specs.Sound.{IsOfEntry, SayTheSame}
 use Rattle.daos_model.specs.Versions.{done_by, is_not_pending, is_pending, writes_in}
 use Rattle.dtx_base.specs.LeaderLaws.{same-is}
@@ -61,9 +60,6 @@ same-found {T = T} p q (x ∷ xs) stays = by (q x) (p x) refl refl (same-found p
     by true c is at rest = ap (λ o. if p x then Some x else o) rest
     by false true is at rest = clash (q x) (stays x at) is
     by false false is at rest = rest ∙ sym (ap (λ (z : Bool). if z then Some x else find p xs) at)
-
-apart-from : (a b : AttemptId) → same_attempt a b ≡ false → a ≡ b → ⊥
-apart-from a b off is = clash (same_attempt a b) (ap (λ z. same_attempt a z) (sym is) ∙ same_attempt-itself a) off
 
 -- ---- one step
 

@@ -11,7 +11,6 @@ use Rattle.daos_model.specs.Family.{created_snaps, greatest_lease, stand}
 use Rattle.daos_model.specs.Finals.{opening_of}
 use Rattle.daos_model.specs.Opening.{kept}
 use Rattle.daos_model.specs.Sound.{Sound}
-use Rattle.world_plain.specs.ends.Settled.{OpenTogether}
 use Rattle.run_opening.specs.Opened.{AreFloored, AreInForm, enlisted_family, lasting_snaps, opened_family}
 
 -- ---- what an opening leaves
@@ -41,12 +40,6 @@ OpeningsKeepFloors = (s : Script) (F : List Durable) → AreFloored F → AreFlo
 
 abbrev pub OpeningsKeepForm : Type 0
 OpeningsKeepForm = (s : Script) (F : List Durable) → AreInForm F → AreInForm (opened_family s F)
-
--- Where no snapshot lasts, a run may begin with what sound targets keep after the opening, with what they stood for before it.
-abbrev pub RunsBeginOpened : Type 0
-RunsBeginOpened =
-    (s : Script) (F : List Durable) (free : ℕ → ℕ) → 0 < length F → AreInForm F → Sound F → lasting_snaps s F ≡ []
-    → OpenTogether (length F) (opened_family s F) (opening_of s F free)
 
 -- ---- the containers of a script
 

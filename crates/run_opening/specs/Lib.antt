@@ -5,7 +5,6 @@ pub mod All
 pub mod Laws
 pub mod StandLaws
 pub mod SoundLaws
-pub mod BeginLaws
 pub mod Alike
 pub mod AlikeSound
 pub mod EnlistLaws

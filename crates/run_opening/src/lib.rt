@@ -8,13 +8,12 @@ mod resolving;
 mod snaps;
 pub mod stop;
 
-ghost use Rattle.run_opening.specs.Laws.{EnlistingKeepsFloors, EnlistingKeepsForm, EnlistingKeepsOpenings, EnlistingKeepsSound, OpenedKnowContainers, OpeningsKeepFloors, OpeningsKeepForm, OpeningsKeepLeases, OpeningsKeepSound, OpeningsKeepWhatStands, OpeningsSettleAll, ReopeningKeepsFloors, ReopeningKeepsSound, RunsBeginOpened, UnusedAreFloored, UnusedAreSound, UnusedOpenAsTheyAre, UnusedStandForNothing};
+ghost use Rattle.run_opening.specs.Laws.{EnlistingKeepsFloors, EnlistingKeepsForm, EnlistingKeepsOpenings, EnlistingKeepsSound, OpenedKnowContainers, OpeningsKeepFloors, OpeningsKeepForm, OpeningsKeepLeases, OpeningsKeepSound, OpeningsKeepWhatStands, OpeningsSettleAll, ReopeningKeepsFloors, ReopeningKeepsSound, UnusedAreFloored, UnusedAreSound, UnusedOpenAsTheyAre, UnusedStandForNothing};
 
 /// Says what the opening of a run makes of what all targets keep. Nothing is left to settle: all versions
 /// are done, and there are no entries. They stand for exactly what they stood for before, but for the
 /// snapshots that the script drops; leases stay, and sound targets stay sound and in form, with each frozen
-/// snapshot at or below the floor of its container. So, where no snapshot lasts, a run may begin with them,
-/// and its opening is what they stood for.
+/// snapshot at or below the floor of its container.
 pub fn laws_of_openings()
     ensures settled { OpeningsSettleAll }
     ensures stands { OpeningsKeepWhatStands }
@@ -22,7 +21,6 @@ pub fn laws_of_openings()
     ensures sound { OpeningsKeepSound }
     ensures floors { OpeningsKeepFloors }
     ensures form { OpeningsKeepForm }
-    ensures begins { RunsBeginOpened }
 {}
 
 /// Says that containers that are enlisted before the opening change nothing of this: sound targets stay

@@ -2,7 +2,7 @@
 pub use Rattle.run_laws.specs.ends.Armed.{armed-accounted, armed-first, before-fuse, fuses-serve, fuses-started, fuses-tell, states_of, told-fuse}
 pub use Rattle.run_laws.specs.ends.Arming.{AreArmed, AreUnfused, HaveFuses, lines_left}
 pub use Rattle.run_laws.specs.ends.Begun.{IsFirstWatch, can-go, first-drawn, first_stage, nothing, run-begins, shows-first}
-pub use Rattle.run_laws.specs.ends.Comes.{AreIssuedSince, BreaksOffSo, ClocksGave, AreClocksAt, ComesByClocks, ComesTo, FollowsOrder, IsInRealTime, IsKeyed, IsLegal, IsOrdered, IsOutside, IsReportOfLines, IsSoundAgain, MayBeFound, RunsPlainly, StandsForAttempts, memory_at_first, report_with}
+pub use Rattle.run_laws.specs.ends.Comes.{AreIssuedSince, BreaksOffSo, ClocksGave, AreClocksAt, ComesByClocks, ComesTo, FollowsOrder, IsInRealTime, IsKeyed, IsLegal, IsOrdered, IsOutside, IsReportOfLines, IsSoundAgain, MayBeFound, StandsForAttempts, memory_at_first, report_with, AreIssuedThere, HasNoSnapshots}
 pub use Rattle.run_laws.specs.ends.Ending.{HasEndedSo, comes-by_clocks, comes-to}
 pub use Rattle.run_laws.specs.ends.FuseLaws.{next-left}
 pub use Rattle.run_laws.specs.ends.Keeping.{all-tell, breaks-off}
@@ -10,7 +10,7 @@ pub use Rattle.run_laws.specs.ends.Known.{legal-by-any}
 pub use Rattle.run_laws.specs.ends.Lasts.{some-may_be, some_lasts}
 pub use Rattle.run_laws.specs.ends.Places.{from-map, one-there, same-lists}
 pub use Rattle.run_laws.specs.ends.Starts.{AllTell, AreFirst, BeginsSo, HasStarted, HaveStarted, first_world, given_by, or_empty, state_now, stores_of, target_state}
-pub use Rattle.run_laws.specs.reports.Reports.{AreTyped, HasTypedNumbers, TellsOfLoneClient}
+pub use Rattle.run_laws.specs.reports.Reports.{AreTyped, HasTypedNumbers}
 pub use Rattle.run_laws.specs.shows.Accounts.{AreAccounted, AreServed, IsServed}
 pub use Rattle.run_laws.specs.shows.Asked.{AllTellInOrder, CameInOrder, TellsInOrder}
 pub use Rattle.run_laws.specs.shows.Beginning.{RunBegins}
@@ -42,3 +42,4 @@ pub use Rattle.run_laws.specs.turns.Orders.{AndThen, ByDraws, ByRounds, Draws, H
 pub use Rattle.run_laws.specs.turns.Readings.{HasGiven, readings_of}
 pub use Rattle.run_laws.specs.turns.Turns.{TurnOf, heard_in}
 pub use Rattle.target_core.specs.Targets.{TargetOf}
+pub use Rattle.run_laws.specs.reports.Closings.{declared_conts, durable_of, durables_of, first_tracker, rules_of}

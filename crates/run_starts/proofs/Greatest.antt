@@ -9,7 +9,7 @@ use Rattle.daos_model.specs.declared.durable.Durable.{Durable}
 use Rattle.daos_model.specs.Family.{greatest_lease}
 use Rattle.run_opening.specs.All.{AreKept}
 use Rattle.vos_store.specs.Calls.{State}
-use Rattle.world_plain.specs.ends.Settled.{lease-within, leases-below}
+use Rattle.world_closing.specs.stands.Lasting.{lease-within, leases-below}
 use Rattle.run_starts.specs.Calls.{AreCovered}
 use Rattle.run_starts.proofs.Adding.{same-at, there}
 

@@ -1,5 +1,5 @@
 -- Stores that are opened together for a run of a script.
-use Rattle.std.specs.Prelude.{ℕ, ◌≡◌, ◌≤◌, ◌<◌, ◌-◌, ◌^◌, false, List, [], ◌∷◌, filter, length, slice_get, Option, Some, Result, Ok, Err, IfOk, refl}
+use Rattle.std.specs.Prelude.{ℕ, ◌≡◌, ◌≤◌, ◌<◌, ◌-◌, ◌^◌, false, List, [], ◌∷◌, filter, length, map, slice_get, Option, Some, Result, Ok, Err, IfOk, refl}
 use Rattle.std.specs.Option.{ForSome, option_map}
 use Rattle.std.proofs.Common.{inl, sym, ◌∙◌, ap, subst, arith}
 use Rattle.base_types.specs.declared.epoch.Epoch.{Epoch}
@@ -10,7 +10,8 @@ use Rattle.base_types.specs.Epochs.{restart_floor}
 use Rattle.daos_model.specs.declared.durable.Durable.{Durable}
 use Rattle.daos_model.specs.Changes.{enlisted}
 use Rattle.daos_model.specs.Durables.{IsInForm}
-use Rattle.daos_model.specs.Family.{created_snaps, greatest_lease}
+use Rattle.daos_model.specs.Opening.{kept}
+use Rattle.daos_model.specs.Family.{stand, snap_map, created_snaps, greatest_lease}
 use Rattle.daos_model.specs.Finals.{opening_of}
 use Rattle.daos_model.specs.FormLaws.{length-map}
 use Rattle.daos_model.specs.Sound.{Sound}
@@ -20,26 +21,25 @@ use Rattle.run_opening.specs.declared.stop.OpeningStop.{OpeningStop}
 use Rattle.run_opening.specs.declared.stop.OpeningStop.TheVariants as opening
 use Rattle.run_opening.specs.All.{AllRun, AreKept, FromTo, MayBeFound, RunAll as OpeningRuns, is_fault_of as is_opening_fault}
 use Rattle.run_opening.specs.Alike.{KeepsData, created-alike}
-use Rattle.run_opening.specs.BeginLaws.{runs-begin}
 use Rattle.run_opening.specs.EnlistLaws.{enlisting-form, enlisting-openings, enlisting-sound, opened-knows}
 use Rattle.run_opening.specs.EnlistLeft.{enlisting-left, found-parts}
 use Rattle.run_opening.specs.FloorLaws.{enlisting-floored}
 use Rattle.run_opening.specs.Laws.{AreFew}
 use Rattle.run_opening.specs.Left.{IsLeftOf, LeavesAll, or_not}
 use Rattle.run_opening.specs.LeftLaws.{left-then}
-use Rattle.run_opening.specs.Opened.{AreInForm, enlisted_family, keeps, lasting_snaps, opened, opened_family}
+use Rattle.run_opening.specs.Opened.{AreInForm, enlisted_family, keeps, lasting_snaps, opened}
 use Rattle.run_opening.specs.SoundLaws.{at-mapped, opened-sound}
-use Rattle.run_opening.specs.StandLaws.{opened-leases, opened-stands}
+use Rattle.run_opening.specs.StandLaws.{created-opened, opened-leases, opened-stands}
 use Rattle.target_parts.specs.Parts.{Runs}
-use Rattle.target_parts.specs.Running.{runs_as, runs_first, runs_on}
+use Rattle.target_parts.specs.Running.{runs_as, runs_on}
 use Rattle.vos_store.specs.Calls.{State}
 use Rattle.vos_store.specs.Refusals.{always_stop, says}
-use Rattle.world_plain.specs.ends.Settled.{OpenTogether, leases-below}
-use Rattle.world_plain.specs.whole.Begins.{declared_conts}
+use Rattle.world_closing.specs.stands.Lasting.{leases-below}
+use Rattle.world_closing.specs.Below.{declared_conts}
 use Rattle.run_starts.specs.declared.stop.StartStop.{StartStop}
 use Rattle.run_starts.specs.Calls.{AreCovered, RunAll, WhyNotOpened, WithContainers}
 use Rattle.run_starts.specs.LastLaws.{opened-last}
-use Rattle.run_starts.specs.Starts.{AllBegin, AreHeldFirst, AreOpened, BeginPlainly, BeginsAs, CanOpen, IsWhole, MayOpenAgain, begun_family}
+use Rattle.run_starts.specs.Starts.{AllBegin, AreHeldFirst, AreOpened, BeginsAs, CanOpen, IsWhole, MayOpenAgain, begun_family}
 use Rattle.run_starts.specs.Stops.{is_fault_of, not_opened, wanting}
 use Rattle.run_starts.proofs.Adding.{same-at, there}
 
@@ -77,17 +77,6 @@ module _ {S : Type 0} (durable : S → Option Durable) (state : S → State) whe
     still = λ t a b at to. tt;
     own = k.own;
   }
-
-  -- no call was made for want of memory
-  pub run-none : {T : Type 0} (why : StartStop) (stores : List S) → why ≡ wanting → AllRun state stores → RunAll {T = T} durable state (Err why) stores stores
-  run-none {T} why stores is run = subst (λ w. RunAll {T = T} durable state (Err w) stores stores) (sym is) (record {
-    many = refl;
-    each = λ t x y at to. subst (λ z. Runs {T = T} (is_fault_of t) (Err wanting) (state x) (state z) (durable x) (durable z)) (same-at stores t x y at to)
-        (runs_as {T = Unit {0}} {U = T} always_stop (Ok (tt {0})) (is_fault_of t) (Err wanting) (state x) (state x) (durable x) (durable x) refl (runs_first (state x) (durable x) (run t x at)));
-    free = λ t x y at to. subst (λ z. (state x).free ≤ (state z).free) (same-at stores t x y at to) (omega arith);
-    still = λ t x y at to. tt;
-    own = λ t is. let no : ⊥ = cc in absurd no;
-  })
 
   -- no memory for more, after calls that came to their end
   pub run-wanting : {T U : Type 0} (x : T) (why : StartStop) (old new : List S) → why ≡ wanting → RunAll durable state (Ok x) old new → RunAll {T = U} durable state (Err why) old new
@@ -234,12 +223,15 @@ module _ (s : Script) (B : List Durable) (some : 0 < length B) (forms : AreInFor
         ap (λ y. y.incarnation) (sym e.2) ∙ ap (λ y. (opened s E y).incarnation) (sym f.2) ∙ counted s conts E f.0 ∙ ap (λ y. y.incarnation) (same-at B t f.0 b f.1 bt);
   }
 
+  same-stand : stand (begun_family s B) ≡ kept s (stand B)
+  same-stand = opened-stands s E ∙ ap (λ o. o.stand) (same-opening (λ t. 0))
+
   -- where no snapshot lasts
-  plainly : lasting_snaps s B ≡ [] → BeginPlainly s B
-  plainly none free =
-      subst (OpenTogether (length B) (opened_family s E)) (same-opening free)
-      (subst (λ n. OpenTogether n (opened_family s E) (opening_of s E free)) many
-      (runs-begin s E free (subst (λ n. 0 < n) (sym many) some) E-forms E-sound (ap (filter (keeps s)) (created-alike (enlisted conts) (keeps-data conts) B) ∙ none)))
+  unsnapped-then : lasting_snaps s B ≡ [] → (kept s (stand B)).snaps ≡ []
+  unfolding stand
+  unsnapped-then none =
+      ap (λ b. b.snaps) (sym same-stand)
+      ∙ ap (map (snap_map (begun_family s B))) (created-opened s E ∙ ap (filter (keeps s)) (created-alike (enlisted conts) (keeps-data conts) B) ∙ none)
 
   -- leases stay
   same-leases : greatest_lease (begun_family s B) ≡ greatest_lease B
@@ -248,10 +240,10 @@ module _ (s : Script) (B : List Durable) (some : 0 < length B) (forms : AreInFor
   pub all-begin : AllBegin s B
   all-begin = record {
     sound = opened-sound s E E-sound;
-    stands = opened-stands s E ∙ ap (λ o. o.stand) (same-opening (λ t. 0));
+    stands = same-stand;
     leases = same-leases;
     each = begins-as;
-    plain = plainly;
+    unsnapped = unsnapped-then;
   }
 
   pub low-leases : greatest_lease (begun_family s B) < 2 ^ 56

@@ -13,9 +13,7 @@ use Rattle.daos_model.specs.Changes.{enlisted}
 use Rattle.world_base.specs.declared.target.TargetState.{TargetState}
 use Rattle.world_base.specs.declared.world.World.{World}
 use Rattle.world_closing.specs.stands.Lasting.{AreLasting, BeginsKept, IsLasting, lasting-stores-begin}
-use Rattle.world_plain.specs.ends.Ends.{durable_of, durables_of}
-use Rattle.world_plain.specs.whole.BeginLaws.{get-map}
-use Rattle.world_plain.specs.whole.Begins.{declared_conts}
+use Rattle.world_closing.specs.Below.{durable_of, durables_of, get-map, declared_conts}
 use Rattle.run_starts.specs.Starts.{AllBegin, begun_family}
 
 -- Where the targets of a world keep what they keep that were opened for a run of a script, it may begin with them: with what they stood for, but for

@@ -1,5 +1,5 @@
 -- The world of targets that start over stores which were opened for a run of any script, and of its clients: a run begins with it.
-use Rattle.world_closing.specs.Below.{HoldNoMoreSnapshots, KeepsSnapshots, RunBeginsWith, begins-well, kept-no-more, snaps_held, without_snaps}
+use Rattle.world_closing.specs.Below.{HoldNoMoreSnapshots, KeepsSnapshots, RunBeginsWith, begins-well, kept-no-more, snaps_held, without_snaps, durables_of, OpensWith, StartsWith, first_tracker, no_joining, no_leading}
 use Rattle.std.specs.Prelude.{ℕ, ◌≡◌, ◌≤◌, ◌<◌, List, [], length, map, slice_get, Some}
 use Rattle.std.proofs.Common.{sym, ◌∙◌, ap, subst, arith}
 use Rattle.base_types.specs.declared.script.Command.{Command}
@@ -15,8 +15,6 @@ use Rattle.world_base.specs.ClientTurns.{at_first}
 use Rattle.world_base.specs.Events.{Rules}
 use Rattle.world_closing.specs.stands.Lasting.{BeginsKept}
 use Rattle.world_closing.specs.stands.Stands.{HoldsOpenings}
-use Rattle.world_plain.specs.ends.Ends.{durables_of}
-use Rattle.world_plain.specs.whole.Begins.{OpensWith, StartsWith, first_tracker, no_joining, no_leading}
 use Rattle.run_starts.specs.Begins.{many, opened-stores-begin, there}
 use Rattle.run_starts.specs.Starts.{AllBegin, AreHeldFirst, begun_family}
 

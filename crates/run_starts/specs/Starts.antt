@@ -1,12 +1,11 @@
 -- What a run of a script may begin with, and what its targets' stores keep then.
-use Rattle.std.specs.Prelude.{ℕ, ◌≡◌, ◌≤◌, List, [], length, slice_get, Option, Some}
+use Rattle.std.specs.Prelude.{ℕ, ◌≡◌, ◌≤◌, List, [], slice_get, Option, Some}
 use Rattle.base_types.specs.declared.epoch.Epoch.{Epoch}
 use Rattle.base_types.specs.declared.script.Script.{Script}
 use Rattle.base_types.specs.declared.snapshot.Snap.{Snap}
 use Rattle.base_types.specs.Epochs.{restart_floor}
 use Rattle.daos_model.specs.declared.durable.Durable.{Durable}
 use Rattle.daos_model.specs.Family.{greatest_lease, stand}
-use Rattle.daos_model.specs.Finals.{opening_of}
 use Rattle.daos_model.specs.Opening.{kept}
 use Rattle.daos_model.specs.Sound.{Sound}
 use Rattle.run_opening.specs.All.{AreKept}
@@ -14,8 +13,7 @@ use Rattle.run_opening.specs.Laws.{AreFew}
 use Rattle.run_opening.specs.Opened.{AreFloored, enlisted_family, lasting_snaps, opened_family}
 use Rattle.vos_store.specs.Calls.{State}
 use Rattle.world_closing.specs.stands.Lasting.{IsLasting}
-use Rattle.world_plain.specs.ends.Settled.{OpenTogether}
-use Rattle.world_plain.specs.whole.Begins.{AreEnlisted, declared_conts}
+use Rattle.world_closing.specs.Below.{AreEnlisted, declared_conts}
 
 -- what stores keep that are sound together, with each frozen snapshot at or below the floor of its container, as runs leave it
 pub record CanOpen (B : List Durable) : Type 0 where
@@ -43,18 +41,14 @@ pub record BeginsAs (s : Script) (B : List Durable) (t : ℕ) (d : Durable) : Ty
   pub enlisted : AreEnlisted s d
   pub incarnation : (b : Durable) → slice_get B t ≡ Some b → d.incarnation ≡ b.incarnation
 
--- a run without snapshots may begin with what all targets keep that kept this, and its opening is what they stood for
-abbrev pub BeginPlainly : Script → List Durable → Type 0
-BeginPlainly s B = (free : ℕ → ℕ) → OpenTogether (length B) (begun_family s B) (opening_of s B free)
-
 -- A run of the script may begin with what all targets keep that kept this. It is sound, and stands for what they stood for, but for the snapshots that
--- the script drops; the greatest lease stays; and each target keeps what lasts. Where no snapshot lasts, a run without snapshots may begin with it.
+-- the script drops; the greatest lease stays; and each target keeps what lasts. Where no snapshot lasts, it stands for none.
 pub record AllBegin (s : Script) (B : List Durable) : Type 0 where
   pub sound : Sound (begun_family s B)
   pub stands : stand (begun_family s B) ≡ kept s (stand B)
   pub leases : greatest_lease (begun_family s B) ≡ greatest_lease B
   pub each : (t : ℕ) (d : Durable) → slice_get (begun_family s B) t ≡ Some d → BeginsAs s B t d
-  pub plain : lasting_snaps s B ≡ [] → BeginPlainly s B
+  pub unsnapped : lasting_snaps s B ≡ [] → (kept s (stand B)).snaps ≡ []
 
 -- these are the snapshots that target 0 keeps
 abbrev pub AreHeldFirst : List Durable → List Snap → Type 0

@@ -4,7 +4,7 @@ ghost use Rattle.daos_model.specs.Changes.{enlisted};
 ghost use Rattle.run_opening.specs.All.{AllRun, FromTo};
 ghost use Rattle.run_opening.specs.Left.{LeavesAll, LeavesAt, or_not};
 ghost use Rattle.run_starts.specs.Calls.{EnlistsAt, RunAll, WhyNotOpened, WithContainers};
-ghost use Rattle.world_plain.specs.whole.Begins.{declared_conts};
+ghost use Rattle.world_closing.specs.Below.{declared_conts};
 
 use crate::stop::{StartStop, enlist_stop};
 use base_types::id::ContId;

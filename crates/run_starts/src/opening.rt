@@ -7,7 +7,7 @@ ghost use Rattle.run_opening.specs.All.{AllRun, AreKept, MayBeFound};
 ghost use Rattle.run_opening.specs.Left.{IsLeftOf};
 ghost use Rattle.run_starts.specs.Calls.{RunAll, WhyNotOpened};
 ghost use Rattle.run_starts.specs.Starts.{AreOpened, CanOpen, IsWhole, MayOpenAgain};
-ghost use Rattle.world_plain.specs.whole.Begins.{declared_conts};
+ghost use Rattle.world_closing.specs.Below.{declared_conts};
 
 use crate::enlisting::{conts_of, enlist_all};
 use crate::held::held_at_first;

@@ -2,7 +2,6 @@
 use Rattle.std.specs.Prelude.{ℕ, zero, suc, ◌≡◌, ◌<◌, ◌≤◌, All, List, [], ◌∷◌, drop, length, slice_get, take, Option, Some, None, refl}
 use Rattle.std.proofs.Common.{inl, inr, sym, ◌∙◌, ap, subst, arith}
 use Rattle.std.proofs.lemmas.Bool.{cases_eq}
-use Rattle.std.proofs.lemmas.List.{drop_all}
 use Rattle.std.proofs.lemmas.List.Elements.{All-cons, All-head, All-nil, All-tail}
 use Rattle.std.proofs.lemmas.Option.{slice_get_within}
 use Rattle.base_types.specs.declared.report.Line.{Line}
@@ -25,9 +24,6 @@ pub record AreReadTo (n : ℕ) (lines : List Line) (first : Option ℕ) : Type 0
   pub least : with_first first (least (down_targets (drop n lines))) ≡ least (down_targets lines)
   pub typed : (k : ℕ) (l : Line) → k < n → slice_get lines k ≡ Some l → HasTypedNumbers l
   pub bytes : All TellsBytes (take n lines)
-
-pub none-read : (lines : List Line) → AreReadTo 0 lines None
-none-read lines = record { least = refl; typed = λ k l low at. absurd (omega (arith, low)); bytes = All-nil TellsBytes }
 
 drop-at : {T : Type 0} (xs : List T) (n : ℕ) (x : T) → slice_get xs n ≡ Some x → drop n xs ≡ x ∷ drop (suc n) xs
 drop-at [] n x at = let no : ⊥ = cc in absurd no
@@ -71,14 +67,6 @@ other-read n lines l first at other typed bytes k = record {
     none (line.Freeze t cont epoch) apart = refl
     none (line.Snapshot name cont epoch) apart = refl
     none (line.Aggregate i t cont upto) apart = refl
-
--- all were read
-pub all-read : (n : ℕ) (lines : List Line) (first : Option ℕ) → length lines ≤ n → AreReadTo n lines first → first ≡ least (down_targets lines)
-all-read n lines first all k = sym (alone first) ∙ ap (λ ls. with_first first (least (down_targets ls))) (sym (drop_all n lines all)) ∙ k.least
-  where
-    alone : (o : Option ℕ) → with_first o None ≡ o
-    alone None = refl
-    alone (Some m) = refl
 
 pub all-typed : (n : ℕ) (lines : List Line) (first : Option ℕ) → length lines ≤ n → AreReadTo n lines first → AreTyped lines
 all-typed n lines first all k l i = let z = place-of lines l i in k.typed z.0 l (let low = slice_get_within lines z.0 l z.1 in omega (arith, low, all)) z.1

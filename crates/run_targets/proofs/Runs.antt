@@ -1,5 +1,5 @@
 -- A run of clients and targets, from its first stage to its report.
-use Rattle.std.specs.Prelude.{ℕ, ◌≡◌, ◌≤◌, true, false, List, [], slice_get, Option, Some, IfErr, IfOk, Err, Ok, Result, refl}
+use Rattle.std.specs.Prelude.{ℕ, ◌≡◌, true, false, List, [], slice_get, Option, Some, IfErr, IfOk, Err, Ok, Result, refl}
 use Rattle.std.specs.Vec.{with_items}
 use Rattle.std.specs.declared.vec.Vec.{Vec}
 use Rattle.std.proofs.Common.{sym, ◌∙◌, ap, subst}
@@ -13,13 +13,12 @@ use Rattle.client_core.specs.Clients.{ClientNow}
 use Rattle.daos_model.specs.Opening.{Given, Opening}
 use Rattle.daos_model.specs.declared.durable.Durable.{Durable}
 use Rattle.run_base.specs.Letters.{BetweenNow}
-use Rattle.run_loop.specs.Below.{AllCanReopen, AllTell, AnswersGoOn, AreAccounted, AreAlike, AreArmed, AreDrawn, AreFindable, AreServed, AreSteady, AreTyped, AreUnfused, Breaks, BreaksOffSo, CanGo, ComesByClocks, ComesTo, EndsGoOn, HasEndedSo, HasRunWith, HaveStarted, IsFirstWatch, RunBegins, Shows, StageNow, TargetOf, all-tell, answers-first, armed-accounted, armed-first, before-fuse, breaks-off, broke-between, can-go, comes-by_clocks, comes-to, ends-first, first-drawn, first_stage, first_world, fuses-serve, fuses-started, fuses-tell, given_by, left_of, nothing, report_with, run-begins, served-then, shows-first, states_of, stores_of, told-fuse}
+use Rattle.run_loop.specs.Below.{AllCanReopen, AllTell, AnswersGoOn, AreAccounted, AreAlike, AreArmed, AreDrawn, AreFindable, AreServed, AreSteady, AreTyped, AreUnfused, Breaks, BreaksOffSo, CanGo, ComesByClocks, ComesTo, EndsGoOn, HasEndedSo, HasRunWith, HaveStarted, IsFirstWatch, RunBegins, Shows, StageNow, TargetOf, all-tell, answers-first, armed-accounted, armed-first, before-fuse, breaks-off, broke-between, can-go, comes-by_clocks, comes-to, ends-first, first-drawn, first_stage, first_world, fuses-serve, fuses-started, fuses-tell, given_by, left_of, nothing, report_with, run-begins, served-then, shows-first, states_of, stores_of, told-fuse, rules_of}
 use Rattle.run_targets.proofs.Telling.{first, told-first}
 use Rattle.run_watch.specs.Watches.{WatchNow, first_watch}
 use Rattle.vos_store.specs.Calls.{State}
 use Rattle.world_base.specs.declared.world.World.{World}
 use Rattle.world_base.specs.Events.{Rules}
-use Rattle.world_plain.specs.ends.Ends.{rules_of}
 
 nothing-is : (b : BetweenNow) → b.messages ≡ [] → b.asked ≡ [] → b.issued ≡ [] → b.lines ≡ [] → b ≡ nothing
 nothing-is b messages asked issued lines =

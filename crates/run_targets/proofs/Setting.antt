@@ -1,5 +1,5 @@
 -- Fuses of targets, set one after another.
-use Rattle.std.specs.Prelude.{ℕ, suc, ◌≡◌, ◌≤◌, ◌<◌, ◌+◌, List, length, slice_get, slice_set, Option, Some, refl}
+use Rattle.std.specs.Prelude.{ℕ, suc, ◌≡◌, ◌≤◌, ◌<◌, ◌+◌, List, length, slice_get, slice_set, Option, Some}
 use Rattle.std.proofs.Common.{add-one, inl, inr, sym, ◌∙◌, ap, subst, arith}
 use Rattle.std.proofs.lemmas.Bool.{cases_eq}
 use Rattle.std.proofs.lemmas.Option.{slice_get_within}
@@ -28,17 +28,6 @@ module _ {S C : Type 0} (durable : S → Option Durable) (state : S → State) (
   -- they were taken away
   abbrev pub AreUnfusedTo : ℕ → List (TargetOf S C) → List (TargetOf S C) → Type 0
   AreUnfusedTo t xs ys = AreSetTo (λ u. 0) t xs ys
-
-  -- ---- none yet
-
-  none-set : (write : ℕ → ℕ) (xs : List (TargetOf S C)) → AreSetTo write 0 xs xs
-  none-set write xs = record { within = omega arith; many = refl; each = λ u x y here there low. absurd (omega (arith, low)); later = λ u past. refl }
-
-  pub none-armed : (xs : List (TargetOf S C)) (w : WatchNow) → AreArmedTo 0 xs xs w w
-  none-armed xs w = record { set = none-set (λ u. next_fuse u w.stops) xs; watch = refl }
-
-  pub none-unfused : (xs : List (TargetOf S C)) → AreUnfusedTo 0 xs xs
-  none-unfused xs = none-set (λ u. 0) xs
 
   -- ---- one more
 

@@ -1,6 +1,6 @@
 -- What holds of the first elements of a list, one after another.
-use Rattle.std.specs.Prelude.{ℕ, zero, suc, ◌≡◌, ◌+◌, ◌≤◌, All, List, [], ◌∷◌, length, slice_get, take, Some}
-use Rattle.std.proofs.Common.{ap, subst, arith}
+use Rattle.std.specs.Prelude.{ℕ, zero, suc, ◌≡◌, ◌≤◌, All, List, [], ◌∷◌, length, slice_get, take, Some}
+use Rattle.std.proofs.Common.{subst}
 use Rattle.std.proofs.lemmas.List.{take_all}
 use Rattle.std.proofs.lemmas.List.Elements.{All-cons, All-head, All-nil, All-tail}
 

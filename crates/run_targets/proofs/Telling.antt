@@ -9,14 +9,12 @@ use Rattle.client_core.specs.Clients.{ClientNow}
 use Rattle.daos_model.specs.FormLaws.{length-map}
 use Rattle.daos_model.specs.Opening.{Given}
 use Rattle.daos_model.specs.declared.durable.Durable.{Durable}
-use Rattle.run_loop.specs.Below.{AllBeginInTurn, AllTellInOrder, AreFirst, HaveStarted, StageNow, TargetOf, TellInTurn, from-map, map-get, report_with, state_of, tells-first}
+use Rattle.run_loop.specs.Below.{AllBeginInTurn, AllTellInOrder, HaveStarted, StageNow, TargetOf, TellInTurn, from-map, map-get, report_with, state_of, tells-first, rules_of, first_tracker}
 use Rattle.report_round_trip.specs.Values.{AllTellBytes}
 use Rattle.vos_store.specs.Calls.{State}
-use Rattle.world_plain.specs.ends.Ends.{rules_of}
 use Rattle.world_ended.specs.Clients.{AllEndWell}
 use Rattle.world_letters.specs.kinds.Fitting.{AllAnswersFit}
 use Rattle.world_base.specs.ClientTurns.{at_first}
-use Rattle.world_plain.specs.whole.Begins.{first_tracker}
 
 module _ {S C : Type 0} (durable : S → Option Durable) (state : S → State) (g : Given) (a : StageNow S C) (xs : List (TargetOf S C)) (started : HaveStarted durable state g a.clients xs) where
   pub first : (n : ℕ) (c : ClientNow) → slice_get a.clients n ≡ Some c → (c.state.place ≡ 0) × (c.state.command ≡ 0) × (c.state.present ≡ None)

@@ -1,5 +1,5 @@
 -- What a target knows that has just opened.
-use Rattle.std.proofs.Common.{ℕ, ◌≡◌, ◌≤◌, ◌<◌, ◌+◌, ◌*◌, ◌^◌, ◌-◌, ◌∙◌, refl, sym, ap, subst, min, Bool, true, false, not, List, [], ◌∷◌, map, filter, Option, Some, None, arith}
+use Rattle.std.proofs.Common.{ℕ, ◌≡◌, ◌≤◌, ◌<◌, ◌^◌, ◌-◌, ◌∙◌, refl, sym, ap, subst, min, Bool, true, false, not, List, [], ◌∷◌, filter, Option, Some, None, arith}
 use Rattle.std.specs.Prelude.{◌==◌}
 use Rattle.std.proofs.lemmas.Bool.Decides.{nat_tests}
 use Rattle.base_types.specs.Epochs.{restart_floor}
@@ -26,7 +26,7 @@ use Rattle.dtx_base.specs.Members.{other_members}
 use Rattle.dtx_base.specs.Rows.{is_empty}
 use Rattle.dtx_resync.specs.Resyncs.{asked-opening, asked_at}
 use Rattle.vos_store.specs.Calls.{State}
-use Rattle.world_commit.specs.attempts.MarkTurns.{found-here}
+use Rattle.world_commit.specs.attempts.Stored.{found-here}
 use Rattle.world_base.specs.declared.did.Did.{Did}
 use Rattle.world_base.specs.declared.target.TargetPlan.{TargetPlan}
 use Rattle.world_base.specs.Statuses.{opening_memory, opening_posts}

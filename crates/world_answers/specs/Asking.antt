@@ -48,7 +48,7 @@ use Rattle.world_letters.specs.kinds.PostLaws.{CarryNone, acks-carry}
 use Rattle.world_letters.specs.lines.EndingLaws.{all-hear-tell, idle-tells}
 use Rattle.world_letters.specs.lines.Lines.{TellsPlainly}
 use Rattle.world_making.specs.fates.Sends.{is_sent_in_making, making-sent}
-use Rattle.world_making.specs.losses.Events.{of-attempts}
+use Rattle.world_making.specs.making.Kinds.{of-attempts}
 use Rattle.world_making.specs.making.Making.{MakingLeaves, tells_of_snapshots}
 use Rattle.world_making.specs.making.Turns.{hearings-leave}
 use Rattle.world_answers.specs.Forms.{AsksInForm, PostsAskInForm, WaitInForm}

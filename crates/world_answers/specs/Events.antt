@@ -38,8 +38,8 @@ use Rattle.world_letters.specs.lines.Lines.{filled}
 use Rattle.world_letters.specs.lives.TurnLines.{further-lines, idle-lines, plain-lines}
 use Rattle.world_letters.specs.talks.Asked.{ARead, ASnapshot, AnAggregation, Asked, ItsWrites}
 use Rattle.world_making.specs.losses.Tells.{turn-lines-untried}
-use Rattle.world_plain.specs.whole.Posting.{command-here}
-use Rattle.world_plain.specs.whole.ScriptForm.{command-few}
+use Rattle.world_contents.specs.posts.ClientPosts.{command-here}
+use Rattle.world_contents.specs.posts.ScriptForm.{command-few}
 use Rattle.world_answers.specs.Clients.{HasFewOps, IsPresentOrNone, MovesInForm, heard-in_form, moved-in_form}
 use Rattle.world_answers.specs.Forms.{AnswersInForm, AreToldInForm, BringsAnswerInForm, IsPresentInForm, PostsInForm, ReadsInForm, TargetsHaveKeys}
 use Rattle.world_answers.specs.Further.{further-in_form}

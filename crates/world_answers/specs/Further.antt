@@ -1,13 +1,11 @@
 -- Turns after stops, and turns that make snapshots and aggregate: a target answers no read in one.
-use Rattle.std.specs.Prelude.{ℕ, ◌≡◌, Bool, true, false, List, refl}
-use Rattle.std.proofs.Common.{sym, ap, subst}
+use Rattle.std.specs.Prelude.{ℕ, ◌≡◌, Bool, true, false, refl}
+use Rattle.std.proofs.Common.{sym, subst}
 use Rattle.base_types.specs.declared.epoch.Epoch.{Epoch}
 use Rattle.base_types.specs.declared.outcome.FloorWhy.{FloorWhy}
 use Rattle.base_messages.specs.declared.actor.ActorId.{ActorId}
 use Rattle.base_messages.specs.declared.message.Message.{Message, more_of-Message}
 use Rattle.base_messages.specs.declared.message.Message.TheVariants as message
-use Rattle.daos_model.specs.declared.durable.Durable.{Durable}
-use Rattle.dtx_base.specs.declared.member.Parked.{Parked}
 use Rattle.world_base.specs.declared.did.Did.{Did}
 use Rattle.world_base.specs.declared.request.CommitRequest.{CommitRequest}
 use Rattle.world_base.specs.declared.target.TargetMemory.{TargetMemory}
@@ -18,27 +16,15 @@ use Rattle.world_base.specs.Further.{CommitDown, HearsFurther, IsSpent, IsUnknow
 use Rattle.world_base.specs.Statuses.{status_refusal}
 use Rattle.world_base.specs.TargetTurns.{commit_request}
 use Rattle.world_causes.specs.hearing.Listening.{Listens, listens}
-use Rattle.world_causes.specs.hearing.Saying.{AsksState, EndsHeld, EndsLost, MarksAgain, MetUnresolved, SaysFurther, TellsState}
 use Rattle.world_commit.specs.statuses.Heard.{is_of_attempts}
 use Rattle.world_contents.specs.reads.Adds.{NoneIs, is_answer}
-use Rattle.world_making.specs.fates.Sends.{is_sent_in_making, making-sent}
-use Rattle.world_making.specs.losses.Events.{of-attempts}
+use Rattle.world_making.specs.fates.Sends.{making-sent, making-silent}
+use Rattle.world_making.specs.making.Kinds.{of-attempts}
 use Rattle.world_making.specs.making.Making.{tells_of_snapshots}
 use Rattle.world_making.specs.making.Turns.{hearings-leave}
 use Rattle.world_standing.specs.external.Silent.{ack-silent, one-silent}
 use Rattle.world_answers.specs.Forms.{PostsInForm, none-answers}
-
-says-silent : (d : Durable) (parked : List Parked) (m : Message) → SaysFurther d parked m → is_answer m ≡ false
-says-silent d parked m (EndsHeld e how i is) = ap is_answer is
-says-silent d parked m (EndsLost x is) = ap is_answer is
-says-silent d parked m (TellsState x inc how is) = ap is_answer is
-says-silent d parked m (AsksState x inc is) = ap is_answer is
-says-silent d parked m (MarksAgain inc marks is) = ap is_answer is
-says-silent d parked m (MetUnresolved p x op group ep first tracker q snapshot a i asked is) = ap is_answer is
-
-making-silent : (m : Message) → is_sent_in_making m ≡ true → is_answer m ≡ false
-making-silent (message.Fetched x op group own b) sent = let no : ⊥ = cc in absurd no
-making-silent m sent = refl
+use Rattle.world_causes.specs.hearing.FurtherTurns.{says-silent}
 
 down-silent : (t : TargetPlan) (m : TargetMemory) (reading : ℕ) (q : CommitRequest) (from : ActorId) (s : commit.CommitStage) (k : Kept) (left : TargetMemory × Did) → CommitDown t m reading q from s k left → NoneIs is_answer left.1.posts
 down-silent t m reading q from s k left (IsSpent j e down z none known is) = subst (λ (x : TargetMemory × Did). NoneIs is_answer x.1.posts) (sym is) (one-silent _ refl)

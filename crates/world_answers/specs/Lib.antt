@@ -9,3 +9,5 @@ pub mod Events
 pub mod Asking
 pub mod Requests
 pub mod Runs
+pub mod AnswerForms
+pub mod KeyLaws

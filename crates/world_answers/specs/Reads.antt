@@ -49,8 +49,8 @@ use Rattle.world_base.specs.Roles.{member_at}
 use Rattle.world_base.specs.Turns.{Reached, Whole}
 use Rattle.world_base.specs.VerdictLaws.{Tries, verdict-keeps}
 use Rattle.world_base.specs.Verdicts as verdict
-use Rattle.world_plain.specs.forms.AnswerForms.{IsShortRead, answer-form}
-use Rattle.world_plain.specs.forms.KeyLaws.{effects-keys, in_byte_order-keys}
+use Rattle.world_answers.specs.AnswerForms.{IsShortRead, answer-form}
+use Rattle.world_answers.specs.KeyLaws.{effects-keys, in_byte_order-keys}
 use Rattle.world_answers.specs.Forms.{AsksInForm, BringsAnswerInForm, IsFoundInForm, PostsInForm, VersionsHaveKeys}
 use Rattle.world_answers.specs.Posts.{both-posts, none-posts, one-post, single-post}
 

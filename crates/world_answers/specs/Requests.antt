@@ -28,9 +28,8 @@ use Rattle.world_commit.specs.attempts.Counting.{has-left_over, has-taken}
 use Rattle.world_commit.specs.attempts.Turning.{one-or_another}
 use Rattle.world_letters.specs.talks.Asked.{ARead, ASnapshot, AnAggregation, Asked, ItsWrites}
 use Rattle.world_contents.specs.reads.Given.{Given, IsMessageRight, IsParkedRight}
-use Rattle.world_plain.specs.whole.Asking.{question-form}
-use Rattle.world_plain.specs.whole.Posting.{command-here}
-use Rattle.world_plain.specs.whole.ScriptForm.{read-in-form}
+use Rattle.world_contents.specs.posts.ClientPosts.{command-here}
+use Rattle.world_contents.specs.posts.ScriptForm.{read-in-form, question-form}
 use Rattle.world_answers.specs.Asking.{further-asks, hears-asks, idle-asks}
 use Rattle.world_answers.specs.Forms.{AsksAreInForm, AsksInForm, PostsAskInForm, ReadsInForm, WaitInForm}
 use Rattle.world_answers.specs.Posts.{heard-posts, lost-letters, moved-posts, resting-letters, sent-letters}

@@ -1,7 +1,7 @@
 -- What each change leaves of what a target keeps.
 use Rattle.std.specs.Prelude.{ℕ, ◌≡◌, ◌≤◌, ◌<◌, ◌*◌, ◌^◌, min, nat_le, Bool, true, false, Option, Some, None, List, refl, if◌then◌else◌}
 use Rattle.std.specs.Int.{div_ceil}
-use Rattle.std.specs.Prelude.{map}
+use Rattle.std.specs.Prelude.{filter, map}
 use Rattle.std.proofs.Common.{sym, ◌∙◌, ap, subst, arith}
 use Rattle.std.proofs.lemmas.Bool.Decides.{nat_tests}
 use Rattle.std.proofs.lemmas.Grind.{div_ceil_times}
@@ -12,43 +12,37 @@ use Rattle.base_types.specs.declared.id.AttemptId.{AttemptId}
 use Rattle.base_types.specs.declared.operation.MinorWrite.{MinorWrite}
 use Rattle.base_types.specs.Epochs.{last_ticks, lease_for}
 use Rattle.daos_model.specs.declared.durable.Durable.{Durable}
+use Rattle.daos_model.specs.declared.durable.Version.{Version}
 use Rattle.base_types.specs.declared.epoch.Epoch.{Epoch}
 use Rattle.base_types.specs.declared.id.ContId.{ContId}
 use Rattle.base_types.specs.declared.outcome.FloorWhy.TheVariants.{Snapshot}
-use Rattle.daos_model.specs.Changes.{created, frozen, leased, marked, new_snap, prepared, pruned, raised_at, settled, with_versions}
+use Rattle.daos_model.specs.Changes.{committed_at, confirmed_at, created, frozen, is_other, leased, marked, new_snap, prepared, pruned, raised_at, settled, with_versions}
 use Rattle.daos_model.specs.Durables.{is_frozen, snap_key}
 use Rattle.daos_model.specs.Ordered.{put}
+use Rattle.daos_model.specs.Versions.{done_by, is_not_pending}
 use Rattle.world_base.specs.Changes.{Change, Creates, Extends, Freezes, Kept, Prepares, Prunes, Settles, Steps, is_plain, made}
 
 -- ---- one change
 
-pub conts-settled : (a : AttemptId) (step : Settle) (d : Durable) → (settled a step d).conts ≡ d.conts
+-- a step of an attempt leaves all but the versions and the entries
+settled-leaves : {T : Type 0} (of : Durable → T) (a : AttemptId) (step : Settle) (d : Durable) → ((vs : List Version) (es : List Entry) → of (record d { versions = vs; entries = es }) ≡ of d) → of (settled a step d) ≡ of d
 unfolding settled
-conts-settled a Commit d = refl
-conts-settled a Abort d = refl
-conts-settled a (Confirm t) d = refl
-conts-settled a Forget d = refl
+settled-leaves of a Commit d same = same (map (done_by a) d.versions) (map (committed_at a) d.entries)
+settled-leaves of a Abort d same = same (filter (is_not_pending a) d.versions) (filter (is_other a) d.entries)
+settled-leaves of a (Confirm t) d same = same d.versions (map (confirmed_at a t) d.entries)
+settled-leaves of a Forget d same = same d.versions (filter (is_other a) d.entries)
+
+pub conts-settled : (a : AttemptId) (step : Settle) (d : Durable) → (settled a step d).conts ≡ d.conts
+conts-settled a step d = settled-leaves (λ x. x.conts) a step d (λ vs es. refl)
 
 snaps-settled : (a : AttemptId) (step : Settle) (d : Durable) → (settled a step d).snaps ≡ d.snaps
-unfolding settled
-snaps-settled a Commit d = refl
-snaps-settled a Abort d = refl
-snaps-settled a (Confirm t) d = refl
-snaps-settled a Forget d = refl
+snaps-settled a step d = settled-leaves (λ x. x.snaps) a step d (λ vs es. refl)
 
 pub incarnation-settled : (a : AttemptId) (step : Settle) (d : Durable) → (settled a step d).incarnation ≡ d.incarnation
-unfolding settled
-incarnation-settled a Commit d = refl
-incarnation-settled a Abort d = refl
-incarnation-settled a (Confirm t) d = refl
-incarnation-settled a Forget d = refl
+incarnation-settled a step d = settled-leaves (λ x. x.incarnation) a step d (λ vs es. refl)
 
 pub lease-settled : (a : AttemptId) (step : Settle) (d : Durable) → (settled a step d).lease ≡ d.lease
-unfolding settled
-lease-settled a Commit d = refl
-lease-settled a Abort d = refl
-lease-settled a (Confirm t) d = refl
-lease-settled a Forget d = refl
+lease-settled a step d = settled-leaves (λ x. x.lease) a step d (λ vs es. refl)
 
 pub lease-prepared : (e : Entry) (ws : List MinorWrite) (d : Durable) → (prepared e ws d).lease ≡ d.lease
 unfolding prepared
@@ -89,23 +83,34 @@ snaps-made (Freezes c s) d plain = absurd (cc)
 snaps-made (Creates c s) d plain = absurd (cc)
 snaps-made (Prunes c upto n) d plain = absurd (cc)
 
--- no change touches the incarnation
+-- a freeze leaves all but the containers and the snapshots
+frozen-leaves : {T : Type 0} (of : Durable → T) (c : ContId) (s : Epoch) (d : Durable)
+    → of (record d { conts = map (raised_at c s (Snapshot s)) d.conts; snaps = put snap_key (new_snap c s) d.snaps }) ≡ of d → of (frozen c s d) ≡ of d
+unfolding frozen
+frozen-leaves of c s d same = by (is_frozen d c s)
+  where
+    by : (b : Bool) → of (if b then d else record d { conts = map (raised_at c s (Snapshot s)) d.conts; snaps = put snap_key (new_snap c s) d.snaps }) ≡ of d
+    by true = refl
+    by false = same
+
 incarnation-frozen : (c : ContId) (s : Epoch) (d : Durable) → (frozen c s d).incarnation ≡ d.incarnation
-unfolding frozen
-incarnation-frozen c s d = by (is_frozen d c s)
-  where
-    by : (b : Bool) → (if b then d else record d { conts = map (raised_at c s (Snapshot s)) d.conts; snaps = put snap_key (new_snap c s) d.snaps }).incarnation ≡ d.incarnation
-    by true = refl
-    by false = refl
+incarnation-frozen c s d = frozen-leaves (λ x. x.incarnation) c s d refl
 
-lease-frozen : (c : ContId) (s : Epoch) (d : Durable) → (frozen c s d).lease ≡ d.lease
-unfolding frozen
-lease-frozen c s d = by (is_frozen d c s)
-  where
-    by : (b : Bool) → (if b then d else record d { conts = map (raised_at c s (Snapshot s)) d.conts; snaps = put snap_key (new_snap c s) d.snaps }).lease ≡ d.lease
-    by true = refl
-    by false = refl
+pub lease-frozen : (c : ContId) (s : Epoch) (d : Durable) → (frozen c s d).lease ≡ d.lease
+lease-frozen c s d = frozen-leaves (λ x. x.lease) c s d refl
 
+pub entries-frozen : (c : ContId) (s : Epoch) (d : Durable) → (frozen c s d).entries ≡ d.entries
+entries-frozen c s d = frozen-leaves (λ x. x.entries) c s d refl
+
+pub entries-created : (c : ContId) (s : Epoch) (d : Durable) → (created c s d).entries ≡ d.entries
+unfolding created
+entries-created c s d = refl
+
+pub entries-pruned : (c : ContId) (upto : Epoch) (n : ℕ) (d : Durable) → (pruned c upto n d).entries ≡ d.entries
+unfolding pruned with_versions marked
+entries-pruned c upto n d = refl
+
+-- no change touches the incarnation
 pub incarnation-made : (c : Change) (d : Durable) → (made c d).incarnation ≡ d.incarnation
 unfolding leased prepared created pruned with_versions marked
 incarnation-made (Extends ticks) d = refl
@@ -115,11 +120,11 @@ incarnation-made (Freezes c s) d = incarnation-frozen c s d
 incarnation-made (Creates c s) d = refl
 incarnation-made (Prunes c upto n) d = refl
 
-lease-created : (c : ContId) (s : Epoch) (d : Durable) → (created c s d).lease ≡ d.lease
+pub lease-created : (c : ContId) (s : Epoch) (d : Durable) → (created c s d).lease ≡ d.lease
 unfolding created
 lease-created c s d = refl
 
-lease-pruned : (c : ContId) (upto : Epoch) (n : ℕ) (d : Durable) → (pruned c upto n d).lease ≡ d.lease
+pub lease-pruned : (c : ContId) (upto : Epoch) (n : ℕ) (d : Durable) → (pruned c upto n d).lease ≡ d.lease
 unfolding pruned with_versions marked
 lease-pruned c upto n d = refl
 

@@ -175,12 +175,9 @@ TargetHearsRightly r w v = TargetHearsBy HearsRightly r w v
 abbrev pub RightEvent : Rules → World → World → Type 0
 RightEvent r w v = EventBy HearsRightly r w v
 
--- an event in which what a target hears tells of others' attempts alone is a right one
-pub right-event : (r : Rules) (w v : World) → ((g : TargetHears r w v) → TellsOfOthers g.t g.s.memory.leader g.s.durable g.l.message) → Event r w v → RightEvent r w v
-right-event r w v told (ByClient g) = ByClient g
-right-event r w v told (ToClient g) = ToClient g
-right-event r w v told (ByTarget g) = ByTarget g
-right-event r w v told (ToTarget g) = ToTarget (record {
+-- a turn in which what is heard tells of others' attempts alone, as a right one
+abbrev pub rightly : (r : Rules) (w v : World) (g : TargetHears r w v) → TellsOfOthers g.t g.s.memory.leader g.s.durable g.l.message → TargetHearsRightly r w v
+rightly r w v g told = record {
   t = g.t;
   s = g.s;
   new = g.new;
@@ -193,9 +190,16 @@ right-event r w v told (ToTarget g) = ToTarget (record {
   runs = g.runs;
   takes = g.takes;
   to_it = g.to_it;
-  turn = hears-rightly (target_plan r g.t) g.s.opening g.s.memory g.reading g.l.from g.l.message (kept g.s) g.new (g.memory, g.did) (told g) g.turn;
+  turn = hears-rightly (target_plan r g.t) g.s.opening g.s.memory g.reading g.l.from g.l.message (kept g.s) g.new (g.memory, g.did) told g.turn;
   after = g.after;
-})
+}
+
+-- an event in which what a target hears tells of others' attempts alone is a right one
+pub right-event : (r : Rules) (w v : World) → ((g : TargetHears r w v) → TellsOfOthers g.t g.s.memory.leader g.s.durable g.l.message) → Event r w v → RightEvent r w v
+right-event r w v told (ByClient g) = ByClient g
+right-event r w v told (ToClient g) = ToClient g
+right-event r w v told (ByTarget g) = ByTarget g
+right-event r w v told (ToTarget g) = ToTarget (rightly r w v g (told g))
 
 -- ---- runs
 
@@ -206,7 +210,3 @@ pub data RunBy (Turn : Hearing) (r : Rules) (w : World) : World → Type 0 where
 
 abbrev pub Run : Rules → World → World → Type 0
 Run r w v = RunBy Hears r w v
-
--- one right event after another
-abbrev pub RightRun : Rules → World → World → Type 0
-RightRun r w v = RunBy HearsRightly r w v

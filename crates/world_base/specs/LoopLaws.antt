@@ -1,22 +1,16 @@
 -- What each settling of a Mark, each confirmation of a Marked and each settling of idle work keeps, the turn keeps.
-use Rattle.std.specs.Prelude.{◌<◌, ◌∷◌, ◌≡◌, Bool, Contains, List, Option, Some, ℕ, filter, length, not, refl, true}
+use Rattle.std.specs.Prelude.{◌<◌, ◌∷◌, ◌≡◌, Bool, Contains, List, Option, Some, filter, length, not, refl, true}
 use Rattle.std.proofs.Common.{◌∙◌, ap, inl, inr, subst, sym}
-use Rattle.base_types.specs.declared.entry.Settle.TheVariants.{Commit, Confirm}
 use Rattle.base_types.specs.declared.id.AttemptId.{AttemptId}
 use Rattle.model_laws.specs.Lists.{filter-shorter}
 use Rattle.model_laws.specs.Members.{Has}
 use Rattle.daos_model.specs.declared.durable.Durable.{Durable}
 use Rattle.daos_model.specs.EntryLaws.{same_attempt-itself}
-use Rattle.dtx_base.specs.Leading.{entry_led, may_confirm}
-use Rattle.world_base.specs.declared.target.TargetMemory.{TargetMemory}
-use Rattle.world_base.specs.declared.target.TargetPlan.{TargetPlan}
-use Rattle.world_base.specs.Acks as ack
 use Rattle.world_base.specs.Changes.{Change, Kept, Settles, Steps}
-use Rattle.world_base.specs.Idle.{IdleNext, SettlesFirst}
 use Rattle.world_base.specs.Marks.{MarkNext, PassesBy, SettlesMarked, marked_step}
 use Rattle.world_base.specs.PathLaws.{reached-keeps}
 use Rattle.world_base.specs.Requests.{is_other_attempt}
-use Rattle.world_base.specs.Roles.{is_prepared, leader_at}
+use Rattle.world_base.specs.Roles.{is_prepared}
 use Rattle.world_base.specs.Turns.{Reached}
 
 -- what is left of a list is of the list
@@ -44,29 +38,6 @@ module _ (P : Kept → Type 0) where
 
   pub marks-keep : (is_due : AttemptId → Durable → Bool) → ((a : AttemptId) (d : Durable) → is_due a d ≡ true → is_prepared a d ≡ true) → (marks : List (AttemptId × Bool)) → MarkingKeeps marks → (old new : Kept) (last : List (AttemptId × Bool)) → Reached (MarkNext is_due) marks old last new → P old → P new
   marks-keep is_due prepared marks keeps old new last r p = (reached-keeps (MarkNext is_due) (Leaves P marks) (mark-step is_due prepared marks keeps) marks old last new r (record { holds = p; left = λ x i. i })).holds
-
-  -- a Marked confirms what it names, where it is committed here and the sender a member
-  abbrev pub ConfirmingKeeps : TargetPlan → TargetMemory → ℕ → List AttemptId → Type 0
-  ConfirmingKeeps t m member ids = (k l : Kept) (a : AttemptId) → Has a ids → may_confirm member (entry_led a (leader_at t m k.durable)) ≡ true → Steps (Some (Settles a (Confirm member))) k l → P k → P l
-
-  marked-step : (t : TargetPlan) (m : TargetMemory) (member : ℕ) (ids : List AttemptId) → ConfirmingKeeps t m member ids → (s : List AttemptId) (k : Kept) (o : Option Change) (u : List AttemptId) (l : Kept)
-      → ack.MarkedNext t m member s k o u → Steps o k l → Leaves P ids s k → Leaves P ids u l
-  marked-step t m member ids keeps s k o u l (ack.Confirms j a rest is) steps h = fewer P ids a rest k l (keeps k l a (h.left a (inl refl)) is steps h.holds) h
-  marked-step t m member ids keeps s k o u l (ack.PassesBy j a rest is) steps h = fewer P ids a rest k l (subst P (sym steps) h.holds) h
-
-  pub confirms-keep : (t : TargetPlan) (m : TargetMemory) (member : ℕ) (ids : List AttemptId) → ConfirmingKeeps t m member ids → (old new : Kept) (last : List AttemptId)
-      → Reached (ack.MarkedNext t m member) ids old last new → P old → P new
-  confirms-keep t m member ids keeps old new last r p = (reached-keeps (ack.MarkedNext t m member) (Leaves P ids) (marked-step t m member ids keeps) ids old last new r (record { holds = p; left = λ x i. i })).holds
-
-  -- idle work settles what is decided
-  abbrev pub SettlingKeeps : List AttemptId → Type 0
-  SettlingKeeps decided = (k l : Kept) (a : AttemptId) → Has a decided → Steps (Some (Settles a Commit)) k l → P k → P l
-
-  idle-step : (decided : List AttemptId) → SettlingKeeps decided → (s : List AttemptId) (k : Kept) (o : Option Change) (u : List AttemptId) (l : Kept) → IdleNext s k o u → Steps o k l → Leaves P decided s k → Leaves P decided u l
-  idle-step decided keeps s k o u l (SettlesFirst j a rest) steps h = fewer P decided a rest k l (keeps k l a (h.left a (inl refl)) steps h.holds) h
-
-  pub settles-keep : (decided : List AttemptId) → SettlingKeeps decided → (old new : Kept) (last : List AttemptId) → Reached IdleNext decided old last new → P old → P new
-  settles-keep decided keeps old new last r p = (reached-keeps IdleNext (Leaves P decided) (idle-step decided keeps) decided old last new r (record { holds = p; left = λ x i. i })).holds
 
 -- without one of them attempts are fewer
 pub one-fewer : (a : AttemptId) (decided : List AttemptId) → Contains decided a → length (filter (is_other_attempt a) decided) < length decided

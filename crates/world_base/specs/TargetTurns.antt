@@ -1,5 +1,5 @@
 -- The turns of a target: it hears a message, or does idle work; whole, or cut short.
-use Rattle.std.specs.Prelude.{ℕ, Bool, true, false, List, Option}
+use Rattle.std.specs.Prelude.{ℕ, Bool, List, Option}
 use Rattle.base_types.specs.declared.entry.Entry.{Entry}
 use Rattle.base_types.specs.declared.epoch.Epoch.{Epoch}
 use Rattle.base_types.specs.declared.id.AttemptId.{AttemptId}
@@ -26,18 +26,6 @@ use Rattle.world_base.specs.Reads as read
 use Rattle.world_base.specs.Roles.{is_prepared, told_by, told_of_all}
 use Rattle.world_base.specs.Turns.{Whole}
 use Rattle.world_base.specs.Verdicts as verdict
-
--- a message that a target hears where nothing stops and nothing is made with other targets
-abbrev pub is_heard : Message → Bool
-is_heard (Fetch x op group ep first tracker r snapshot) = true
-is_heard (Commit x ep first tracker ws) = true
-is_heard (Prepare e first ws inc) = true
-is_heard (Ack x inc refusal) = true
-is_heard (Mark inc marks) = true
-is_heard (Marked inc ids) = true
-is_heard (Query x ask) = true
-is_heard (Verdict x ask inc v) = true
-is_heard m = false
 
 -- ---- what is asked
 

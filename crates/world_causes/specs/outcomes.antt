@@ -16,3 +16,5 @@ pub mod AfterStops
 pub mod Making
 pub mod Keeping
 pub mod Laws
+pub mod TellLaws
+pub mod TurnLaws

@@ -6,3 +6,4 @@ pub mod Cutting
 pub mod Further
 pub mod FurtherEvents
 pub mod Happening
+pub mod Following

@@ -1,7 +1,6 @@
 // Why each outcome shows its cause, what is told of how attempts ended, and epochs and versions where targets stop and open again.
 #![tactic(auto)]
 
-pub mod causes;
 pub mod firsts;
 pub mod handing;
 pub mod hearing;

@@ -1,6 +1,6 @@
 // What is told of how attempts ended, where targets may stop.
 
-ghost use Rattle.world_causes.specs.outcomes.Keeping.{ConversationsFit, ConversationsHandOver, CountingKeepsOutcomes, DecidedAreTold, FailedAreUndecided, HappeningsKeepOutcomes, HearingKeepsOutcomes, MovesKeepOutcomes, OutcomesBegin, SweepingKeepsOutcomes, TargetsKeepOutcomes, ToldAreUndecided};
+ghost use Rattle.world_causes.specs.outcomes.Keeping.{CountingKeepsOutcomes, DecidedAreTold, FailedAreUndecided, HappeningsKeepOutcomes, HearingKeepsOutcomes, MovesKeepOutcomes, OutcomesBegin, SweepingKeepsOutcomes, TargetsKeepOutcomes, ToldAreUndecided};
 
 /// Says what holds of outcomes throughout a run of many targets, which may stop and open again. What a
 /// client is told, or a line tells, of an attempt with writes is so: one that is told as committed is
@@ -23,11 +23,4 @@ pub fn laws_of_outcomes()
     ensures told { ToldAreUndecided }
     ensures failed { FailedAreUndecided }
     ensures decided { DecidedAreTold }
-{}
-
-/// Says that where conversations are in order, as in runs without stops, clients hand attempts over one
-/// at a time, and hear what goes with what they asked.
-pub fn laws_of_handing_over()
-    ensures hands { ConversationsHandOver }
-    ensures fits { ConversationsFit }
 {}

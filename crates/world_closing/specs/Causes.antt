@@ -26,7 +26,7 @@ use Rattle.daos_model.specs.Accesses.{access_paths, minor_writes}
 use Rattle.daos_model.specs.Attempts.{has_own_epoch, is_lost, is_restart, is_unknown, snapshot_or_none, tries, up_to_last_of}
 use Rattle.daos_model.specs.BoolLaws.{clash}
 use Rattle.daos_model.specs.Laws.{tries-append}
-use Rattle.daos_model.specs.CausesShown.{AreSpent, AttemptShows, CausesShown, IsFloor, IsGone, IsLaterRead, IsLaterWrite, LacksBlocks, LacksPlace, LacksSpace, ShowsFloor, ShowsWhy, StopsAfter, WasAnswered, blocks_at, blocks_of_others, first_epoch, is_snap, lacks_space_at, leader_of_attempt, other_snaps}
+use Rattle.daos_model.specs.CausesShown.{AreSpent, CausesShown, IsFloor, IsLaterRead, IsLaterWrite, LacksBlocks, LacksPlace, LacksSpace, ShowsFloor, ShowsWhy, StopsAfter, WasAnswered, blocks_of_others, first_epoch, is_snap, lacks_space_at, leader_of_attempt, other_snaps}
 use Rattle.daos_model.specs.CausesShown as shown
 use Rattle.daos_model.specs.Durables.{same_attempt}
 use Rattle.daos_model.specs.Opening.{Given, top}
@@ -39,9 +39,9 @@ use Rattle.world_base.specs.Events.{Rules}
 use Rattle.world_causes.specs.causes.Causes.{Dated, MeetsOther, ShowsLack, ShowsRead, Stored, blocks_of_stored}
 use Rattle.world_causes.specs.causes.LastCauses.{blocks-within, count-within, ids}
 use Rattle.world_causes.specs.causes.Shown as stand
-use Rattle.world_causes.specs.causes.Shown.{Causes, IsFirstEpoch, IsOpenTo, MeetsFloor, MeetsLaterWrite, MeetsUnresolved, OutcomeStands, SpendsAll, WasLost, limit_over}
+use Rattle.world_causes.specs.causes.Shown.{Causes, IsFirstEpoch, IsOpenTo, MeetsFloor, MeetsLaterWrite, MeetsUnresolved, OutcomeStands, SpendsAll, WasLost}
 use Rattle.world_causes.specs.causes.Storing.{AreApart, dated_ids}
-use Rattle.world_upheld.specs.below.Plain.{rules_of}
+use Rattle.world_closing.specs.Rules.{rules_of}
 use Rattle.world_upheld.specs.causing.Dates.{AreDates, counted_as, counts-issued, issued-own, with_dates}
 use Rattle.world_letters.specs.clients.Snapshots.{at-same, is_at_snapshot}
 use Rattle.world_making.specs.dates.Moves.{command-same}
@@ -141,9 +141,6 @@ compared m n = by (nat_lt m n) refl (nat_lt n m) refl
     by true is c d = Below (grind (arith, nat_tests))
     by false off true is = Above (grind (arith, nat_tests))
     by false off false none = Level (let low : (m < n → ⊥) = λ k. let yes' : nat_lt m n ≡ true = grind (arith, nat_tests) in clash (nat_lt m n) yes' off in let high : (n < m → ⊥) = λ k. let yes' : nat_lt n m ≡ true = grind (arith, nat_tests) in clash (nat_lt n m) yes' none in omega (arith, low, high))
-
-some-is : {T : Type 0} {x y : T} → Some x ≡ Some y → x ≡ y
-some-is s = cc
 
 -- ---- in the end
 

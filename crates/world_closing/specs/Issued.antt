@@ -21,7 +21,7 @@ use Rattle.world_base.specs.Changes.{Kept}
 use Rattle.world_base.specs.Commits as commit
 use Rattle.world_base.specs.CutTurns.{CommitIsCut, Cutting, HearingIsCut, NoneIsDown, OneIsDown, issued_by_commit, issued_by_fetch, listed_issue}
 use Rattle.world_base.specs.Events as events
-use Rattle.world_base.specs.Events.{ByClient, ByTarget, Rules, ToClient, ToTarget, kept, target_plan}
+use Rattle.world_base.specs.Events.{ByClient, ByTarget, Rules, ToClient, ToTarget, kept, target_plan, rightly}
 use Rattle.world_base.specs.Further.{CommitDown, HearsFurther, IsSpent, IsUnknown}
 use Rattle.world_base.specs.MemoryLaws.{hears-issues-none, idles-issue-none, may_be_issued}
 use Rattle.world_base.specs.Reads as read
@@ -32,7 +32,6 @@ use Rattle.world_base.specs.StepLaws.{by-hearing, by-next}
 use Rattle.world_base.specs.Stops.{AtWork, CutOf, Draws, Fails, Further, GivenUp, Happening, Hearing, IdleWork, IsCut, IsInHand, Opens, Plainly, TargetCut, WorldEvent}
 use Rattle.world_base.specs.TargetTurns.{commit_request, fetch_request}
 use Rattle.world_causes.specs.causes.Causes.{Dated}
-use Rattle.world_causes.specs.causes.IssuedOnce.{IssuedOnce}
 use Rattle.world_causes.specs.causes.Storing.{AreApart, dated_ids}
 use Rattle.world_upheld.specs.causing.DatedTurns.{looks-so}
 use Rattle.world_upheld.specs.causing.Events.{of-making}
@@ -42,7 +41,9 @@ use Rattle.world_commit.specs.fates.Rightly.{letters-tell}
 use Rattle.world_making.specs.making.Making.{IsOfMaking, MakingRequest, asks_making, making_issue}
 use Rattle.world_making.specs.making.Turns.{cuts-leave, hearings-leave}
 use Rattle.world_commit.specs.statuses.Heard.{is_of_attempts}
-use Rattle.world_commit.specs.stops.Happenings.{rightly}
+
+abbrev pub IssuedOnce : World → Type 0
+IssuedOnce w = AreApart (dated_ids w.issued)
 
 -- Each event of a run keeps it.
 abbrev pub AllEventsIssueOnce : Type 0

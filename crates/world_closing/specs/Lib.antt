@@ -9,3 +9,4 @@ pub mod safety
 pub mod stands
 pub mod Whole
 pub mod Below
+pub mod Rules

@@ -3,30 +3,30 @@ use Rattle.std.specs.Prelude.{◌≡◌, true, false, is_some, List, Option, Som
 use Rattle.std.proofs.Common.{sym, subst, inl}
 use Rattle.std.proofs.lemmas.Bool.{true≢false}
 use Rattle.model_laws.specs.Members.{contains-from_has}
-use Rattle.daos_model.specs.declared.cell.CellValue.{CellValue}
 use Rattle.daos_model.specs.Cells.{value_at}
 use Rattle.daos_model.specs.Finals.{HeadlineOver}
 use Rattle.daos_model.specs.Opening.{Given, Opening, Outside, kept_map}
+use Rattle.daos_model.specs.declared.cell.CellValue.{CellValue}
 use Rattle.world_base.specs.declared.world.World.{World}
 use Rattle.world_base.specs.Ended.{HasEnded}
 use Rattle.world_base.specs.Events.{Rules}
 use Rattle.world_base.specs.Stops.{WorldRun}
 use Rattle.world_commit.specs.attempts.History.{History}
-use Rattle.world_upheld.specs.below.Legal.{Concluded, IsOver, report_over, stored_over}
+use Rattle.world_upheld.specs.below.Legal.{Concluded, IsOver, report_over, stored_over, durables_of}
 use Rattle.world_letters.specs.lives.Counting.{AreCountedSo}
 use Rattle.world_letters.specs.lives.Legal.{AreCaused}
-use Rattle.world_making.specs.making.Snapshots.{holds_created}
-use Rattle.world_upheld.specs.below.Plain.{durables_of, held_at, rules_of}
+use Rattle.world_closing.specs.Rules.{rules_of}
 use Rattle.world_upheld.specs.explained.Explanations.{HoldNoMoreSnapshots}
 use Rattle.world_upheld.specs.explained.Runs.{runs-are_explained}
-use Rattle.world_upheld.specs.upheld.Begins.{AreRulesInForm, RunBeginsWell, RunBeginsWith}
+use Rattle.world_upheld.specs.upheld.Begins.{AreRulesInForm, RunBeginsWell, RunBeginsWith, held_at}
 use Rattle.world_upheld.specs.upheld.BeginVersions.{begins-well}
 use Rattle.world_upheld.specs.upheld.Runs.{held-first}
 use Rattle.world_closing.specs.asked.Runs.{ended-all_over, explained-conclude}
 use Rattle.world_closing.specs.legal.Ended.{BeginsWhole, EndIsKnown, ends-have_lines, history_of, known-ends_legal}
-use Rattle.world_closing.specs.legal.Following.{HoldsKept}
 use Rattle.world_closing.specs.legal.Reads.{OpensWithDkeys}
+use Rattle.world_closing.specs.legal.Following.{HoldsKept}
 use Rattle.world_closing.specs.stands.Created.{IsKeptOf, kept-from, same-cont, same-epoch}
+use Rattle.world_making.specs.making.Snapshots.{holds_created}
 use Rattle.world_closing.specs.stands.Runs.{all-ends-stand}
 use Rattle.world_closing.specs.stands.Stands.{HoldsOpenings}
 

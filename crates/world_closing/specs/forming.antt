@@ -6,3 +6,6 @@ pub mod Making
 pub mod Fit
 pub mod Outcomes
 pub mod Runs
+pub mod PathForms
+pub mod ReportForms
+pub mod SpaceForms

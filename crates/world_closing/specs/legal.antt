@@ -12,3 +12,4 @@ pub mod Told
 pub mod Headline
 pub mod Ended
 pub mod Openings
+pub mod LinesApart

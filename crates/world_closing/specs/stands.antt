@@ -4,7 +4,6 @@ pub mod Resolving
 pub mod Containers
 pub mod Covered
 pub mod Created
-pub mod Snapped
 pub mod Stands
 pub mod Held
 pub mod Stores

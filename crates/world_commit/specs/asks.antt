@@ -14,6 +14,3 @@ pub mod ToldTurns
 pub mod InquiryKept
 pub mod Rows
 pub mod RowsKept
-pub mod AskLaws
-pub mod Ends
-pub mod EndLaws

@@ -14,4 +14,3 @@ pub mod Bearing
 pub mod Senders
 pub mod Laws
 pub mod Happening
-pub mod Plain

@@ -1,8 +1,6 @@
 // Two-phase commit, of each attempt, and the questions between targets, where targets may stop too.
 #![tactic(auto)]
 
-pub mod asks;
-pub mod attempts;
 pub mod fates;
 pub mod questions;
 pub mod requests;

@@ -1,6 +1,6 @@
 // What is told and asked between targets that may stop.
 
-ghost use Rattle.world_commit.specs.questions.Laws.{HappeningsKeepQuestions, QuestionsAreAsks, QuestionsBegin, SweepingKeepsQuestions};
+ghost use Rattle.world_commit.specs.questions.Laws.{HappeningsKeepQuestions, QuestionsBegin, SweepingKeepsQuestions};
 
 /// Says what holds of questions between targets throughout a run in which targets may stop. Of what a
 /// leader named to a member, of what a Fetch waits for, and of what idle work inquires, the question is
@@ -12,10 +12,8 @@ ghost use Rattle.world_commit.specs.questions.Laws.{HappeningsKeepQuestions, Que
 /// turns, what is heard of stops, stops in the middle of turns, openings that come about
 /// and that fail, targets that are given up, and the loss of what goes to them. What is heard of
 /// snapshots and aggregations isn't treated, nor stops in such turns.
-/// Where nothing stopped, it is what is said of runs without stops (`world_commit`).
 pub fn laws_of_questions()
     ensures begin { QuestionsBegin }
     ensures happens { HappeningsKeepQuestions }
     ensures swept { SweepingKeepsQuestions }
-    ensures plain { QuestionsAreAsks }
 {}

@@ -2,5 +2,4 @@
 pub mod reads
 pub mod posts
 pub mod gots
-pub mod verdicts
 pub mod frozen

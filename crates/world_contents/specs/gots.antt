@@ -1,11 +1,9 @@
 -- What clients were told is what targets served.
 pub mod Gots
-pub mod Remembering
 pub mod MoreLaws
 pub mod GotLaws
 pub mod HearGots
 pub mod StepGots
-pub mod TurnGots
 pub mod TargetGots
 pub mod Right
 pub mod RightLaws

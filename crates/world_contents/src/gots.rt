@@ -1,17 +1,6 @@
 // What clients were told is what targets served.
 
-ghost use Rattle.world_contents.specs.gots.Remembering.{NothingIsTold, ServedIsTold};
 ghost use Rattle.world_contents.specs.gots.Right.{JoinsAreRight, LinesAreRight, NothingIsToldBefore, NothingIsToldOfNone, ReportsAreRight, ToldIsRight};
-
-/// Says what holds throughout a run of what clients were told. Each answer and each condition, of a
-/// present attempt or in a line, is what the groups of its path gave, in order, joined; each of them was
-/// served to that attempt, by a target, at the attempt's epoch. An answer on its way is of what the attempt
-/// that waits for it asks. Each right event keeps it so, where what targets serve is remembered; and so it is
-/// where nothing is in flight, no client has begun, and there are no lines.
-pub fn laws_of_gots()
-    ensures begin { NothingIsTold }
-    ensures kept { ServedIsTold }
-{}
 
 /// Says what follows where all that was served was answered right. What the groups of a read gave, joined,
 /// is its answer on the map that its attempt reads: as of the epoch, or that of a snapshot; so every answer

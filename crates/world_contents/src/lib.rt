@@ -4,5 +4,3 @@
 pub mod frozen;
 pub mod gots;
 pub mod posts;
-pub mod reads;
-pub mod verdicts;

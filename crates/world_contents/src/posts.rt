@@ -1,8 +1,11 @@
 // What is posted has its form: what clients ask of targets, what targets tell each other, and what clients are told.
 
 ghost use Rattle.world_contents.specs.posts.AfterStops.{OpeningsPostInForm, ResetMembersPostInForm, ResetsPostInForm};
+ghost use Rattle.world_contents.specs.posts.ClientPosts.{ClientsPostInForm, HearersPostInForm};
 ghost use Rattle.world_contents.specs.posts.FormLaws.{AskedIsHeard, BetweenIsHeard, ClientsSendLetters, ResetsAreLetters, TargetsSendLetters};
+ghost use Rattle.world_contents.specs.posts.KnownSnapshots.{ClientsKeepReadsKnown, HearersKeepReadsKnown, ReadsKnownBegins};
 ghost use Rattle.world_contents.specs.posts.Posting.{AcksPostInForm, BatchesPostInForm, BeginningsPostInForm, InquiriesAreInForm, QueriesAreInForm, VerdictsPostInForm};
+ghost use Rattle.world_contents.specs.posts.ScriptForm.{ReadsAreInForm, WritesAreInForm};
 
 /// Says that what is asked and told in form, a target can hear, whatever it keeps: what a client asks, and what
 /// another target tells or asks.
@@ -41,4 +44,18 @@ pub fn laws_of_stops()
     ensures resets { ResetsPostInForm }
     ensures members { ResetMembersPostInForm }
     ensures openings { OpeningsPostInForm }
+{}
+
+/// Says that what a script in form reads is in form, and so are the writes of each of its attempts. So
+/// is all that its clients send, whatever they heard: reads, writes, what asks for snapshots and aggregations, and
+/// questions what became of these go to targets, writes to their leader, and trackers to clients. A client that reads
+/// at a snapshot has to know it, and its epoch; every turn keeps that, and it is so before the first attempt.
+pub fn laws_of_scripts()
+    ensures reads { ReadsAreInForm }
+    ensures writes { WritesAreInForm }
+    ensures posts { ClientsPostInForm }
+    ensures answers { HearersPostInForm }
+    ensures going { ClientsKeepReadsKnown }
+    ensures hearing { HearersKeepReadsKnown }
+    ensures first { ReadsKnownBegins }
 {}

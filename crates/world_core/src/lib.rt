@@ -1,7 +1,7 @@
 // The world of a run under one name: its types, whether a list of events is a run, and the laws of all facts together, whatever crate holds them. Those of
 // world_upheld, world_order and world_closing are of any run: each event, whatever it is, keeps all facts, a run begins with them, lines are in the order of
 // real time where they keep the bound, and where it has ended its report is legal. `laws_of_safety` says what holds whatever targets' versions stood for when the
-// run began. Those of world_plain are of runs without stops and snapshots, as the lists of `check_list` are.
+// run began. The lists of `check_list` are of runs without stops and snapshots.
 #![tactic(auto)]
 
 pub use world_base::did::{Did, Issues};
@@ -14,9 +14,6 @@ pub use world_closing::safety::laws_of_safety;
 pub use world_closing::stands::laws_of_stands;
 pub use world_list::events::{Event, EventKind, EventList, Events};
 pub use world_order::laws_of_real_time;
-pub use world_plain::whole::{
-    laws_of_beginnings, laws_of_clients, laws_of_forms, laws_of_runs, laws_of_stores,
-};
 pub use world_upheld::explained::laws_of_explanations;
 pub use world_upheld::hearing::{laws_of_all_hearing, laws_of_all_leases};
 pub use world_upheld::upheld::{

@@ -1,6 +1,6 @@
 -- What may be said of how attempts end, where their clients have asked to commit these.
-use Rattle.std.specs.Prelude.{ℕ, ◌≡◌, ◌⊎◌, Bool, true, IfSome, List, Option, Some}
-use Rattle.std.proofs.Common.{sym, subst}
+use Rattle.std.specs.Prelude.{◌≡◌, ◌⊎◌, Bool, true, IfSome, List, Option, Some}
+use Rattle.std.proofs.Common.{subst}
 use Rattle.base_types.specs.declared.id.AttemptId.{AttemptId}
 use Rattle.base_types.specs.declared.outcome.Outcome.{Outcome}
 use Rattle.base_types.specs.declared.outcome.Outcome.TheVariants as outcome
@@ -94,9 +94,3 @@ pub leaders-end : (asked : Asked) (old new : TargetMemory) (posts : List Post) �
 leaders-end asked old new posts same k before =
     let l = k before.waiting in
     record { said = l.said; remembers = record { waiting = l.waiting; making = λ n i. before.making n (subst (Has n) same i) } }
-
--- and a turn in which nothing that a leader remembers changes
-pub makers-end : (asked : Asked) (old new : TargetMemory) (posts : List Post) → new.leader ≡ old.leader → (MakesWith asked old.collecting → PostsGoWith asked posts × MakesWith asked new.collecting) → TurnsEndAsked asked old new posts
-makers-end asked old new posts same k before =
-    let l = k before.making in
-    record { said = l.0; remembers = record { waiting = subst (WaitWith asked) (sym same) before.waiting; making = l.1 } }

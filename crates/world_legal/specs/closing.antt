@@ -1,7 +1,6 @@
 -- What is over where a run has ended in which targets may stop, and what closes its report.
 pub mod Closing
 pub mod Holding
-pub mod Took
 pub mod Reads
 pub mod First
 pub mod Outcomes
@@ -11,3 +10,5 @@ pub mod Gone
 pub mod Rowed
 pub mod Waited
 pub mod Asking
+pub mod Sharing
+pub mod OneLine

@@ -2,3 +2,4 @@
 pub mod Ids
 pub mod Epochs
 pub mod Outcomes
+pub mod NumberForms

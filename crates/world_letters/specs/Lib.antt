@@ -2,7 +2,6 @@
 pub mod clients
 pub mod kinds
 pub mod talks
-pub mod addresses
 pub mod waits
 pub mod lines
 pub mod endings

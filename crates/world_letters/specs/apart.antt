@@ -3,3 +3,4 @@ pub mod Sparing
 pub mod Taking
 pub mod Sweeping
 pub mod Laws
+pub mod Staying

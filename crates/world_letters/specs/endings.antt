@@ -4,3 +4,4 @@ pub mod Clients
 pub mod Posts
 pub mod Events
 pub mod Laws
+pub mod Answers

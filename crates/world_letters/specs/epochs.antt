@@ -1,22 +1,12 @@
 -- Epochs that are issued, and what shows them.
 pub mod Epochs
 pub mod Lists
-pub mod IssuedLists
 pub mod Sayings
 pub mod FetchTurns
 pub mod CommitTurns
-pub mod MemberTurns
-pub mod VerdictTurns
 pub mod TargetLaws
 pub mod Talking
 pub mod TargetEvents
 pub mod Asking
 pub mod ClientLaws
-pub mod MoveLaws
-pub mod HearLaws
-pub mod HeardLaws
 pub mod EventLaws
-pub mod PlainScripts
-pub mod PlainLaws
-pub mod Carried
-pub mod EpochLaws

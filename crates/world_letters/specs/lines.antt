@@ -1,6 +1,5 @@
 -- The lines of a run, client by client.
 pub mod Lines
-pub mod Rising
 pub mod FilledLaws
 pub mod LineLaws
 pub mod EndingLaws

@@ -10,3 +10,5 @@ pub mod Events
 pub mod Counting
 pub mod Legal
 pub mod Laws
+pub mod Growing
+pub mod Issued

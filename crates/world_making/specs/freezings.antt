@@ -17,3 +17,5 @@ pub mod Seeing
 pub mod InTheEnd
 pub mod Naming
 pub mod Fetching
+pub mod Snapped
+pub mod Unasked

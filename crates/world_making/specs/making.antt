@@ -6,3 +6,4 @@ pub mod Steps
 pub mod Stages
 pub mod Ends
 pub mod Turns
+pub mod Kinds

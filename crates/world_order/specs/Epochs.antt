@@ -1,14 +1,12 @@
 -- What is known of epochs once something became of a target, before what goes to targets that are given up is lost.
-use Rattle.std.specs.Prelude.{ℕ, ◌≡◌, ◌≤◌, ◌<◌, ◌⊎◌, slice_get, Contains, Some}
-use Rattle.std.proofs.Common.{sym, subst, inl, inr, arith}
-use Rattle.std.proofs.lemmas.List.Elements.{Contains-append_left}
-use Rattle.base_types.specs.declared.epoch.Epoch.{Epoch}
+use Rattle.std.specs.Prelude.{ℕ, ◌≡◌, ◌≤◌, ◌<◌, ◌⊎◌, slice_get, Some}
+use Rattle.std.proofs.Common.{inl, inr, arith}
 use Rattle.base_types.specs.declared.id.AttemptId.{AttemptId}
 use Rattle.daos_model.specs.Opening.{Opening, top}
 use Rattle.model_laws.specs.Members.{contains-from_has}
 use Rattle.world_base.specs.declared.target.TargetState.{TargetState}
 use Rattle.world_base.specs.declared.world.World.{World}
-use Rattle.world_base.specs.Events.{ByClient, ByTarget, Rules, ToClient, ToTarget, listed}
+use Rattle.world_base.specs.Events.{ByClient, ByTarget, Rules, ToClient, ToTarget}
 use Rattle.world_base.specs.Stops.{Draws, Fails, Further, GivenUp, Happening, IsCut, Opens, Plainly}
 use Rattle.world_causes.specs.handing.Places.{snapshots-read}
 use Rattle.world_causes.specs.outcomes.Keeping.{IsOfTarget}
@@ -22,21 +20,9 @@ use Rattle.world_making.specs.dates.Turning.{idles-dated}
 use Rattle.world_making.specs.freezings.Freezings.{IsOfSnap}
 use Rattle.world_upheld.specs.order.Serving.{FrozenAreMade}
 use Rattle.world_upheld.specs.upheld.Heard.{HeardGrounds}
+use Rattle.world_letters.specs.lives.Issued.{issued-on}
 
 module _ (r : Rules) (o : Opening) (h : History) (w u : World) (k : HeardGrounds r o h w) where
-  -- what was issued stays so
-  issued-stays : (e : Happening r w u) → IsOfTarget e → (x : AttemptId) (f : Epoch) → Contains w.issued (x, f) → Contains u.issued (x, f)
-  issued-stays (Plainly (ByClient g) up) ours x f i = absurd ours
-  issued-stays (Plainly (ToClient g) up) ours x f i = absurd ours
-  issued-stays (Plainly (ToTarget g) up) ours x f i = subst (λ (z : World). Contains z.issued (x, f)) (sym g.after) (Contains-append_left w.issued (listed g.did.issued) (x, f) i)
-  issued-stays (Plainly (ByTarget g) up) ours x f i = subst (λ (z : World). Contains z.issued (x, f)) (sym g.after) (Contains-append_left w.issued (listed g.did.issued) (x, f) i)
-  issued-stays (Further g) ours x f i = subst (λ (z : World). Contains z.issued (x, f)) (sym g.hears.after) (Contains-append_left w.issued (listed g.hears.did.issued) (x, f) i)
-  issued-stays (IsCut g) ours x f i = subst (λ (z : World). Contains z.issued (x, f)) (sym g.after) (Contains-append_left w.issued g.cut.issued (x, f) i)
-  issued-stays (Opens g) ours x f i = subst (λ (z : World). Contains z.issued (x, f)) (sym g.after) i
-  issued-stays (Fails g) ours x f i = subst (λ (z : World). Contains z.issued (x, f)) (sym g.after) i
-  issued-stays (GivenUp g) ours x f i = subst (λ (z : World). Contains z.issued (x, f)) (sym g.after) i
-  issued-stays (Draws g) ours x f i = subst (λ (z : World). Contains z.issued (x, f)) (sym g.after) i
-
   -- epochs are as they are between events
   pub epochs-happened : (e : Happening r w u) → IsOfTarget e → Epochs r (top o) u
   epochs-happened (Plainly (ByClient g) up) ours = absurd ours
@@ -56,4 +42,4 @@ module _ (r : Rules) (o : Opening) (h : History) (w u : World) (k : HeardGrounds
     where
       by : (f.0 ≤ top o) ⊎ IsOfSnap r w.issued c f → (x : AttemptId) × IsIssued u x f × IsSnapIn r x c
       by (inl low) = let high : top o < f.0 = above in let no : ⊥ = omega (arith, low, high) in absurd no
-      by (inr z) = (z.0, issued-stays e ours z.0 f (contains-from_has w.issued (z.0, f) z.1), z.2)
+      by (inr z) = (z.0, issued-on r w u e z.0 f (contains-from_has w.issued (z.0, f) z.1), z.2)

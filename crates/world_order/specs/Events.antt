@@ -17,7 +17,6 @@ use Rattle.world_letters.specs.clients.Snapshots.{is_at_snapshot}
 use Rattle.world_letters.specs.waits.Happenings as wait
 use Rattle.world_letters.specs.waits.Waits.{Conversation}
 use Rattle.world_making.specs.prunings.MakingGots.{all-events-keep_gots}
-use Rattle.world_upheld.specs.below.Plain.{AreBefore}
 use Rattle.world_upheld.specs.order.Clients.{clients-keep-order}
 use Rattle.world_upheld.specs.order.Known.{lines-are-known, readers-are-borne-firsts, writers-are-borne-firsts}
 use Rattle.world_upheld.specs.order.Passing.{OrderKnown, OrderStands, PassesOn, sweeping-keeps-order, targets-keep-order}
@@ -25,6 +24,7 @@ use Rattle.world_upheld.specs.upheld.Events as stands
 use Rattle.world_upheld.specs.upheld.Heard.{all-heard_right}
 use Rattle.world_upheld.specs.upheld.Telling.{all-targets_tell}
 use Rattle.world_upheld.specs.upheld.Upheld.{Upheld}
+use Rattle.world_upheld.specs.upheld.Begins.{AreBefore}
 use Rattle.world_order.specs.Clients.{by-counting, by-hearing, by-moves}
 use Rattle.world_order.specs.Epochs.{epochs-happened, frozen-made}
 use Rattle.world_order.specs.Standing.{StandsInOrder, StandsInOrderStill}

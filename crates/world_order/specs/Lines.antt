@@ -37,7 +37,6 @@ use Rattle.world_contents.specs.gots.Right.{IsAskable}
 use Rattle.world_contents.specs.reads.Given.{FitsTargets, Given}
 use Rattle.world_contents.specs.reads.MemberLaws.{writes-member}
 use Rattle.world_contents.specs.reads.Versions.{IsWriteAt}
-use Rattle.world_upheld.specs.below.Plain.{AreBefore}
 use Rattle.world_upheld.specs.below.Standing.{AreExternallyConsistent, BeganAfter, Conflict, HasSmallerEpoch, IsAnsweredBefore, IsAskedAs, IsBehind, IsCommitted, IsFar, IsFarOfFirst, IsLater, IsServedAt, IsStoredBehind, KeepsTheBound, MeetsAt, ReadsAt, WasAnswered, WritesAt, WritesWhere, asked-own, group-is_asked, line-served, meets, members-under, none-has, some-own}
 use Rattle.daos_model.specs.BoolLaws.{not_true}
 use Rattle.world_letters.specs.clients.Snapshots.{at-same, is_at_snapshot}
@@ -45,6 +44,7 @@ use Rattle.world_making.specs.dates.Owning.{own-issued}
 use Rattle.world_upheld.specs.order.Passing.{OrderStands}
 use Rattle.world_upheld.specs.upheld.Heard.{all-heard_right}
 use Rattle.world_upheld.specs.upheld.Upheld.{Upheld}
+use Rattle.world_upheld.specs.upheld.Begins.{AreBefore}
 use Rattle.world_order.specs.Accesses.{IsAccess, Reads, Writes, access-of, began-after, entry-among, some-key}
 use Rattle.world_order.specs.Standing.{StandsInOrder}
 

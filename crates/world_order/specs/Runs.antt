@@ -11,9 +11,8 @@ use Rattle.world_base.specs.declared.world.World.{World}
 use Rattle.world_base.specs.Events.{Rules}
 use Rattle.world_base.specs.Stops.{Begins, Goes, WorldRun}
 use Rattle.world_commit.specs.attempts.History.{History}
-use Rattle.world_upheld.specs.below.Plain.{held_at, no_history}
 use Rattle.world_upheld.specs.below.Standing.{AreExternallyConsistent, AreInOrder, KeepsTheBound}
-use Rattle.world_upheld.specs.upheld.Begins.{AreRulesInForm, RunBeginsWith}
+use Rattle.world_upheld.specs.upheld.Begins.{AreRulesInForm, RunBeginsWith, held_at, no_history}
 use Rattle.world_upheld.specs.upheld.Runs.{held-first, upheld-begins}
 use Rattle.world_order.specs.Events.{all-events-keep_order}
 use Rattle.world_order.specs.Lines.{lines-are_consistent}

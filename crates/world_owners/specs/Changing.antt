@@ -22,7 +22,7 @@ use Rattle.daos_model.specs.Versions.{done_by, is_not_pending}
 use Rattle.world_base.specs.ChangeLaws.{LeaseRises, Raises, lease-same, lease-steps, lease-then}
 use Rattle.world_base.specs.Changes.{After, Before, Change, Creates, Cut, Extends, Freezes, InPart, IsPartly, Kept, Prepares, Prunes, Settles, Steps, made}
 use Rattle.world_base.specs.EntryLaws.{entry-aborted_other, entry-confirmed}
-use Rattle.world_commit.specs.attempts.MarkTurns.{found-attempt}
+use Rattle.world_commit.specs.attempts.Stored.{found-attempt}
 use Rattle.world_contents.specs.reads.ChangeLaws.{apart-of, entry-settled, open-other, other-entry, other-stays, still-open}
 use Rattle.world_contents.specs.reads.Versions.{IsPreparedAt}
 

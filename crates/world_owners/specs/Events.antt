@@ -3,13 +3,11 @@ use Rattle.std.specs.Prelude.{ℕ, ◌≡◌, ◌++◌, is_none, filter, List, [
 use Rattle.std.proofs.Common.{inl, inr, sym, ◌∙◌, ap, subst}
 use Rattle.std.proofs.Math.ListN.{set}
 use Rattle.base_types.specs.declared.entry.Entry.{Entry}
-use Rattle.base_types.specs.declared.epoch.Epoch.{Epoch}
-use Rattle.base_types.specs.declared.id.AttemptId.{AttemptId}
 use Rattle.base_types.specs.declared.operation.MinorWrite.{MinorWrite}
 use Rattle.base_messages.specs.declared.message.Message.{Message}
 use Rattle.base_messages.specs.declared.message.Message.TheVariants as message
 use Rattle.model_laws.specs.EntryLaws.{put-has}
-use Rattle.model_laws.specs.Members.{Has, has-filter, has-left, has-map, has-right}
+use Rattle.model_laws.specs.Members.{Has, has-filter, has-map, has-right}
 use Rattle.daos_model.specs.declared.durable.Durable.{Durable}
 use Rattle.daos_model.specs.Changes.{prepared, reopened}
 use Rattle.daos_model.specs.Durables.{entry_key, entry_of}
@@ -81,19 +79,6 @@ unfolding prepared
 stored-counts t old new k ws on none =
     has-map (stored_as t) (filter (is_new_to old) new.entries) k
     (has-filter (is_new_to old) new.entries k (subst (λ d. Has k d.entries) (sym on.now) (put-has entry_key k on.on.entries k (inl refl))) (ap is_none none))
-
--- what was issued stays issued
-pub issued-stays : (r : Rules) (w u : World) → Happening r w u → (i : AttemptId × Epoch) → Has i w.issued → Has i u.issued
-issued-stays r w u (Plainly (ByClient g) up) i j = subst (λ x. Has i x.issued) (sym g.after) (has-left w.issued (listed g.did.issued) i j)
-issued-stays r w u (Plainly (ToClient g) up) i j = subst (λ x. Has i x.issued) (sym g.after) (has-left w.issued (listed g.did.issued) i j)
-issued-stays r w u (Plainly (ToTarget g) up) i j = subst (λ x. Has i x.issued) (sym g.after) (has-left w.issued (listed g.did.issued) i j)
-issued-stays r w u (Plainly (ByTarget g) up) i j = subst (λ x. Has i x.issued) (sym g.after) (has-left w.issued (listed g.did.issued) i j)
-issued-stays r w u (Further f) i j = subst (λ x. Has i x.issued) (sym f.hears.after) (has-left w.issued (listed f.hears.did.issued) i j)
-issued-stays r w u (IsCut g) i j = subst (λ x. Has i x.issued) (sym g.after) (has-left w.issued g.cut.issued i j)
-issued-stays r w u (Opens g) i j = subst (λ x. Has i x.issued) (sym g.after) j
-issued-stays r w u (Fails g) i j = subst (λ x. Has i x.issued) (sym g.after) j
-issued-stays r w u (GivenUp g) i j = subst (λ x. Has i x.issued) (sym g.after) j
-issued-stays r w u (Draws g) i j = subst (λ x. Has i x.issued) (sym g.after) j
 
 -- ---- events
 

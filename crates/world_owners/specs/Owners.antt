@@ -36,7 +36,8 @@ use Rattle.world_commit.specs.fates.Asked.{AskedRight}
 use Rattle.world_commit.specs.fates.Facts.{Attempts, IsPrepareRight, IsSaidSo}
 use Rattle.world_contents.specs.reads.Standing.{asked-prepares}
 use Rattle.world_contents.specs.reads.Versions.{IsPreparedAt, IsVersionOf, IsWriteAt}
-use Rattle.world_owners.specs.Events.{EventBrings, IsBrought, all-events-leave_or_store, issued-stays}
+use Rattle.world_owners.specs.Events.{EventBrings, IsBrought, all-events-leave_or_store}
+use Rattle.world_letters.specs.lives.Issued.{issued-stays}
 use Rattle.world_owners.specs.Becoming.{Brings, IsOfCommit}
 use Rattle.world_owners.specs.Versions.{DisregardsDone, HoldsAt, IsNewAt, all-events-keep_prepared, all-events-keep_versions, all-events-raise_leases}
 

@@ -1,5 +1,5 @@
 -- What turns by which nothing is stored leave of what a target keeps, whole or cut.
-use Rattle.std.specs.Prelude.{ℕ, ◌≡◌, ◌/◌, Bool, true, false, not, List, Option, Some, refl}
+use Rattle.std.specs.Prelude.{ℕ, ◌≡◌, ◌/◌, Bool, true, false, List, Option, Some, refl}
 use Rattle.std.proofs.Common.{sym, subst}
 use Rattle.base_types.specs.declared.entry.Verdict.{Verdict}
 use Rattle.base_types.specs.declared.entry.Verdict.TheVariants as fate
@@ -9,8 +9,7 @@ use Rattle.base_types.specs.declared.outcome.FloorWhy.{FloorWhy}
 use Rattle.base_types.specs.declared.outcome.Outcome.{Outcome}
 use Rattle.base_types.specs.declared.report.Line.{Line}
 use Rattle.base_messages.specs.declared.actor.ActorId.{ActorId}
-use Rattle.base_messages.specs.declared.message.Message.{Message, more_of-Message}
-use Rattle.base_messages.specs.declared.message.Message.TheVariants as message
+use Rattle.base_messages.specs.declared.message.Message.{Message}
 use Rattle.daos_model.specs.declared.durable.Durable.{Durable}
 use Rattle.world_base.specs.declared.did.Did.{Did}
 use Rattle.world_base.specs.declared.request.FetchRequest.{FetchRequest}
@@ -29,12 +28,12 @@ use Rattle.world_base.specs.Statuses.{Looks, NoChange}
 use Rattle.world_base.specs.Turns.{Path, Whole}
 use Rattle.world_base.specs.Verdicts as verdict
 use Rattle.world_commit.specs.statuses.Heard.{is_of_attempts}
-use Rattle.world_commit.specs.statuses.ResetTurns.{is_collecting}
 use Rattle.world_commit.specs.stops.CutEvents.{is_without_snapshots}
 use Rattle.world_making.specs.making.Making as making
-use Rattle.world_making.specs.making.Making.{IsOfMaking, MakingNext, is_of_snapshots, making_begins, making_issues}
+use Rattle.world_making.specs.making.Making.{MakingNext, making_begins, making_issues}
 use Rattle.world_making.specs.making.Turns.{cuts-leave, hearings-leave}
 use Rattle.world_owners.specs.Changing.{ForgetsNone, IsLeftOf, StoresNone, left-cut, left-itself, left-steps, left-then}
+use Rattle.world_making.specs.making.Kinds.{of-making, cut-making}
 
 -- ---- kinds of turns
 
@@ -114,26 +113,6 @@ module _ {S : Type 0} (Next : S → Kept → Option Change → S → Type 0) (no
       here lines (InQuestion is free) = left-itself g.mid.durable cut.left.durable is
 
 -- ---- what is heard of snapshots and aggregation
-
-of-making : (m : Message) → is_of_attempts m ≡ false → IsOfMaking m
-of-making (message.Snap x c name tracker) off = refl
-of-making (message.Freeze x c s) off = refl
-of-making (message.Held x refusal) off = refl
-of-making (message.Prune x c tracker e) off = refl
-of-making (message.Reset' by down place (more_of-Message q rest)) off = inner q off
-  where
-    inner : (q : Message) → not (is_collecting q) ≡ false → is_of_snapshots q ≡ true
-    inner (message.Freeze x c s) is = refl
-    inner (message.Prune x c tracker e) is = refl
-    inner q is = let no : ⊥ = cc in absurd no
-of-making m off = let no : ⊥ = cc in absurd no
-
-cut-making : (m : Message) → is_without_snapshots m ≡ false → IsOfMaking m
-cut-making (message.Snap x c name tracker) ours = refl
-cut-making (message.Freeze x c s) ours = refl
-cut-making (message.Held x refusal) ours = refl
-cut-making (message.Prune x c tracker e) ours = refl
-cut-making m ours = let no : ⊥ = cc in absurd no
 
 pub making-left : (number : ℕ) (p : TargetPlan) (opening : Epoch × FloorWhy) (m : TargetMemory) (reading : ℕ) (from : ActorId) (q : Message) (old new : Kept) (left : TargetMemory × Did) → is_of_attempts q ≡ false
     → HearsFurther number p opening m reading from q old new left → IsLeftOf old.durable new.durable

@@ -17,7 +17,7 @@ use Rattle.world_commit.specs.attempts.History.{History}
 use Rattle.world_upheld.specs.below.Legal.{runs-as_many, stored_over}
 use Rattle.world_letters.specs.lives.Events.{as-added}
 use Rattle.world_letters.specs.lives.TurnLines.{further-lines, idle-lines, plain-lines}
-use Rattle.world_upheld.specs.below.Plain.{TellsOfNoStop, none-stops, none-told_before}
+use Rattle.world_letters.specs.lives.Growing.{TellsOfNoStop, none-stops, none-told_before}
 use Rattle.world_refusals.specs.Alone.{hears-none}
 use Rattle.world_refusals.specs.Hearing.{NoneRestarts, TellsNone, goes-quiet, hears-quiet}
 use Rattle.world_refusals.specs.Runs.{all-runs-tell_fitly}

@@ -1,5 +1,5 @@
 -- Every run from its beginning is a list of events.
-use Rattle.std.specs.Prelude.{ℕ, ◌≡◌, ◌≤◌, ◌<◌, ◌++◌, ◌==◌, All, Bool, true, false, count_by, is_none, is_some, List, [], ◌∷◌, length, slice_get, Option, Some, None, refl, if◌then◌else◌}
+use Rattle.std.specs.Prelude.{ℕ, zero, suc, ◌≡◌, ◌≤◌, ◌<◌, ◌++◌, ◌==◌, ◌&&◌, All, Bool, true, false, count_by, find, is_none, is_some, List, [], ◌∷◌, length, slice_get, Option, Some, None, refl, if◌then◌else◌}
 use Rattle.std.proofs.lemmas.Bool.Decides.{nat_tests}
 use Rattle.std.specs.Option.{option_map}
 use Rattle.std.proofs.Common.{inl, inr, sym, ◌∙◌, ap, subst, arith}
@@ -13,7 +13,6 @@ use Rattle.base_types.specs.declared.entry.Entry.{Entry}
 use Rattle.base_types.specs.declared.id.AttemptId.{AttemptId}
 use Rattle.model_laws.specs.Lists.{all-pass}
 use Rattle.model_laws.specs.Members.{Has}
-use Rattle.base_messages.specs.declared.actor.ActorId.{ActorId}
 use Rattle.base_messages.specs.declared.message.Message.{Message}
 use Rattle.base_messages.specs.declared.message.Message.TheVariants as message
 use Rattle.daos_model.specs.declared.durable.Durable.{Durable}
@@ -26,18 +25,45 @@ use Rattle.world_base.specs.declared.target.TargetPlan.{TargetPlan}
 use Rattle.world_base.specs.declared.target.TargetState.{TargetState}
 use Rattle.world_base.specs.declared.world.World.{World}
 use Rattle.world_base.specs.ClientTurns.{plan_of}
-use Rattle.world_plain.specs.whole.BeginLaws.{get-map}
-use Rattle.world_plain.specs.whole.Begins.{IsBegun, IsSimple, first_client, first_tracker, held_at}
-use Rattle.world_plain.specs.whole.Hearable.{CanHear}
+use Rattle.world_upheld.specs.below.Legal.{get-map}
 use Rattle.world_commit.specs.attempts.Attempts.{entry_in, is_known_at, is_known_in}
+use Rattle.world_commit.specs.fates.Facts.{Attempts}
 use Rattle.world_commit.specs.attempts.History.{History}
 use Rattle.world_commit.specs.attempts.Stored.{among-has}
-use Rattle.world_plain.specs.whole.Whole.{Whole, held-before, runs-can-be-heard, runs-stay-whole}
-use Rattle.world_plain.specs.whole.Asking.{requests-are-right}
 use Rattle.world_contents.specs.reads.Given.{IsParkedRight}
 use Rattle.world_base.specs.Roles.{other_leader, other_leader_of}
-use Rattle.world_base.specs.Events.{Begins, ByClient, ByTarget, Event, Goes, Rules, Run, ToClient, ToTarget, client_plan, commands_or_none, target_plan}
+use Rattle.world_base.specs.Events.{Begins, ByClient, ByTarget, Event, Goes, Rules, Run, ToClient, ToTarget, client_plan, commands_or_none, kept, target_plan}
 use Rattle.world_base.specs.Letters.{client, target}
+use Rattle.world_base.specs.Stops as world
+use Rattle.world_base.specs.Stops.{NoneDown, WorldRun, is_down_at, swept}
+use Rattle.world_base.specs.Changes.{Kept}
+use Rattle.world_base.specs.Commits.{led_entry}
+use Rattle.world_base.specs.declared.request.CommitRequest.{CommitRequest}
+use Rattle.world_base.specs.Further.{KnowsNoneDown}
+use Rattle.world_base.specs.Statuses.{down_of}
+use Rattle.world_base.specs.TargetTurns.{Hears, commit_request}
+use Rattle.world_base.specs.declared.did.Did.{Did}
+use Rattle.world_base.specs.declared.letter.Letter.{Letter}
+use Rattle.world_base.specs.declared.target.Life.{Life}
+use Rattle.world_base.specs.declared.target.Life.TheVariants.{Down, Running, Stopped}
+use Rattle.base_types.specs.declared.epoch.Epoch.{Epoch}
+use Rattle.base_types.specs.declared.report.Line.TheVariants as line
+use Rattle.daos_model.specs.Stops.{HasTarget}
+use Rattle.dtx_base.specs.Leading.{first_down, is_down_among}
+use Rattle.dtx_base.specs.Members.{all_targets, has_target}
+use Rattle.model_laws.specs.DecidedLaws.{has-all}
+use Rattle.model_laws.specs.Lists.{at-within}
+use Rattle.run_base.specs.Sweeps.{none-is_swept}
+use Rattle.world_letters.specs.apart.Staying.{runs-keep-targets}
+use Rattle.world_upheld.specs.below.Legal.{stored_over, told-down}
+use Rattle.world_upheld.specs.hearing.Hearable.{CanHearLetter}
+use Rattle.world_upheld.specs.hearing.Runs.{runs-can_hear_all}
+use Rattle.world_upheld.specs.reasons.Accounted.{AccountedFor}
+use Rattle.world_upheld.specs.reasons.Runs.{runs-are_accounted}
+use Rattle.world_upheld.specs.upheld.BeginVersions.{begins-well}
+use Rattle.world_upheld.specs.upheld.Begins.{AreRulesInForm, RunBeginsWell, RunBeginsWith, client_begins, first_tracker, held_at}
+use Rattle.world_upheld.specs.upheld.Runs.{runs-are_upheld, runs-hear_all_rightly}
+use Rattle.world_upheld.specs.upheld.Upheld.{Upheld}
 use Rattle.world_list.specs.Fitting.{AreInPlace, PlansFit}
 use Rattle.world_list.specs.RunLists.{IsRunFrom, IsRunList, LeadsTo, last_world, rules_of}
 use Rattle.world_list.specs.declared.events.Event as listed
@@ -55,9 +81,9 @@ pub record IsListed (r : Rules) (w v : World) : Type 0 where
   pub last : last_world events.start events.list ≡ v
   pub runs : IsRunList events
 
--- every run from its beginning, of any number of targets, without snapshots and aggregation, has such a list
+-- every run from its beginning, of any number of targets, in which nothing stops and no snapshot or aggregation is made, has such a list
 abbrev pub RunsHaveLists : Type 0
-RunsHaveLists = (r : Rules) (o : Opening) (w v : World) → IsSimple r → IsBegun r o w → Run r w v → IsListed r w v
+RunsHaveLists = (r : Rules) (o : Opening) (w v : World) → AreRulesInForm r → RunBeginsWith r o w → Run r w v → IsListed r w v
 
 -- ---- lists
 
@@ -79,16 +105,22 @@ run-more r w (x ∷ es) e run leads = (run.0, run-more r x.after es e run.1 lead
 
 -- ---- what a target hears
 
-can-hear : (r : Rules) (t : ℕ) (d : Durable) (m : TargetMemory) (q : Message) → r.script.targets ≤ 64 → replay.CanTryAgain (target_plan r t) d m → CanHear r t d q → replay.CanHear (target_plan r t) d m q
-can-hear r t d m (message.Fetch x op group ep first tracker q snapshot) few can k = can.read
-can-hear r t d m (message.Commit x ep first tracker ws) few can k = record { few = few; form = k.store.form; fit = k.fit }
-can-hear r t d m (message.Prepare e first ws inc) few can k = k.store.form
-can-hear r t d m (message.Ack x inc refusal) few can k = tt
-can-hear r t d m (message.Mark inc marks) few can k = tt
-can-hear r t d m (message.Marked inc ids) few can k = tt
-can-hear r t d m (message.Query x ask) few can k = tt
-can-hear r t d m (message.Verdict x ask inc v) few can k = can
-can-hear r t d m q few can k = absurd k
+module _ (r : Rules) (t : ℕ) (s : TargetState) (reading : ℕ) (l : Letter) (new : Kept) (left : TargetMemory × Did) (few : r.script.targets ≤ 64) (can : replay.CanTryAgain (target_plan r t) s.durable s.memory) where
+  -- what it hears as without stops it can hear again
+  can-hear : (q : Message) → CanHearLetter r t s.durable (record l { message = q }) → Hears (target_plan r t) s.opening s.memory reading l.from q (kept s) new left → replay.CanHear (target_plan r t) s.durable s.memory q
+  can-hear (message.Fetch x op group ep first tracker q snapshot) k turn = can.read
+  can-hear (message.Commit x ep first tracker ws) (inl (inl k)) turn = record { few = few; form = k.store.form; fit = k.fit }
+  can-hear (message.Commit x ep first tracker ws) (inl (inr k)) turn = absurd k
+  can-hear (message.Commit x ep first tracker ws) (inr k) turn = absurd k.form
+  can-hear (message.Prepare e first ws inc) (inl (inl k)) turn = k.store.form
+  can-hear (message.Prepare e first ws inc) (inl (inr k)) turn = absurd k
+  can-hear (message.Prepare e first ws inc) (inr k) turn = absurd k.form
+  can-hear (message.Ack x inc refusal) k turn = tt
+  can-hear (message.Mark inc marks) k turn = tt
+  can-hear (message.Marked inc ids) k turn = tt
+  can-hear (message.Query x ask) k turn = tt
+  can-hear (message.Verdict x ask inc v) k turn = can
+  can-hear q k turn = absurd turn
 
 -- a Fetch that waits goes with its epoch
 parked-timed : (r : Rules) (o : Opening) (w : World) (t : ℕ) (d : Durable) (q : Message) → IsParkedRight r o w t d q → replay.is_timed q ≡ true
@@ -112,56 +144,133 @@ fits-none r n none = record {
   few = subst (λ cs. count_by is_numbered cs ≤ 100000) (sym (ap commands_or_none none)) (omega arith);
 }
 
-fits-some : (r : Rules) (n : ℕ) (list : List Command) → IsSimple r → slice_get r.script.clients n ≡ Some list → PlanFits (client_plan r n)
+fits-some : (r : Rules) (n : ℕ) (list : List Command) → AreRulesInForm r → slice_get r.script.clients n ≡ Some list → PlanFits (client_plan r n)
 fits-some r n list A is = subst (λ cs. PlanFits (plan_of r.script n r.attempts cs)) (sym (ap commands_or_none is)) (plan_fits r.script n r.attempts list A.form is)
 
-plans-fit : (r : Rules) → IsSimple r → PlansFit r
+plans-fit : (r : Rules) → AreRulesInForm r → PlansFit r
 plans-fit r A n = by (slice_get r.script.clients n) refl
   where
     by : (o : Option (List Command)) → slice_get r.script.clients n ≡ o → PlanFits (client_plan r n)
     by None is = fits-none r n is
     by (Some list) is = fits-some r n list A is
 
-in-place : (r : Rules) (o : Opening) (w : World) → IsSimple r → IsBegun r o w → AreInPlace r w
-in-place r o w A B n c here = by (slice_get r.script.clients n) (sym (get-map (first_client r.script o) r.script.clients n) ∙ ap (λ cs. slice_get cs n) (sym B.clients) ∙ here)
+in-place : (r : Rules) (o : Opening) (w : World) → AreRulesInForm r → RunBeginsWith r o w → AreInPlace r w
+in-place r o w A B n c here = by (slice_get r.script.clients n) (sym (get-map (client_begins r o w) r.script.clients n) ∙ ap (λ cs. slice_get cs n) (sym B.clients) ∙ here)
   where
-    by : (list : Option (List Command)) → option_map (first_client r.script o) list ≡ Some c → IsInPlace (client_plan r n) c
+    by : (list : Option (List Command)) → option_map (client_begins r o w) list ≡ Some c → IsInPlace (client_plan r n) c
     by None e = let no : ⊥ = cc in absurd no
     by (Some list) e =
-        let same : first_client r.script o list ≡ c = cc in
-        subst (IsInPlace (client_plan r n)) same (first_place (client_plan r n) (first_tracker o) (first_client r.script o list).known (plans-fit r A n))
+        let same : client_begins r o w list ≡ c = cc in
+        subst (IsInPlace (client_plan r n)) same (first_place (client_plan r n) (first_tracker o) (client_begins r o w list).known (plans-fit r A n))
+
+-- ---- where all targets run
+
+abbrev AllRun : World → Type 0
+AllRun w = (t : ℕ) (s : TargetState) → slice_get w.targets t ≡ Some s → s.life ≡ Running
+
+-- none is given up
+none-given_up : (ss : List TargetState) → ((t : ℕ) (s : TargetState) → slice_get ss t ≡ Some s → s.life ≡ Running) → (t : ℕ) → is_down_at ss t ≡ false
+none-given_up [] run t = refl
+none-given_up (s ∷ ss) run zero = by s.life (run 0 s refl)
+  where
+    by : (l : Life) → l ≡ Running → is_down_at (record s { life = l } ∷ ss) 0 ≡ false
+    by Running is = refl
+    by Stopped is = refl
+    by Down is = let no : ⊥ = cc in absurd no
+none-given_up (s ∷ ss) run (suc t) = none-given_up ss (λ u z at. run (suc u) z at) t
+
+-- so nothing is lost that goes to one
+none-swept : (w : World) → AllRun w → swept w ≡ w
+none-swept w run = none-is_swept w (none-given_up w.targets run)
+
+-- no member is known to be down where no target is
+none-among : (xs : List ℕ) (members down : ℕ) → ((x : ℕ) → has_target down x ≡ false) → find (is_down_among members down) xs ≡ None
+none-among [] members down none = refl
+none-among (x ∷ xs) members down none = ap (λ b. if b then Some x else find (is_down_among members down) xs) (off (has_target members x) (has_target down x) (none x)) ∙ none-among xs members down none
+  where
+    off : (a b : Bool) → b ≡ false → (a && b) ≡ false
+    off true b k = k
+    off false b k = refl
+
+none-down : (p : TargetPlan) (m : TargetMemory) (q : CommitRequest) (e : Epoch) → ((x : ℕ) → has_target m.leader.down x ≡ false) → down_of p m q e ≡ None
+unfolding first_down
+none-down p m q e none = none-among all_targets (led_entry p q e).members m.leader.down none
+
+knows-none : (p : TargetPlan) (m : TargetMemory) (q : Message) → ((x : ℕ) → has_target m.leader.down x ≡ false) → KnowsNoneDown p m q
+knows-none p m (message.Commit x ep first tracker ws) none = λ e. none-down p m (commit_request x ep first tracker ws) e none
+knows-none p m q none = tt
 
 -- ---- the law
 
-module _ (r : Rules) (o : Opening) (w : World) (A : IsSimple r) (B : IsBegun r o w) where
+module _ (r : Rules) (o : Opening) (w : World) (A : AreRulesInForm r) (B : RunBeginsWith r o w) where
+  well : RunBeginsWell r o w
+  well = begins-well r o w B
+
+  -- at each moment of the run all targets run
+  all-run : (v : World) → Run r w v → AllRun v
+  all-run v run t z at = let s = runs-keep-targets r w v run t z at in s.2.life ∙ (well.starts t s.0 s.1).runs
+
+  -- so no leader knows one to be down
+  none-known : (u : World) → AllRun u → WorldRun r w u → (t : ℕ) (s : TargetState) → slice_get u.targets t ≡ Some s → (m : ℕ) → has_target s.memory.leader.down m ≡ false
+  none-known u up run t s here m = by (has_target s.memory.leader.down m) refl
+    where
+      k : (h : History) × AccountedFor r o h (stored_over r run) u
+      k = runs-are_accounted r o w u A well run
+
+      there : Has (line.Down m) u.lines → (z : TargetState) × (slice_get u.targets m ≡ Some z)
+      there i = at-within u.targets m (has-all (HasTarget (length u.targets)) u.lines (line.Down m) k.1.grounds.lives.bounded i)
+
+      by : (b : Bool) → has_target s.memory.leader.down m ≡ b → b ≡ false
+      by false is = refl
+      by true is =
+          let i = k.1.knows t m s here is in
+          let z = there i in
+          let down : z.0.life ≡ Down = told-down u k.1.grounds.lives m z.0 z.1 i in
+          let bad : Running ≡ Down = sym (up m z.0 z.1) ∙ down in
+          let no : ⊥ = cc in absurd no
+
+  -- and it is one in which targets may stop
+  knows : (u v : World) → Run r w u → WorldRun r w u → (e : Event r u v) → NoneDown r e
+  knows u v run also (ByClient g) = tt
+  knows u v run also (ToClient g) = tt
+  knows u v run also (ByTarget g) = tt
+  knows u v run also (ToTarget g) = knows-none (target_plan r g.t) g.s.memory g.l.message (none-known u (all-run u run) also g.t g.s g.here)
+
+  also : (v : World) → Run r w v → WorldRun r w v
+  also v Begins = world.Begins
+  also v (Goes u x run e) = world.Goes u v (also u run) (record { u = v; happens = world.Plainly e (knows u v run (also u run) e); after = sym (none-swept v (all-run v (Goes u v run e))) })
+
   -- what holds at each moment of the run
   module _ (u : World) (run : Run r w u) where
     abbrev history : History
-    history = (runs-stay-whole r o w u A B run).0
+    history = (runs-are_upheld r o w u A B (also u run)).0
 
-    whole : Whole r o (held_at w) history u
-    whole = (runs-stay-whole r o w u A B run).1
+    upheld : Upheld r o (held_at w) history u
+    upheld = (runs-are_upheld r o w u A B (also u run)).1
+
+    abbrev attempts : Attempts r history u
+    attempts = upheld.grounds.heard.attempts
 
     placed : (t : ℕ) (s : TargetState) → slice_get u.targets t ≡ Some s → t < r.script.targets
-    placed t s here = let within : t < length u.targets = slice_get_within u.targets t s here in let many : length u.targets ≡ r.script.targets = whole.all.facts.addressed.targets in omega (arith, within, many)
+    placed t s here = let within : t < length u.targets = slice_get_within u.targets t s here in let many : length u.targets ≡ r.script.targets = upheld.grounds.heard.many in omega (arith, within, many)
 
     decided-led : (t : ℕ) (s : TargetState) → slice_get u.targets t ≡ Some s → (x : AttemptId) → Has x s.memory.leader.decided → replay.is_led_here (target_plan r t) s.durable x ≡ true
     decided-led t s here x i =
         let known : is_known_at u t x ≡ true = ap (λ z. is_known_in z x) here ∙ among-has x s.memory.leader.decided i in
-        let held = ((whole.all.facts.attempts.each x).rows.unsettled t known).here in
-        let its = (whole.all.facts.attempts.each x).entries.one t held.entry held.found in
+        let held = ((attempts.on.each x).rows.unsettled t known).here in
+        let its = (attempts.on.each x).entries.one t held.entry held.found in
         led-here (target_plan r t) s.durable x held.entry (sym (ap (λ z. entry_in z x) here) ∙ held.found) (its.leader ∙ sym held.leads)
 
     can-read : (t : ℕ) (s : TargetState) → slice_get u.targets t ≡ Some s → replay.CanRead (target_plan r t) s.durable s.memory.leader.decided
     can-read t s here = record {
-      versions = (whole.all.versions.stand t s here).form.writes;
+      versions = (upheld.contents.versions.stand t s here).form.writes;
       led = all-pass (replay.is_led_here (target_plan r t) s.durable) s.memory.leader.decided (decided-led t s here);
     }
 
     can-try : (t : ℕ) (s : TargetState) → slice_get u.targets t ≡ Some s → replay.CanTryAgain (target_plan r t) s.durable s.memory
     can-try t s here = record {
       read = can-read t s here;
-      timed = all-pass replay.is_timed_ask s.memory.member.parked (λ p i. parked-timed r o u t s.durable p.ask ((requests-are-right r o (held_at w) history u whole.all.facts (held-before r o w B)).waiting t s p here (whole.running t s here) i));
+      timed = all-pass replay.is_timed_ask s.memory.member.parked (λ p i. parked-timed r o u t s.durable p.ask ((runs-hear_all_rightly r o w u A B (also u run)).waiting t s p here (all-run u run t s here) i));
     }
 
     leads : (x : World) (e : Event r u x) → LeadsTo r u (listed_event r u x e).kind (listed_event r u x e).actor (listed_event r u x e).heard x
@@ -172,8 +281,8 @@ module _ (r : Rules) (o : Opening) (w : World) (A : IsSimple r) (B : IsBegun r o
       where
         form : replay.CanHear (target_plan r g.t) g.s.durable g.s.memory g.l.message
         form =
-            can-hear r g.t g.s.durable g.s.memory g.l.message A.few_targets (can-try g.t g.s g.here)
-            (runs-can-be-heard r o w u g.l g.t g.s A B run (taken-is-among u.messages g.l g.rest g.takes) g.to_it g.here).can
+            can-hear r g.t g.s g.reading g.l g.new (g.memory, g.did) A.few_targets (can-try g.t g.s g.here) g.l.message
+            (runs-can_hear_all r o w u g.l g.t g.s A well (also u run) (taken-is-among u.messages g.l g.rest g.takes) g.to_it g.here g.runs) g.turn
 
   abbrev list_of : (v : World) → Run r w v → List listed.Event
   list_of v Begins = []

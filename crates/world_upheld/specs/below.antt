@@ -3,4 +3,3 @@ pub mod Legal
 pub mod Readers
 pub mod Standing
 pub mod Owners
-pub mod Plain

@@ -3,7 +3,6 @@ pub mod Counting
 pub mod Dates
 pub mod Places
 pub mod PlaceLaws
-pub mod Following
 pub mod Refusing
 pub mod Dating
 pub mod Posts

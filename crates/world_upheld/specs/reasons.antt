@@ -9,3 +9,4 @@ pub mod Counting
 pub mod Requests
 pub mod Doubting
 pub mod Reasons
+pub mod Asked

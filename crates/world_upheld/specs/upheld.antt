@@ -11,5 +11,6 @@ pub mod Begins
 pub mod BeginVersions
 pub mod BeginKnown
 pub mod Runs
-pub mod PlainRuns
 pub mod Containers
+pub mod BeginStands
+pub mod Signs

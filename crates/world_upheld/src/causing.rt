@@ -9,7 +9,7 @@ ghost use Rattle.world_upheld.specs.causing.DatedTurns.{LostQueriesKeepCauses, V
 ghost use Rattle.world_upheld.specs.causing.Events.{MakingCutsKeepCauses, MakingKeepsCauses};
 ghost use Rattle.world_upheld.specs.causing.Happening.{AllEventsKeepCauses, AllHappeningsKeepCauses};
 ghost use Rattle.world_upheld.specs.causing.PlaceLaws.{AllEventsKeepPlaces};
-ghost use Rattle.world_upheld.specs.causing.OverDates.{CausesOverDatesBegin, EventsKeepCausesOverDates, LaterReadsWereIssued, PlainCausesFollow, ReadsCount};
+ghost use Rattle.world_upheld.specs.causing.OverDates.{CausesOverDatesBegin, EventsKeepCausesOverDates, LaterReadsWereIssued, ReadsCount};
 ghost use Rattle.world_upheld.specs.causing.Readers.{AllEventsKeepReaders};
 ghost use Rattle.world_upheld.specs.causing.RefusalLaws.{AllEventsKeepFreezeRefusals};
 ghost use Rattle.world_upheld.specs.causing.SnapshotReads.{SnapshotReadsMeetNone, SnapshotReadsShow};
@@ -73,13 +73,12 @@ pub fn laws_of_reads_at_snapshots()
 /// among what is asked: what counts as epochs of attempts are those that were issued, and for an attempt that
 /// reads at a snapshot that of the snapshot. Each event of a run keeps it, with what is stored in it, where it is
 /// known what the event rests on; a read at a snapshot comes to count as it is heard; and it is so where nothing
-/// is in flight, issued, parked or told. Where no attempt reads at a snapshot, outcomes show their causes by the
-/// epochs that were issued. All this holds, too, where each read at a snapshot counts as so much later than it. Where
-/// it holds both ways, each later read that a line's cause names was issued its epoch: it is none at a snapshot.
+/// is in flight, issued, parked or told. All this holds, too, where each read at a snapshot counts as so much later
+/// than it. Where it holds both ways, each later read that a line's cause names was issued its epoch: it is none at
+/// a snapshot.
 pub fn laws_of_causes_over_dates()
     ensures events { EventsKeepCausesOverDates }
     ensures begin { CausesOverDatesBegin }
     ensures counts { ReadsCount }
-    ensures plain { PlainCausesFollow }
     ensures later_reads { LaterReadsWereIssued }
 {}

@@ -2,8 +2,8 @@
 
 ghost use Rattle.world_upheld.specs.upheld.Containers.{AllEventsKeepContainers, RunsKnowDeclared};
 ghost use Rattle.world_upheld.specs.upheld.Heard.{AllHeardIsRight};
-ghost use Rattle.world_upheld.specs.upheld.PlainRuns.{PlainRunsBeginSo};
 ghost use Rattle.world_upheld.specs.upheld.Runs.{RunsAreUpheld, RunsBeginUpheld, StandingRunsBeginWell, RunsBeginWithGrounds, RunsHaveGrounds, RunsHearAllRightly, RunsReadFrozen};
+ghost use Rattle.world_upheld.specs.upheld.Signs.{RunsSignAlike};
 ghost use Rattle.world_upheld.specs.upheld.Upheld.{AllEventsKeepGrounds, AllEventsUphold, GroundsGoOn};
 
 /// Says that what the targets of a run hear is right, whatever clients ask: a read is what the present attempt
@@ -41,14 +41,12 @@ pub fn laws_of_grounds()
 /// What is stored once, losses, doubts and causes stand beside it (`laws_of_explanations`). A run of a script in form begins with it over stores that stand for what the
 /// opening does, where what target 0 holds as created is frozen at every target, where its cells below its epoch give
 /// the map that the opening keeps of it, and where clients know just such snapshots; and so it holds at each moment.
-/// Then what targets hear is right. Runs of scripts without snapshots and aggregation, over stores without snapshots,
-/// are such runs.
+/// Then what targets hear is right.
 pub fn laws_of_upheld()
     ensures events { AllEventsUphold }
     ensures begin { RunsBeginUpheld }
     ensures runs { RunsAreUpheld }
     ensures hear { RunsHearAllRightly }
-    ensures plain { PlainRunsBeginSo }
 {}
 
 /// Says that a target goes on knowing the containers that it knows in each event, also where it freezes and
@@ -57,4 +55,14 @@ pub fn laws_of_upheld()
 pub fn laws_of_containers()
     ensures events { AllEventsKeepContainers }
     ensures runs { RunsKnowDeclared }
+{}
+
+/// Says what one who sees the world at a moment of any run finds of how attempts ended, whatever its targets' versions
+/// stood for when it began. An attempt has a decided sign where a target holds it committed, or its leader counts it as
+/// decided, where a Mark or a Verdict in flight says so, and where it has writes and its client is being told so, or a line
+/// tells it. It has an aborted sign where a Mark or a Verdict in flight says that it had no effect, and where it has writes
+/// and its client is being told so, or a line tells it. None has both. Where one has a decided sign its leader and each
+/// other member hold it; where one has an aborted sign its leader has no entry of it, and no target has it committed.
+pub fn laws_of_signs()
+    ensures { RunsSignAlike }
 {}

@@ -1,5 +1,5 @@
 -- What a run of targets comes to.
-use Rattle.std.specs.Prelude.{ℕ, ◌≡◌, ◌≤◌, ◌<◌, ◌+◌, ◌-◌, ◌^◌, ◌⊎◌, Bool, true, false, List, [], Contains, slice_get, is_some, Option, Some, None}
+use Rattle.std.specs.Prelude.{ℕ, ◌≡◌, ◌≤◌, ◌<◌, ◌+◌, ◌-◌, ◌^◌, ◌⊎◌, Bool, true, false, List, Contains, slice_get, is_some, Option, Some, None, [], ◌%◌}
 use Rattle.base_types.specs.declared.entry.Entry.{Entry}
 use Rattle.base_types.specs.declared.id.AttemptId.{AttemptId}
 use Rattle.base_types.specs.declared.report.Line.{Line}
@@ -27,20 +27,27 @@ use Rattle.run_laws.specs.turns.Readings.{HasGiven, readings_of}
 use Rattle.target_core.specs.Targets.{TargetOf}
 use Rattle.run_laws.specs.ends.Starts.{stores_of}
 use Rattle.vos_store.specs.Calls.{State}
-use Rattle.world_commit.specs.attempts.Attempts.{IsOther}
+use Rattle.world_commit.specs.attempts.Attempts.{IsOther, IsMember}
 use Rattle.world_base.specs.declared.target.Life.TheVariants.{Running}
 use Rattle.world_base.specs.declared.target.TargetMemory.{TargetMemory}
 use Rattle.world_base.specs.declared.target.TargetState.{TargetState}
 use Rattle.world_base.specs.declared.world.World.{World}
-use Rattle.world_plain.specs.ends.Ends.{durables_of, rules_of}
+use Rattle.world_closing.specs.Rules.{rules_of}
+use Rattle.world_closing.specs.Below.{durables_of}
 use Rattle.world_closing.specs.Below.{AreExternallyConsistent, KeepsTheBound}
-use Rattle.world_plain.specs.facts.Facts.{IsMember}
 pub use Rattle.run_laws.specs.ends.Standing.{StandsForAttempts}
 pub use Rattle.run_laws.specs.reports.Reports.{AreIssuedSince, IsKeyed}
 use Rattle.run_laws.specs.shows.Beginning.{RunBegins}
 use Rattle.run_opening.specs.Opened.{AreFloored}
-pub use Rattle.world_plain.specs.lone.LoneRuns.{AreIssuedThere}
-use Rattle.world_plain.specs.whole.Begins.{IsOpeningPlain, IsSimple, no_joining, no_leading}
+use Rattle.world_closing.specs.Below.{no_joining, no_leading}
+use Rattle.world_letters.specs.epochs.Epochs.{Unsnapped}
+use Rattle.base_types.specs.declared.report.Attempt.{Attempt}
+use Rattle.base_types.specs.declared.epoch.Epoch.{Epoch}
+use Rattle.daos_model.specs.Attempts.{tries}
+
+-- one of the targets issued each epoch
+abbrev pub AreIssuedThere : Report → Type 0
+AreIssuedThere q = (a : Attempt) (e : Epoch) → Contains (tries q.lines) a → a.epoch ≡ Some e → e.0 % 256 < q.targets
 
 -- ---- the report
 
@@ -93,11 +100,9 @@ LeavesRunning {S} state q ys = (t : ℕ) (y : S) → slice_get ys t ≡ Some y �
 
 -- ---- where no snapshot is made
 
--- a run of a script without snapshots and aggregation, over stores that keep no snapshot
-pub record RunsPlainly {S : Type 0} (durable : S → Option Durable) (g : Given) (xs : List S) : Type 0 where
-  pub simple : IsSimple (rules_of g)
-  pub opening : IsOpeningPlain g.opening
-  pub unsnapped : (t : ℕ) (x : S) (d : Durable) → slice_get xs t ≡ Some x → durable x ≡ Some d → d.snaps ≡ []
+-- no snapshot is there when the run begins, and its script makes none and reads at none
+abbrev pub HasNoSnapshots : Given → Type 0
+HasNoSnapshots g = Unsnapped (rules_of g) × (g.opening.stand.snaps ≡ [])
 
 -- ---- where nothing stopped
 
@@ -111,7 +116,7 @@ pub record StandPlainly {S : Type 0} (durable : S → Option Durable) (g : Given
   pub everywhere : (t : ℕ) (d : Durable) (e : Entry) → slice_get lasts t ≡ Some d → Contains d.entries e → (m : ℕ) (f : Durable) → has_target e.members m ≡ true → slice_get lasts m ≡ Some f → IsCommittedIn f e.attempt
   pub confirmed : (t : ℕ) (d : Durable) (e : Entry) → slice_get lasts t ≡ Some d → Contains d.entries e → e.leader ≡ t → (m : ℕ) → IsOther (rules_of g) e.attempt m → has_target e.confirmed m ≡ true
 
--- Where no line tells of a stop, and no snapshot is made, the run ended as one in which nothing can stop.
+-- Where no line tells of a stop, the run ended as one in which nothing can stop.
 pub record EndsUnstopped {S : Type 0} (durable : S → Option Durable) (g : Given) (q : Report) (ys : List S) : Type 0 where
   pub stand : StandPlainly durable g q ys
   pub legal : IsLegal g q
@@ -173,7 +178,7 @@ LeavesReopenable {S} durable may ys = (t : ℕ) (y : S) → slice_get ys t ≡ S
 pub record BreaksOffSo {S : Type 0} (durable : S → Option Durable) (may : S → Durable → Type 0) (g : Given) (xs ys : List S) : Type 0 where
   pub stand : (lasts : List Durable) → MayBeFound may ys lasts → StandsForAttempts (rules_of g) g.opening lasts
   pub sound : LeavesSound durable may xs ys
-  pub unsnapped : RunsPlainly durable g xs → (lasts : List Durable) → MayBeFound may ys lasts → created_snaps lasts ≡ []
+  pub unsnapped : HasNoSnapshots g → (lasts : List Durable) → MayBeFound may ys lasts → created_snaps lasts ≡ []
 
 -- ---- all of it
 
@@ -195,10 +200,10 @@ pub record ComesTo {S : Type 0} (durable : S → Option Durable) (state : S → 
   pub in_real_time : IsInRealTime g q
   pub running : LeavesRunning state q ys
   pub settled : LeavesSettled durable may g q ys
-  pub unstopped : RunsPlainly durable g xs → stop_numbers q.lines ≡ [] → EndsUnstopped durable g q ys
+  pub unstopped : stop_numbers q.lines ≡ [] → EndsUnstopped durable g q ys
   pub alone : HasOneClient g.script → stop_numbers q.lines ≡ [] → TellsOfOnlyClient g.script q
   pub sound : LeavesSound durable may xs ys
-  pub unsnapped : RunsPlainly durable g xs → (lasts : List Durable) → MayBeFound may ys lasts → created_snaps lasts ≡ []
+  pub unsnapped : HasNoSnapshots g → (lasts : List Durable) → MayBeFound may ys lasts → created_snaps lasts ≡ []
   pub reopens : LeavesReopenable durable may ys
   pub ordered : IsOrdered durable state may g q xs ys
 

@@ -1,11 +1,9 @@
 -- What a run of clients and targets has come to where it has ended.
-use Rattle.std.specs.Prelude.{ℕ, ◌≡◌, ◌⊎◌, true, false, filter, List, [], All, Contains, length, slice_get, Option, Some, None, is_some, refl}
+use Rattle.std.specs.Prelude.{ℕ, ◌≡◌, ◌⊎◌, true, false, filter, List, All, Contains, length, slice_get, Option, Some, None, is_some, refl, []}
 use Rattle.std.proofs.Common.{inl, inr, sym, ◌∙◌, ap, subst}
-use Rattle.std.proofs.lemmas.Bool.{true≢false}
 use Rattle.base_types.specs.declared.entry.Entry.{Entry}
 use Rattle.base_types.specs.declared.id.AttemptId.{AttemptId}
 use Rattle.base_types.specs.declared.report.Line.{Line}
-use Rattle.base_types.specs.declared.report.Line.TheVariants as line
 use Rattle.base_types.specs.declared.report.Report.{Report}
 use Rattle.client_core.specs.Clients.{ClientNow}
 use Rattle.daos_model.specs.declared.durable.Durable.{Durable}
@@ -18,7 +16,6 @@ use Rattle.daos_model.specs.Opening.{Given, Outside, top, undisturbed}
 use Rattle.daos_model.specs.Sound.{Sound}
 use Rattle.daos_model.specs.Stops.{AtMostWith, HasTarget, down_targets, is_stop_at, least, lines_at, stop_numbers}
 use Rattle.dtx_base.specs.Members.{has_target}
-use Rattle.model_laws.specs.DecidedLaws.{has-all}
 use Rattle.model_laws.specs.Members.{contains-from_has, has-from_contains}
 use Rattle.report_writer.specs.Forms.{IsReportOf}
 use Rattle.model_lone.specs.Only.{TellsOfOnlyClient}
@@ -46,26 +43,24 @@ use Rattle.run_laws.specs.turns.OrderLaws.{orders-are-runs}
 use Rattle.run_watch.specs.Watches.{WatchNow, first_watch}
 use Rattle.target_core.specs.Targets.{TargetOf}
 use Rattle.vos_store.specs.Calls.{State}
-use Rattle.world_commit.specs.attempts.Attempts.{IsHeld, entry_in}
-use Rattle.world_closing.specs.Below.{AreExternallyConsistent, KeepsTheBound, found-entry}
+use Rattle.world_commit.specs.attempts.Attempts.{IsHeld, entry_in, IsMember}
+use Rattle.world_closing.specs.Below.{AreExternallyConsistent, KeepsTheBound, found-entry, durable_of, durables_of}
 use Rattle.world_base.specs.declared.target.Life.TheVariants.{Down, Running}
 use Rattle.world_base.specs.declared.target.TargetMemory.{TargetMemory}
 use Rattle.world_base.specs.declared.target.TargetState.{TargetState}
 use Rattle.world_base.specs.declared.world.World.{World}
 use Rattle.world_base.specs.Events.{Rules, target_plan}
-use Rattle.world_causes.specs.causes.Causes.{is_try}
 use Rattle.run_laws.specs.reports.Closings.{report_over}
-use Rattle.world_plain.specs.ends.Ends.{durable_of, durables_of, rules_of}
+use Rattle.world_closing.specs.Rules.{rules_of}
 use Rattle.world_order.specs.Runs.{all-runs-are_consistent}
-use Rattle.world_plain.specs.facts.Facts.{IsMember}
 use Rattle.world_letters.specs.lives.Legal.{AreCaused}
-use Rattle.world_plain.specs.whole.Begins.{IsBegun, no_joining, no_leading}
+use Rattle.world_closing.specs.Below.{no_joining, no_leading}
 use Rattle.run_laws.specs.ends.Armed.{before-fuse, fuses-started, fuses-tell, states_of}
 use Rattle.run_laws.specs.ends.Arming.{AreArmed, AreUnfused}
 use Rattle.run_laws.specs.ends.Begun.{told-is}
 use Rattle.run_laws.specs.ends.Caused.{end-caused, stops-caused}
-use Rattle.run_laws.specs.ends.Comes.{AreIssuedThere, AreKept, ComesByClocks, ComesTo, EndsUnstopped, IsAsStored, IsCommittedIn, IsOrdered, IsOutside, IsSoundAgain, LacksMember, LeavesReopenable, MayBeFound, RunsPlainly, StandPlainly, memory_at_first, report_with}
-use Rattle.run_laws.specs.ends.Keeping.{all-tell, begins-plainly, first-keeps, none-created, sound-again, stands-so}
+use Rattle.run_laws.specs.ends.Comes.{AreIssuedThere, AreKept, ComesByClocks, ComesTo, EndsUnstopped, IsAsStored, IsCommittedIn, IsOrdered, IsOutside, IsSoundAgain, LacksMember, LeavesReopenable, MayBeFound, StandPlainly, memory_at_first, report_with}
+use Rattle.run_laws.specs.ends.Keeping.{all-tell, first-keeps, none-created, sound-again, stands-so}
 use Rattle.run_laws.specs.ends.Lasts.{are-found, found_at, its-target, keeps-lasts, some-may_be, some_lasts}
 use Rattle.run_laws.specs.ends.Places.{IsMapped, from-map}
 use Rattle.run_laws.specs.ends.Starts.{AllTell, BeginsSo, HaveStarted, first_world, state_now, stores_of}
@@ -125,10 +120,6 @@ module _ {S C : Type 0} (durable : S → Option Durable) (state : S → State) (
 
     begins : BeginsSo g first
     begins = (fuses-started durable state may xs e.armed e.fuses.fuses g cs k).so (fuses-tell durable state may xs e.armed e.fuses.fuses told)
-
-    -- where no snapshot is there and none is made, it begins as a run of such a script
-    begun : RunsPlainly durable g (stores_of xs) → IsBegun r g.opening first
-    begun plain = begins-plainly durable state may cs xs e.armed e.fuses.fuses.many (λ t x y at there. (e.fuses.fuses.each t x y at there).kept) all g begins.begins plain
 
     -- ---- whatever the next openings of the stores find
 
@@ -211,21 +202,15 @@ module _ {S C : Type 0} (durable : S → Option Durable) (state : S → State) (
 
       -- ---- where no line tells of a stop
 
-      module _ (plain : RunsPlainly durable g (stores_of xs)) (none : stop_numbers lines ≡ []) where
+      module _ (none : stop_numbers lines ≡ []) where
         plainly : EndsPlainlyIn g last
-        plainly = unstopped-end-plainly g first last plain.simple (begun plain) goes (ap stop_numbers (sym run.told) ∙ none)
-
-        runs : (t : ℕ) (s : TargetState) → slice_get last.targets t ≡ Some s → s.life ≡ Running
-        runs t s here = elim (leaves.targets t s here) [
-          | inl up ↦ up
-          | inr down ↦ absurd (true≢false (sym (has-all (λ l. is_try l ≡ true) last.lines (line.Down t) plainly.tells.attempts (downs-have_lines g first last goes t s here down))))
-        ]
+        plainly = unstopped-end-plainly g first last begins.holds goes (ap stop_numbers (sym run.told) ∙ none)
 
         everywhere : (t : ℕ) (d : Durable) (x : Entry) → slice_get lasts t ≡ Some d → Contains d.entries x → (n : ℕ) (f : Durable) → has_target x.members n ≡ true → slice_get lasts n ≡ Some f → IsCommittedIn f x.attempt
         everywhere t d x at i n f names to =
             let s = kept-at t d at in
             let z = kept-at n f to in
-            let h = (plainly.everywhere t s.of_it x s.at (subst (λ y. Contains y.entries x) s.is i)).named n (inr names) in
+            let h = (plainly.everywhere t s.of_it x s.at (subst (λ y. Contains y.entries x) s.is i)).named n z.of_it z.at names in
             record { entry = h.entry; found = ap (λ y. entry_of y x.attempt) z.is ∙ ap (λ o. entry_in o x.attempt) (sym z.at) ∙ h.found; committed = h.committed }
 
         stand-plainly : StandPlainly durable g report (stores_of ys)
@@ -233,7 +218,7 @@ module _ {S C : Type 0} (durable : S → Option Durable) (state : S → State) (
           lasts = lasts;
           kept = record {
             many = m.many;
-            each = λ t z d at to. let s = kept-at t d to in kept-running t z s.of_it at s.at (runs t s.of_it s.at) ∙ ap (λ f. Some f) (sym s.is);
+            each = λ t z d at to. let s = kept-at t d to in kept-running t z s.of_it at s.at (plainly.running t s.of_it s.at) ∙ ap (λ f. Some f) (sym s.is);
           };
           headline = subst (HeadlineOver g undisturbed lasts) same-report (subst (λ ds. HeadlineOver g undisturbed ds (report_over r last)) keeps plainly.stands);
           settled = λ t d x at i. let s = kept-at t d at in (plainly.settled t s.of_it s.at).committed x (has-from_contains s.of_it.durable.entries x (subst (λ y. Contains y.entries x) s.is i));
@@ -411,7 +396,7 @@ module _ {S C : Type 0} (durable : S → Option Durable) (state : S → State) (
       unstopped = ends-unstopped some so;
       alone = of-alone some so;
       sound = λ F f sound lasts m. leaves-sound lasts m F f sound;
-      unsnapped = λ plain lasts m. none-created r g.opening lasts plain.simple plain.opening.no_snaps (stands-so r g.opening first (last lasts m) lasts begins.begins begins.holds (orders-are-runs r g.job.order first (last lasts m) (run lasts m).run) (keeps lasts m));
+      unsnapped = λ none lasts m. none-created r g.opening lasts none.0 none.1 (stands-so r g.opening first (last lasts m) lasts begins.begins begins.holds (orders-are-runs r g.job.order first (last lasts m) (run lasts m).run) (keeps lasts m));
       reopens = reopenable;
       ordered = is-ordered some so;
     }

@@ -1,5 +1,5 @@
 -- What the first world of a run keeps, and what is found where it broke off.
-use Rattle.std.specs.Prelude.{ℕ, ◌≡◌, ◌⊎◌, ◌<◌, true, All, List, [], ◌∷◌, length, map, slice_get, Option, Some, is_some, refl}
+use Rattle.std.specs.Prelude.{ℕ, ◌≡◌, ◌⊎◌, ◌<◌, true, All, List, ◌∷◌, length, map, slice_get, Option, Some, is_some, refl, [], false, Bool, None, filter, if◌then◌else◌, suc, zero}
 use Rattle.std.proofs.lemmas.List.Elements.{All-head}
 use Rattle.std.proofs.Common.{sym, ◌∙◌, ap, subst, inl, inr, arith}
 use Rattle.client_core.specs.Clients.{ClientNow}
@@ -23,23 +23,53 @@ use Rattle.run_watch.specs.Watches.{WatchNow}
 use Rattle.target_core.specs.Targets.{TargetOf}
 use Rattle.vos_store.specs.Calls.{State}
 use Rattle.world_base.specs.declared.world.World.{World}
-use Rattle.world_base.specs.Events.{Rules}
+use Rattle.world_base.specs.Events.{Rules, commands_or_none}
 use Rattle.world_base.specs.Stops.{Begins, WorldRun}
-use Rattle.world_plain.specs.ends.Ends.{durable_of, durables_of, rules_of}
+use Rattle.world_closing.specs.Rules.{rules_of}
+use Rattle.world_closing.specs.Below.{durable_of, durables_of}
 use Rattle.run_laws.specs.ends.Standing.{IsMadeIn, StandsForAttempts, stands-for_attempts}
-use Rattle.run_laws.specs.shows.Beginning.{RunBegins, plain-begun}
+use Rattle.run_laws.specs.shows.Beginning.{RunBegins}
 use Rattle.run_opening.specs.Opened.{IsFloored}
 use Rattle.world_closing.specs.stands.Runs.{all-runs-keep_floors, all-runs-keep_sound, all-runs-stand}
 use Rattle.world_closing.specs.stands.Stands.{HoldsOpenings}
 use Rattle.world_contents.specs.reads.Transactions.{decided_of}
-use Rattle.world_plain.specs.ends.FormLaws.{no-snaps}
-use Rattle.world_plain.specs.whole.Begins.{IsBegun, IsSimple}
 use Rattle.run_laws.specs.ends.Arming.{HaveFuses}
 use Rattle.run_laws.specs.ends.Begun.{IsFirstWatch, first-drawn, first_stage, shows-first, told-is, told-there}
-use Rattle.run_laws.specs.ends.Comes.{AreKept, BreaksOffSo, IsSoundAgain, MayBeFound, RunsPlainly}
+use Rattle.run_laws.specs.ends.Comes.{AreKept, BreaksOffSo, IsSoundAgain, MayBeFound}
 use Rattle.run_laws.specs.ends.Lasts.{found_at, one-may_be}
 use Rattle.run_laws.specs.ends.Places.{from-map, same-lists}
 use Rattle.run_laws.specs.ends.Starts.{AllTell, HaveStarted, first_world, or_empty, state_now, stores_of}
+use Rattle.base_types.specs.declared.id.AttemptId.{AttemptId}
+use Rattle.base_types.specs.declared.script.Command.{Command}
+use Rattle.world_letters.specs.epochs.Epochs.{Unsnapped, is_unsnapped}
+use Rattle.daos_model.specs.Transactions.{command_of, numbered_at}
+use Rattle.base_types.specs.Scripts.{is_numbered}
+
+-- what stands among those that pass a test stands in the list, and passes
+pub filter-at : {T : Type 0} (t : T → Bool) (xs : List T) (k : ℕ) (x : T) → slice_get (filter t xs) k ≡ Some x → (j : ℕ) × (slice_get xs j ≡ Some x) × (t x ≡ true)
+filter-at t [] k x at = let no : ⊥ = cc in absurd no
+filter-at {T = T} t (y ∷ ys) k x at = by (t y) refl k at (λ m. filter-at t ys m x)
+  where
+    by : (b : Bool) → t y ≡ b → (m : ℕ) → slice_get (if b then y ∷ filter t ys else filter t ys) m ≡ Some x
+        → ((i : ℕ) → slice_get (filter t ys) i ≡ Some x → (j : ℕ) × (slice_get ys j ≡ Some x) × (t x ≡ true)) → (j : ℕ) × (slice_get (y ∷ ys) j ≡ Some x) × (t x ≡ true)
+    by true e zero h rest = let same : y ≡ x = cc in (0, h, ap t (sym same) ∙ e)
+    by true e (suc m) h rest = let r = rest m h in (suc r.0, r.1, r.2)
+    by false e m h rest = let r = rest m h in (suc r.0, r.1, r.2)
+
+-- an attempt's command bears a number, and neither makes a snapshot nor reads at one, nor aggregates
+pub command-plain : (r : Rules) (x : AttemptId) (d : Command) → Unsnapped r → command_of r.script x ≡ Some d → (is_unsnapped d ≡ true) × (is_numbered d ≡ true)
+unfolding command_of
+command-plain r x d plain at = by (slice_get r.script.clients x.client) refl at
+  where
+    by : (o : Option (List Command)) → slice_get r.script.clients x.client ≡ o → numbered_at x.command o ≡ Some d → (is_unsnapped d ≡ true) × (is_numbered d ≡ true)
+    by None e h = let no : ⊥ = cc in absurd no
+    by (Some list) e h =
+        let f = filter-at is_numbered list x.command d h in
+        (plain x.client f.0 d (ap (λ o. slice_get (commands_or_none o) f.0) e ∙ f.1), f.2)
+
+-- no attempt makes a snapshot
+pub no-snaps : (r : Rules) (x : AttemptId) (d : Command) → Unsnapped r → command_of r.script x ≡ Some d → is_unsnapped d ≡ false → ⊥
+no-snaps r x d plain at not_plain = let one = (command-plain r x d plain at).0 in let no : ⊥ = cc in no
 
 -- ---- soundness
 
@@ -57,9 +87,9 @@ pub stands-so : (r : Rules) (o : Opening) (first last : World) (lasts : List Dur
 stands-so r o first last lasts b holds run keeps = subst (StandsForAttempts r o) keeps (stands-for_attempts r o last (all-runs-stand r o first last b.form b.begins holds run))
 
 -- where the opening has no snapshot and none is made, target 0 holds none
-pub none-created : (r : Rules) (o : Opening) (lasts : List Durable) → IsSimple r → o.stand.snaps ≡ [] → StandsForAttempts r o lasts → created_snaps lasts ≡ []
+pub none-created : (r : Rules) (o : Opening) (lasts : List Durable) → Unsnapped r → o.stand.snaps ≡ [] → StandsForAttempts r o lasts → created_snaps lasts ≡ []
 unfolding stand
-none-created r o lasts simple none k = by (created_snaps lasts) refl
+none-created r o lasts unsnapped none k = by (created_snaps lasts) refl
   where
     Its : SnapMap → Type 0
     Its z = IsKeptIn o.stand.snaps z ⊎ IsMadeIn r o (map (decided_of r.script) k.attempts) z
@@ -68,7 +98,7 @@ none-created r o lasts simple none k = by (created_snaps lasts) refl
     by [] is = is
     by (s ∷ ss) is = elim (All-head Its (snap_map lasts s) (map (snap_map lasts) ss) (subst (λ q. All Its (map (snap_map lasts) q)) is k.snaps)) [
       | inl old ↦ absurd (subst (λ q. IsKeptIn q (snap_map lasts s)) none old)
-      | inr made ↦ absurd (no-snaps r made.made.0 (Make made.made.1.0 s.cont) simple.unsnapped made.made.1.1 refl)
+      | inr made ↦ absurd (no-snaps r made.made.0 (Make made.made.1.0 s.cont) unsnapped made.made.1.1 refl)
     ]
 
 module _ {S C : Type 0} (durable : S → Option Durable) (state : S → State) (may : S → Durable → Type 0) where
@@ -97,15 +127,6 @@ module _ {S C : Type 0} (durable : S → Option Durable) (state : S → State) (
     where
       many-first : length (durables_of (first_world durable state cs armed)) ≡ length F
       many-first = length-map durable_of (first_world durable state cs armed).targets ∙ length-map (state_now durable state) armed ∙ many ∙ sym (length-map (λ p. p.store) xs) ∙ sym f.many
-
-  -- where no snapshot is there and none is made, the run begins as one of such a script
-  pub begins-plainly : (cs : List ClientNow) (xs armed : List (TargetOf S C)) → length armed ≡ length xs → KeepAlike xs armed → AllStoresTell durable → (g : Given) → RunBegins (rules_of g) g.opening (first_world durable state cs armed) → RunsPlainly durable g (stores_of xs)
-      → IsBegun (rules_of g) g.opening (first_world durable state cs armed)
-  begins-plainly cs xs armed many alike all g b plain = plain-begun (rules_of g) g.opening (first_world durable state cs armed) plain.opening b.begins (λ t s here.
-      let y = from-map (state_now durable state) armed t s here in
-      let x = at-both armed xs t y.of_it (sym many) y.at in
-      ap (λ q. q.durable.snaps) y.is
-      ∙ plain.unsnapped t x.0.store (or_empty (durable y.of_it.store)) (map-get (λ p. p.store) xs t x.0 x.1) (sym (alike t x.0 y.of_it x.1 y.at) ∙ told-is (durable y.of_it.store) (all y.of_it.store)))
 
   -- ---- where a run broke off
 
@@ -146,5 +167,5 @@ module _ {S C : Type 0} (durable : S → Option Durable) (state : S → State) (
     breaks-off = record {
       stand = stands;
       sound = λ F f sound lasts m. sound-again r g.opening first_one (came lasts m).last F lasts b (run lasts m) (first-keeps cs xs armed many alike all F f) (keeps lasts m) sound;
-      unsnapped = λ plain lasts m. none-created r g.opening lasts plain.simple plain.opening.no_snaps (stands lasts m);
+      unsnapped = λ none lasts m. none-created r g.opening lasts none.0 none.1 (stands lasts m);
     }

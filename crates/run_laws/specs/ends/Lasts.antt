@@ -18,7 +18,7 @@ use Rattle.world_base.specs.declared.target.Life.TheVariants.{Down, Running, Sto
 use Rattle.world_base.specs.declared.target.TargetState.{TargetState}
 use Rattle.world_base.specs.declared.world.World.{World}
 use Rattle.world_base.specs.Events.{Rules, target_plan}
-use Rattle.world_plain.specs.ends.Ends.{durable_of, durables_of}
+use Rattle.world_closing.specs.Below.{durable_of, durables_of}
 use Rattle.run_laws.specs.ends.Arming.{HaveFuses}
 use Rattle.run_laws.specs.ends.Comes.{MayBeFound}
 use Rattle.run_laws.specs.ends.Places.{from-map, same-lists}

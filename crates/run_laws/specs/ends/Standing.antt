@@ -16,7 +16,7 @@ use Rattle.world_base.specs.Events.{Rules}
 use Rattle.world_closing.specs.stands.Stands.{IsMadeHere, StandsForAll}
 use Rattle.world_contents.specs.reads.Transactions.{decided_of}
 use Rattle.world_letters.specs.snapshots.Makings.{IsSnapIn}
-use Rattle.world_plain.specs.ends.Ends.{durables_of}
+use Rattle.world_closing.specs.Below.{durables_of}
 
 -- a snapshot of a run: its epoch lies above the opening, an attempt of the script makes one of its container, and its map is the container's part of
 -- the opening and the transactions below it

@@ -19,8 +19,8 @@ use Rattle.world_base.specs.declared.world.World.{World}
 use Rattle.world_base.specs.ClientTurns.{at_first}
 use Rattle.world_closing.specs.stands.Stands.{HoldsOpenings}
 use Rattle.world_base.specs.Events.{client_plan, target_plan}
-use Rattle.world_plain.specs.ends.Ends.{rules_of}
-use Rattle.world_plain.specs.whole.Begins.{first_tracker, no_leading}
+use Rattle.world_closing.specs.Rules.{rules_of}
+use Rattle.world_closing.specs.Below.{first_tracker, no_leading}
 use Rattle.world_closing.specs.Below.{AreRulesInForm}
 
 -- a run of a script, over what was opened

@@ -7,8 +7,8 @@ use Rattle.model_laws.specs.DecidedLaws.{all-from_has}
 use Rattle.model_lone.specs.OnlyLaws.{only-clients-tell_so}
 use Rattle.run_laws.specs.reports.Legal.{events, orders-are-legal}
 use Rattle.run_laws.specs.reports.Reports.{OrdersOfOnlyClients}
-use Rattle.world_closing.specs.Below.{report_over}
-use Rattle.world_plain.specs.ends.Ends.{durables_of, rules_of}
+use Rattle.world_closing.specs.Below.{report_over, durables_of}
+use Rattle.world_closing.specs.Rules.{rules_of}
 use Rattle.world_refusals.specs.Never.{alone-runs-never_restart}
 
 -- an outside that may have caused whatever stopped and was given up

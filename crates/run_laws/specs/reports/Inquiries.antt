@@ -28,7 +28,7 @@ use Rattle.world_commit.specs.asks.ToldTurns.{AMark, AnInquiry, IsIdlySent, idle
 use Rattle.world_commit.specs.attempts.Attempts.{IsHeld, entry_in, leader_of}
 use Rattle.world_commit.specs.attempts.Counting.{has-taken}
 use Rattle.world_commit.specs.attempts.History.{History}
-use Rattle.world_commit.specs.attempts.MarkTurns.{target-is}
+use Rattle.world_commit.specs.attempts.Stored.{target-is}
 use Rattle.world_commit.specs.attempts.Turning.{one-or_another}
 use Rattle.world_base.specs.declared.did.Did.{Did}
 use Rattle.world_base.specs.declared.letter.Letter.{Letter}
@@ -37,7 +37,7 @@ use Rattle.world_base.specs.declared.target.TargetPlan.{TargetPlan}
 use Rattle.world_base.specs.declared.target.TargetState.{TargetState}
 use Rattle.world_base.specs.declared.world.World.{World}
 use Rattle.world_base.specs.Changes.{Kept}
-use Rattle.world_base.specs.Events.{ByClient, ByTarget, Rules, TargetHearsBy, TargetHearsRightly, TargetIdles, ToClient, ToTarget, kept, target_after, target_plan}
+use Rattle.world_base.specs.Events.{ByClient, ByTarget, Rules, TargetHearsBy, TargetHearsRightly, TargetIdles, ToClient, ToTarget, kept, target_after, target_plan, rightly}
 use Rattle.world_base.specs.Further.{HearsFurther}
 use Rattle.world_base.specs.Idle.{AllSettled, IdleEnds, batch_of, inquiry_of}
 use Rattle.world_base.specs.Letters.{client, letter_of, target}
@@ -52,9 +52,8 @@ use Rattle.world_commit.specs.questions.Known.{knows-fates}
 use Rattle.world_commit.specs.questions.Leaving.{drawing-leaves, failing-leaves, given_up-leaves, opening-leaves, sweeping-leaves}
 use Rattle.world_commit.specs.questions.Sending.{MoreInquired, NowDown, StillThere, more-inquired, more-sends}
 use Rattle.world_commit.specs.questions.Stopping.{IsLoss, cut_loss, drawing_loss, failing_loss, given_up_loss, opening_loss, sweeping_loss}
-use Rattle.world_commit.specs.stops.Happenings.{rightly}
 use Rattle.world_making.specs.fates.Sends.{is_sent_in_making, making-sent}
-use Rattle.world_making.specs.losses.Events.{of-attempts}
+use Rattle.world_making.specs.making.Kinds.{of-attempts}
 use Rattle.world_making.specs.making.Making.{IsOfMaking, MakingLeaves, tells_of_snapshots}
 use Rattle.world_making.specs.making.Turns.{hearings-leave}
 use Rattle.world_making.specs.questions.Sends.{query-unsent}

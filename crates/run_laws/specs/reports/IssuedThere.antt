@@ -19,7 +19,7 @@ use Rattle.model_laws.specs.Members.{Has, has-from_contains, has-from_filter, ha
 use Rattle.model_reports.specs.Alone.{stands-before}
 use Rattle.model_reports.specs.Lines.{StandsAt, line-of, one-of-any}
 use Rattle.run_laws.specs.reports.Reports.{AreIssuedSince}
-use Rattle.world_plain.specs.lone.LoneRuns.{AreIssuedThere}
+use Rattle.run_laws.specs.ends.Comes.{AreIssuedThere}
 
 -- the epoch of an attempt that reads at no snapshot is among the own ones
 epoch-among : (s : Script) (xs : List Attempt) (a : Attempt) (e : Epoch) → snapshot_of s a.id ≡ None → Has a xs → a.epoch ≡ Some e → Has e.0 (own_epochs s xs)

@@ -1,6 +1,6 @@
 -- What is left where a run has ended in which targets may stop.
 use Rattle.world_closing.specs.Below.{AccountedFor, AreAll, AreRulesInForm, IsOver, RunBeginsWell, RunBeginsWith, begins-well, leader-there, other-there, runs-are_accounted, stored_over, told-down}
-use Rattle.std.specs.Prelude.{ℕ, ◌≡◌, ◌<◌, ◌==◌, ◌&&◌, Bool, true, false, not, filter, is_none, List, [], ◌∷◌, Contains, length, slice_get, Option, Some, None, refl}
+use Rattle.std.specs.Prelude.{ℕ, ◌≡◌, ◌<◌, ◌==◌, ◌&&◌, Bool, true, false, not, filter, is_none, List, [], ◌∷◌, Contains, length, slice_get, Option, Some, None, refl, ◌≤◌}
 use Rattle.std.specs.List.{list_any}
 use Rattle.std.proofs.Common.{inl, inr, sym, ◌∙◌, ap, subst, arith}
 use Rattle.std.proofs.lemmas.Bool.Decides.{nat_tests}
@@ -12,6 +12,7 @@ use Rattle.base_types.specs.declared.report.Line.{Line}
 use Rattle.base_types.specs.declared.report.Line.TheVariants as line
 use Rattle.base_messages.specs.declared.message.Message.TheVariants as message
 use Rattle.model_laws.specs.EntryLaws.{found-has, found-passes}
+use Rattle.model_laws.specs.JoinLaws.{has-range}
 use Rattle.model_laws.specs.Lists.{at-within}
 use Rattle.model_laws.specs.Members.{Has, any-has, has-filter, has-from_contains, has-from_filter, has-from_map}
 use Rattle.model_laws.specs.TargetLaws.{number_same}
@@ -31,9 +32,9 @@ use Rattle.dtx_base.specs.Leading.{attempts_of, entry_attempt, is_batch_due, is_
 use Rattle.dtx_base.specs.Members.{all_targets, has_target, is_other_member, other_members}
 use Rattle.dtx_base.specs.Rows.{is_among, is_row_of, row_of}
 use Rattle.world_commit.specs.asks.Asks.{ByLeader, ByMark, IsMark, IsMarked, IsQuery, IsQueryOf, IsVerdict, NoneHere}
-use Rattle.world_commit.specs.attempts.Attempts.{Entries, IsHeld, IsItsEntry, IsOther, entry_at, entry_in, first_entry, is_known_at, is_known_in, leader_of, row_at, row_in}
+use Rattle.world_commit.specs.attempts.Attempts.{Entries, IsHeld, IsItsEntry, IsOther, entry_at, entry_in, first_entry, is_known_at, is_known_in, leader_of, row_at, row_in, IsMember}
 use Rattle.world_commit.specs.attempts.History.{Aborted, Decided, History}
-use Rattle.world_commit.specs.attempts.MemberBits.{is-other_same, other-no_leader}
+use Rattle.world_commit.specs.attempts.MemberBits.{is-other_same, other-from_test, other-no_leader}
 use Rattle.world_commit.specs.attempts.Stored.{row-found}
 use Rattle.world_base.specs.declared.letter.Letter.{Letter}
 use Rattle.world_base.specs.declared.target.Life.TheVariants.{Down, Running}
@@ -44,13 +45,12 @@ use Rattle.world_base.specs.Events.{Rules}
 use Rattle.world_base.specs.Letters.{target}
 use Rattle.world_base.specs.Stops.{WorldRun}
 use Rattle.world_causes.specs.causes.Causes.{Stored}
-use Rattle.world_plain.specs.facts.Facts.{IsMember}
 use Rattle.world_commit.specs.fates.Facts.{IsSaidSo, down_in}
 use Rattle.world_letters.specs.lives.Lives.{standing_of}
 use Rattle.world_commit.specs.questions.Facts.{IsAsked, IsNamed, IsOnNaming, IsOnQuery, IsTold, IsToldOrStopped, LeaderStopped}
 use Rattle.world_commit.specs.questions.Facts as fact
 use Rattle.world_closing.specs.asked.Runs.{ended-all_over, runs-have_all, still-all_over}
-use Rattle.world_plain.specs.ends.Ends.{rules_of}
+use Rattle.world_closing.specs.Rules.{rules_of}
 use Rattle.run_laws.specs.reports.Legal as legal
 use Rattle.run_laws.specs.reports.Middle.{HasMiddle, middle-settled, middle-still, orders-have-middle}
 use Rattle.run_laws.specs.reports.Reports.{GoesInOrder, IsSettledOrLeft, LacksMember, LeavesInTheEnd, OrdersLeaveInTheEnd}
@@ -58,7 +58,7 @@ use Rattle.run_laws.specs.reports.Settling.{IsKnown, Settles, runs-settle}
 
 -- ---- lists
 
-empty-of : {T : Type 0} (xs : List T) → ((x : T) → Has x xs → ⊥) → xs ≡ []
+pub empty-of : {T : Type 0} (xs : List T) → ((x : T) → Has x xs → ⊥) → xs ≡ []
 empty-of [] none = refl
 empty-of (x ∷ xs) none = absurd (none x (inl refl))
 
@@ -70,6 +70,11 @@ none-passes p xs x none i = by (p x) refl
     by false is = refl
 
 -- ---- what tests say
+
+-- what an entry names, and isn't its leader, is another member
+is-other : (m : ℕ) (e : Entry) → has_target e.members m ≡ true → (m == e.leader) ≡ false → is_other_member e m ≡ true
+unfolding is_other_member
+is-other m e named off = both (has_target e.members m) (not (m == e.leader)) named (ap not off)
 
 -- a member that isn't known to be down is to be told of a commit that it hasn't confirmed, where no Mark names it
 is-owed : (m : ℕ) (named : List Naming) (e : Entry) → e.committed ≡ true → is_other_member e m ≡ true → has_target e.confirmed m ≡ false → named ≡ [] → is_owed m named e ≡ true
@@ -329,6 +334,23 @@ module _ (r : Rules) (o : Opening) (h : History) (stored : Stored) (v : World) (
       left : Left
       left = elim (its t s here e i).place [ inl leads ↦ as-leader leads | inr other ↦ as-other other ]
 
+    -- ---- what a leader has committed
+
+    -- each other member that runs has confirmed
+    all-confirm : (t m : ℕ) (s z : TargetState) (e : Entry) → slice_get v.targets t ≡ Some s → s.life ≡ Running → Contains s.durable.entries e → e.committed ≡ true → e.leader ≡ t → IsOther r e.attempt m → slice_get v.targets m ≡ Some z → z.life ≡ Running
+        → has_target e.confirmed m ≡ true
+    all-confirm t m s z e here runs i committed leads other there up = by (has_target e.confirmed m) refl
+      where
+        among : Has e s.durable.entries
+        among = has-from_contains s.durable.entries e i
+
+        same : t ≡ leader_of r e.attempt
+        same = sym leads ∙ (its t s here e among).leader
+
+        by : (b : Bool) → has_target e.confirmed m ≡ b → b ≡ true
+        by true is = refl
+        by false is = absurd (told-all e.attempt s (ap (slice_get v.targets) (sym same) ∙ here) runs m z there up other e (ap (λ n. entry_at v n e.attempt) (sym same) ∙ found t s here e among) committed is)
+
     -- ---- all
 
     settled-or_left : (t : ℕ) (s : TargetState) (e : Entry) → slice_get v.targets t ≡ Some s → s.life ≡ Running → Contains s.durable.entries e → IsSettledOrLeft r v e
@@ -351,8 +373,22 @@ module _ (r : Rules) (o : Opening) (h : History) (stored : Stored) (v : World) (
         by (inl leads) = let z = f.held_by_leader e.epoch decided in record { entry = z.entry; found = ap (λ n. entry_at v n e.attempt) leads ∙ z.found }
         by (inr other) = let z = f.held_by_others e.epoch m decided other in record { entry = z.entry; found = z.found }
 
+    -- a target that an entry names is a member
+    named-member : (t m : ℕ) (s z : TargetState) (e : Entry) → slice_get v.targets t ≡ Some s → Contains s.durable.entries e → slice_get v.targets m ≡ Some z → has_target e.members m ≡ true → IsMember r e.attempt m
+    named-member t m s z e here i there named = by (m == e.leader) refl
+      where
+        one : IsItsEntry r v e.attempt t e
+        one = its t s here e (has-from_contains s.durable.entries e i)
+
+        by : (b : Bool) → (m == e.leader) ≡ b → IsMember r e.attempt m
+        by true is = let same : m ≡ e.leader = grind (arith, nat_tests) in inl (same ∙ one.leader)
+        by false is = inr (other-from_test r e.attempt e m one.leader one.members among (is-other m e named is))
+          where
+            among : Has m all_targets
+            among = let low : m < r.script.targets = within m z there in let few : r.script.targets ≤ 64 = A.few_targets in has-range 0 64 m (omega arith) (omega (arith, low, few))
+
     pub leaves : LeavesInTheEnd r v
-    leaves = record { targets = over.targets; entries = settled-or_left; held = held-by }
+    leaves = record { targets = over.targets; entries = settled-or_left; held = held-by; confirmed = all-confirm; named = named-member }
 
 -- ---- the run
 
@@ -398,22 +434,22 @@ module _ (g : Given) (w v : World) (k : GoesInOrder g w v) where
   ended : HasEnded r v
   ended = legal.ended g w v k
 
-  end-over : IsOver r v
+  pub end-over : IsOver r v
   end-over = (ended-all_over r g.opening w v form well run ended).over
 
-  many : length v.targets ≡ r.script.targets
-  many = (runs-have_all r g.opening w v well run).targets
+  pub all-there : length v.targets ≡ r.script.targets
+  all-there = (runs-have_all r g.opening w v well run).targets
 
   left-so : LeavesInTheEnd r v
   left-so =
       let z = runs-settle r g.opening (stored_over r mid.run) so-far.0 mid.middle v form settles mid.rest in
-      leaves r g.opening z.h z.stored v form z.so.accounted ended.settled end-over many ended z.so.rows
+      leaves r g.opening z.h z.stored v form z.so.accounted ended.settled end-over all-there ended z.so.rows
 
   -- each target that was given up has its line
   pub downs-have_lines : (t : ℕ) (s : TargetState) → slice_get v.targets t ≡ Some s → s.life ≡ Down → Has (line.Down t) v.lines
   downs-have_lines t s here down =
       let a = runs-are_accounted r g.opening w v form well run in
-      gone r g.opening a.0 (stored_over r run) v form a.1 ended.settled end-over many t s here down
+      gone r g.opening a.0 (stored_over r run) v form a.1 ended.settled end-over all-there t s here down
 
 pub orders-leave : OrdersLeaveInTheEnd
 orders-leave g w v k = left-so g w v k

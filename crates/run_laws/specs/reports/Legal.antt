@@ -10,7 +10,7 @@ use Rattle.world_base.specs.Ended.{HasEnded}
 use Rattle.world_base.specs.Stops.{WorldRun}
 use Rattle.world_closing.specs.Whole.{all-runs-end_legal}
 use Rattle.world_letters.specs.lives.Counting.{AreCountedSo}
-use Rattle.world_plain.specs.ends.Ends.{rules_of}
+use Rattle.world_closing.specs.Rules.{rules_of}
 use Rattle.world_closing.specs.Below.{client_begins}
 use Rattle.run_laws.specs.reports.Reports.{GoesInOrder, OrdersAreLegal}
 

@@ -1,15 +1,13 @@
 -- Where a run in an order begins to settle: nobody has a message to hear or a command to go on with, and idle work has asked nothing yet.
 use Rattle.world_commit.specs.statuses.Events.{told_by}
 use Rattle.world_closing.specs.Below.{AreRulesInForm, IsStill, RunBeginsWith, attempts-happened, begins-well, grows-with, later-with, runs-are_accounted}
-use Rattle.std.specs.Prelude.{ℕ, zero, suc, ◌≡◌, ◌⊎◌, ◌<◌, ◌||◌, ◌&&◌, ◌==◌, Bool, true, false, not, nat_lt, List, [], ◌∷◌, filter, length, slice_get, Some, None, refl}
-use Rattle.std.proofs.Common.{inl, inr, sym, ◌∙◌, ap, subst, arith}
-use Rattle.std.proofs.lemmas.Bool.{cases_eq}
-use Rattle.std.proofs.lemmas.Bool.Decides.{nat_tests}
+use Rattle.std.specs.Prelude.{ℕ, ◌≡◌, ◌<◌, ◌||◌, ◌&&◌, ◌==◌, true, false, not, nat_lt, List, [], length, slice_get, Some, None}
+use Rattle.std.proofs.Common.{sym, ◌∙◌, ap, subst}
 use Rattle.std.proofs.lemmas.Option.{slice_get_within}
 use Rattle.base_types.specs.declared.id.AttemptId.{AttemptId}
 use Rattle.base_messages.specs.declared.actor.ActorId.{ActorId}
 use Rattle.model_laws.specs.Lists.{at-within}
-use Rattle.model_laws.specs.Members.{Has, has-filter, has-left, has-right}
+use Rattle.model_laws.specs.Members.{Has, has-left, has-right}
 use Rattle.daos_model.specs.BoolLaws.{clash}
 use Rattle.daos_model.specs.Opening.{Opening}
 use Rattle.dtx_base.specs.declared.member.Inquiry.{Inquiry}
@@ -34,6 +32,7 @@ use Rattle.world_base.specs.Letters.{client, target}
 use Rattle.world_base.specs.Roles.{leader_at, member_at}
 use Rattle.world_base.specs.Stops.{Begins, Draws as NumbersAreDrawn, Fails, Further, GivenUp, Goes, Happening, IsCut, Opens, Plainly, WorldEvent, WorldRun}
 use Rattle.run_laws.specs.reports.Inquiries.{AnswersOne, AsksNow, InquiriesCome, InquiryComes, IsAnswered, IsAsked, IsSettling, LetterComes, Stays, WasFlying, inquiries-come, swept-come}
+use Rattle.run_base.specs.Quiet.{none-passes, has-number, none-left, left-false, one-true}
 
 -- ---- idle work has asked nothing
 
@@ -156,33 +155,6 @@ module _ (r : Rules) (o : Opening) (w : World) (A : AreRulesInForm r) (B : RunBe
       record { middle = u; run = z.run; none = z.none; quiet = k.over; rest = draws-keep r (WorldRun r u) (λ settling a n x2 y2 t run. turn-goes settling r a n u x2 y2 t run) true x u y v l.draws Begins }
 
 -- ---- what holds there
-
-none-passes : {T : Type 0} (test : T → Bool) (xs : List T) (x : T) → filter test xs ≡ [] → Has x xs → test x ≡ false
-none-passes {T = T} test xs x none i = by (test x) refl
-  where
-    by : (b : Bool) → test x ≡ b → test x ≡ false
-    by true h = let no : Has x [] = subst (λ ys. Has x ys) none (has-filter test xs x i h) in absurd no
-    by false h = h
-
-has-number : (name : ℕ → ActorId) (n k : ℕ) → k < n → Has (name k) (numbered name n)
-has-number name zero k within = absurd (omega (arith, within))
-has-number name (suc n) k within = elim (cases_eq k n) [
-  | inl same ↦ has-right (numbered name n) (name n ∷ []) (name k) (inl (ap name same))
-  | inr apart ↦ has-left (numbered name n) (name n ∷ []) (name k) (has-number name n k (omega (arith, within, apart)))
-]
-
-none-left : {T : Type 0} (xs : List T) → not (length xs == 0) ≡ false → xs ≡ []
-none-left [] h = refl
-none-left (x ∷ xs) h = let no : ⊥ = grind (arith, nat_tests) in absurd no
-
-left-false : (a b : Bool) → a || b ≡ false → (a ≡ false) × (b ≡ false)
-left-false true b h = let no : ⊥ = cc in absurd no
-left-false false b h = (refl, h)
-
-one-true : (a b : Bool) → not (a || b) ≡ false → (a ≡ true) ⊎ (b ≡ true)
-one-true true b h = inl refl
-one-true false true h = inr refl
-one-true false false h = let no : ⊥ = cc in absurd no
 
 module _ (r : Rules) (w : World) (lists : length w.clients ≡ length r.script.clients) (quiet : due false r w ≡ []) where
   client-quiet : (n : ℕ) (c : ClientState) → slice_get w.clients n ≡ Some c → is_client_due (client_plan r n) c (count_to (client n) w.messages) ≡ false

@@ -1,5 +1,5 @@
 -- What a run in an order reports, where targets may stop and open again.
-use Rattle.std.specs.Prelude.{ℕ, ◌≡◌, ◌⊎◌, ◌≤◌, ◌<◌, ◌%◌, ◌^◌, Bool, true, false, List, [], All, Contains, slice_get, Some, None}
+use Rattle.std.specs.Prelude.{ℕ, ◌≡◌, ◌⊎◌, ◌≤◌, ◌<◌, ◌%◌, ◌^◌, Bool, true, false, List, All, Contains, slice_get, Some, None, []}
 use Rattle.base_types.specs.declared.entry.Entry.{Entry}
 use Rattle.base_types.specs.declared.epoch.Epoch.{Epoch}
 use Rattle.base_types.specs.declared.id.AttemptId.{AttemptId}
@@ -8,10 +8,10 @@ use Rattle.base_types.specs.declared.report.Attempt.{Attempt}
 use Rattle.base_types.specs.declared.report.Line.{Line}
 use Rattle.base_types.specs.declared.report.Line.TheVariants as line
 use Rattle.base_types.specs.declared.report.Report.{Report}
+use Rattle.dtx_base.specs.Members.{has_target}
 use Rattle.model_laws.specs.Members.{Has}
 use Rattle.model_lone.specs.Only.{TellsOfOnlyClient}
-use Rattle.model_reports.specs.Lone.{AllAreCommitted, EachIsTriedOnce, EndsPlainly, EpochsRise, HasNoConditions, HasOneClient, HasTicks, IsLone, NeverRestarts}
-use Rattle.model_reports.specs.Rooms.{HasRoom}
+use Rattle.model_reports.specs.Lone.{HasOneClient}
 use Rattle.daos_model.specs.Accesses.{attempt_targets}
 use Rattle.daos_model.specs.Attempts.{is_unknown, tries}
 use Rattle.daos_model.specs.Finals.{HeadlineOver}
@@ -24,18 +24,14 @@ use Rattle.run_laws.specs.turns.Orders.{InOrder}
 use Rattle.script_traits.specs.Keyed.{ScriptHasKeys}
 use Rattle.world_closing.specs.forming.Forming.{StandHasKeys}
 use Rattle.world_closing.specs.stands.Stands.{HoldsOpenings}
-use Rattle.world_commit.specs.asks.Ends.{IsSettledAt}
-use Rattle.world_commit.specs.attempts.Attempts.{IsHeld}
+use Rattle.world_commit.specs.attempts.Attempts.{IsHeld, IsOther, IsSettled, IsMember}
 use Rattle.world_base.specs.declared.target.Life.TheVariants.{Running}
 use Rattle.world_base.specs.declared.target.TargetState.{TargetState}
 use Rattle.world_base.specs.declared.world.World.{World}
 use Rattle.world_base.specs.Events.{Rules}
-use Rattle.world_closing.specs.Below.{report_over}
-use Rattle.world_plain.specs.ends.Ends.{TellsPlain, durables_of, rules_of}
-use Rattle.world_plain.specs.facts.Facts.{IsMember}
-use Rattle.world_plain.specs.facts.Settled.{IsCommittedAtAll}
+use Rattle.world_closing.specs.Below.{report_over, durables_of}
+use Rattle.world_closing.specs.Rules.{rules_of}
 use Rattle.world_letters.specs.lives.Legal.{AreCaused, NoneIsStopped}
-use Rattle.world_plain.specs.whole.Begins.{IsBegun, IsSimple}
 
 -- ---- the run
 
@@ -54,13 +50,9 @@ OfEachOrder P = (g : Given) (w v : World) → GoesInOrder g w v → P g v
 abbrev pub OfEachHeldOrder : (Given → World → Type 0) → Type 0
 OfEachHeldOrder P = (g : Given) (w v : World) → HoldsOpenings g.opening w → GoesInOrder g w v → P g v
 
--- and so of a script without snapshots and aggregation, over stores without snapshots
-abbrev pub OfEachPlainOrder : (Given → World → Type 0) → Type 0
-OfEachPlainOrder P = (g : Given) (w v : World) → IsSimple (rules_of g) → IsBegun (rules_of g) g.opening w → GoesInOrder g w v → P g v
-
--- and of such a one where no line tells of a stop
+-- and so of such a one where no line tells of a stop
 abbrev pub OfEachUnstoppedOrder : (Given → World → Type 0) → Type 0
-OfEachUnstoppedOrder P = OfEachPlainOrder (λ g v. stop_numbers v.lines ≡ [] → P g v)
+OfEachUnstoppedOrder P = OfEachHeldOrder (λ g v. stop_numbers v.lines ≡ [] → P g v)
 
 -- ---- what it reports
 
@@ -98,33 +90,42 @@ abbrev pub IsSettledOrLeft : Rules → World → Entry → Type 0
 IsSettledOrLeft r v e = (e.committed ≡ true) ⊎ LacksMember r v e.attempt
 
 -- Each target runs or is given up. Each entry that a running one keeps is committed, or a member of its attempt was given up. Where one is committed
--- at some target, running or not, all members of its attempt hold that.
+-- at some target, running or not, all members of its attempt hold that; and those that run have confirmed it where their leader keeps it. The targets
+-- that an entry names are members.
 pub record LeavesInTheEnd (r : Rules) (v : World) : Type 0 where
   pub targets : NoneIsStopped v
   pub entries : (t : ℕ) (s : TargetState) (e : Entry) → slice_get v.targets t ≡ Some s → s.life ≡ Running → Contains s.durable.entries e → IsSettledOrLeft r v e
   pub held : (t : ℕ) (s : TargetState) (e : Entry) → slice_get v.targets t ≡ Some s → Contains s.durable.entries e → e.committed ≡ true → (m : ℕ) → IsMember r e.attempt m → IsHeld v m e.attempt
+  pub confirmed : (t m : ℕ) (s z : TargetState) (e : Entry) → slice_get v.targets t ≡ Some s → s.life ≡ Running → Contains s.durable.entries e → e.committed ≡ true → e.leader ≡ t → IsOther r e.attempt m → slice_get v.targets m ≡ Some z → z.life ≡ Running
+      → has_target e.confirmed m ≡ true
+  pub named : (t m : ℕ) (s z : TargetState) (e : Entry) → slice_get v.targets t ≡ Some s → Contains s.durable.entries e → slice_get v.targets m ≡ Some z → has_target e.members m ≡ true → IsMember r e.attempt m
 
 -- ---- where nothing stopped
 
--- The report is legal whichever attempts are taken as resolved, though the outside failed no region; no target was given up; lines tell of
--- attempts alone, and of each what became of it. The targets stand for what it tells; nothing is left to settle at any: each entry is
--- committed, and so at all members, those that it names and those by the script; and where its leader keeps it, each other member has confirmed that.
+-- Nothing is left to settle at a target: each entry that it keeps is committed, and confirmed by each other member where the target leads
+-- it; it leads no attempt that is undecided; and no Fetch waits.
+pub record IsSettledAt (r : Rules) (t : ℕ) (s : TargetState) : Type 0 where
+  pub committed : (e : Entry) → Has e s.durable.entries → e.committed ≡ true
+  pub confirmed : (e : Entry) → Has e s.durable.entries → e.leader ≡ t → (m : ℕ) → IsOther r e.attempt m → has_target e.confirmed m ≡ true
+  pub undecided : s.memory.leader.undecided ≡ []
+  pub parked : s.memory.member.parked ≡ []
+
+-- each member of an entry's attempt has committed it: those by the script, and those that the entry names
+pub record IsCommittedAtAll (r : Rules) (v : World) (e : Entry) : Type 0 where
+  pub members : (m : ℕ) → IsMember r e.attempt m → IsSettled v m e.attempt
+  pub named : (m : ℕ) (z : TargetState) → slice_get v.targets m ≡ Some z → has_target e.members m ≡ true → IsSettled v m e.attempt
+
+-- The report is legal whichever attempts are taken as resolved, though the outside failed no region. Each target runs, and no line tells that one was
+-- given up. Of each attempt it is known what became of it. The targets stand for what the report tells. Nothing is left to settle at any: each entry is
+-- committed, and so at all members; and where its leader keeps it, each other member has confirmed that.
 pub record EndsPlainlyIn (g : Given) (v : World) : Type 0 where
   pub legal : (resolved : AttemptId → Bool) → Headline g undisturbed resolved (report_over (rules_of g) v)
   pub stands : HeadlineOver g undisturbed (durables_of v) (report_over (rules_of g) v)
+  pub running : (t : ℕ) (s : TargetState) → slice_get v.targets t ≡ Some s → s.life ≡ Running
   pub none_down : (report_over (rules_of g) v).down ≡ None
-  pub tells : TellsPlain v
+  pub known : All (λ a. is_unknown a.outcome ≡ false) (tries v.lines)
   pub settled : (t : ℕ) (s : TargetState) → slice_get v.targets t ≡ Some s → IsSettledAt (rules_of g) t s
   pub everywhere : (t : ℕ) (s : TargetState) (e : Entry) → slice_get v.targets t ≡ Some s → Contains s.durable.entries e → IsCommittedAtAll (rules_of g) v e
-
--- A client that is alone is never told to restart: each of its commands has one attempt, in the order of the script, epochs rise in the
--- order of the lines, and it is known what became of each; each is committed where there are no conditions, and room and ticks.
-pub record TellsOfLoneClient (g : Given) (q : Report) : Type 0 where
-  pub never_restarted : NeverRestarts q
-  pub one_attempt : EachIsTriedOnce g.script q
-  pub rising : EpochsRise q
-  pub plainly : EndsPlainly q
-  pub committed : HasNoConditions g.script → HasRoom g.script g.job.attempts g.opening.free → HasTicks g.script g.opening → AllAreCommitted q
 
 -- ---- the statements
 
@@ -149,13 +150,9 @@ OrdersOfOnlyClients = OfEachHeldOrder (λ g v. HasOneClient g.script → stop_nu
 abbrev pub OrdersLeaveInTheEnd : Type 0
 OrdersLeaveInTheEnd = OfEachOrder (λ g v. LeavesInTheEnd (rules_of g) v)
 
--- where no line tells of a stop, it is as where nothing can stop
+-- where no line tells of a stop, it is as where nothing can stop, whatever the script does
 abbrev pub UnstoppedOrdersEndPlainly : Type 0
 UnstoppedOrdersEndPlainly = OfEachUnstoppedOrder EndsPlainlyIn
-
--- and so it is of a client that is alone
-abbrev pub UnstoppedOrdersOfLoneClients : Type 0
-UnstoppedOrdersOfLoneClients = OfEachUnstoppedOrder (λ g v. IsLone g.script undisturbed → TellsOfLoneClient g (report_over (rules_of g) v))
 
 -- ---- of legal reports
 

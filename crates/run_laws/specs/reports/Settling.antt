@@ -31,7 +31,7 @@ use Rattle.world_base.specs.declared.target.TargetState.{TargetState}
 use Rattle.world_base.specs.declared.world.World.{World}
 use Rattle.world_base.specs.ClientTurns.{command_at, heard, heard_at, hears_epochs, is_done, is_waiting, moved, moves_at, rests}
 use Rattle.world_base.specs.Changes.{Kept}
-use Rattle.world_base.specs.Events.{ByClient, ByTarget, ClientGoes, ClientHears, Rules, ToClient, ToTarget, client_plan, kept, target_after, target_plan}
+use Rattle.world_base.specs.Events.{ByClient, ByTarget, ClientGoes, ClientHears, Rules, ToClient, ToTarget, client_plan, kept, target_after, target_plan, rightly}
 use Rattle.world_base.specs.Further.{HearsFurther}
 use Rattle.world_base.specs.StepLaws.{by-hearing, by-next, set-here, set-there}
 use Rattle.world_base.specs.Steps.{KeptByCounting, KeptByHearing, KeptByMoves}
@@ -54,8 +54,8 @@ use Rattle.world_making.specs.makers.Events.{makers-write}
 use Rattle.world_commit.specs.requests.Staying.{requests-happen}
 use Rattle.world_commit.specs.statuses.Events.{told_by}
 use Rattle.world_commit.specs.statuses.Fates.{told_by_it}
-use Rattle.world_commit.specs.stops.Happenings.{rightly, told_in}
-use Rattle.world_plain.specs.unstopped.Growing.{lines-grow}
+use Rattle.world_commit.specs.stops.Happenings.{told_in}
+use Rattle.world_letters.specs.lives.Growing.{lines-grow}
 use Rattle.world_closing.specs.Below.{AccountedFor, AreRulesInForm, Grounds, all-events-keep_accounts, attempts-happened, grows-with, later-with}
 use Rattle.run_laws.specs.reports.Inquiries.{AnswersOne, AsksNow, InquiriesCome, InquiryComes, IsAnswered, IsAsked, IsSettling, LetterComes, Stays, WasFlying, inquiries-come, swept-come}
 use Rattle.run_laws.specs.reports.Reports.{LacksMember}

@@ -1,94 +1,149 @@
 -- Where no line of a run in an order tells of a stop, it ends as one in which nothing can stop.
-use Rattle.std.specs.Prelude.{ℕ, ◌≡◌, [], Contains, slice_get, Some, None}
-use Rattle.std.proofs.Common.{sym, ap, subst}
+use Rattle.std.specs.Prelude.{ℕ, ◌≡◌, ◌≤◌, ◌<◌, ◌+◌, ◌++◌, Bool, true, false, List, ◌∷◌, All, Contains, length, slice_get, Option, Some, None, refl, if◌then◌else◌, []}
+use Rattle.std.proofs.Common.{inl, inr, sym, ◌∙◌, ap, arith}
+use Rattle.std.proofs.lemmas.List.{length-append}
 use Rattle.base_types.specs.declared.entry.Entry.{Entry}
-use Rattle.model_reports.specs.Ends.{commit, end-plainly}
-use Rattle.model_reports.specs.Lone.{IsLone}
-use Rattle.model_reports.specs.Once.{rise, try-once}
-use Rattle.model_reports.specs.Restarts.{never-restart}
+use Rattle.base_types.specs.declared.id.AttemptId.{AttemptId}
+use Rattle.base_types.specs.declared.report.Line.{Line}
+use Rattle.base_types.specs.declared.report.Line.TheVariants as line
+use Rattle.daos_model.specs.Attempts.{is_lost, is_unknown, tries}
+use Rattle.daos_model.specs.BoolLaws.{or_left}
+use Rattle.daos_model.specs.Family.{resolved}
 use Rattle.daos_model.specs.Finals.{HeadlineOver}
-use Rattle.daos_model.specs.Headline.{Headline}
-use Rattle.daos_model.specs.Opening.{Given, undisturbed}
-use Rattle.daos_model.specs.Stops.{down_targets, least, stop_numbers}
-use Rattle.world_commit.specs.attempts.Attempts.{IsSettled}
+use Rattle.daos_model.specs.Opening.{Given, Outside, undisturbed}
+use Rattle.daos_model.specs.Stops.{down_targets, is_at, least, lines_at, stop_numbers, stopped_number}
+use Rattle.model_laws.specs.DecidedLaws.{all-from_has}
+use Rattle.model_laws.specs.Lists.{at-within}
+use Rattle.model_laws.specs.Members.{Has, contains-from_has}
+use Rattle.model_lone.specs.Unstopped.{none-stopped}
+use Rattle.model_reports.specs.Alone.{is-sure}
+use Rattle.model_reports.specs.Resolved.{legal-known}
+use Rattle.model_reports.specs.Stopless as stopless
+use Rattle.run_laws.specs.reports.Kept.{all-there, downs-have_lines, empty-of, end-over, orders-leave}
+use Rattle.run_laws.specs.reports.Legal.{orders-are-legal}
+use Rattle.run_laws.specs.reports.Reports.{EndsPlainlyIn, GoesInOrder, IsCommittedAtAll, IsSettledAt, LacksMember, LeavesInTheEnd, UnstoppedOrdersEndPlainly}
+use Rattle.world_base.specs.declared.target.Life.TheVariants.{Down, Running}
 use Rattle.world_base.specs.declared.target.TargetState.{TargetState}
 use Rattle.world_base.specs.declared.world.World.{World}
-use Rattle.world_base.specs.Ended.{HasEnded}
-use Rattle.world_base.specs.Events.{Rules, Run}
-use Rattle.world_closing.specs.Below.{report_over}
-use Rattle.world_plain.specs.ends.Ends.{TellsPlain, durables_of, report_of, rules_of}
-use Rattle.world_plain.specs.ends.FromBeginning.{ended-runs-are-settled, runs-from-the-beginning, runs-give-the-headline}
-use Rattle.world_plain.specs.ends.StopLaws.{tries-undisturbed}
-use Rattle.world_plain.specs.facts.FactLaws.{known-at-each-moment}
-use Rattle.world_plain.specs.facts.Settled.{IsCommittedAtAll}
-use Rattle.world_plain.specs.facts.SettledLaws.{ended-runs-commit-at-all}
-use Rattle.world_plain.specs.whole.Begins.{IsBegun, IsSimple}
-use Rattle.world_plain.specs.unstopped.Renumbering.{with_numbers}
-use Rattle.world_plain.specs.unstopped.Unstopped.{unstopped-is-plain}
-use Rattle.run_laws.specs.reports.Legal.{ended, events}
-use Rattle.run_laws.specs.reports.Reports.{EndsPlainlyIn, GoesInOrder, TellsOfLoneClient, UnstoppedOrdersEndPlainly, UnstoppedOrdersOfLoneClients}
+use Rattle.world_base.specs.Events.{Rules}
+use Rattle.world_closing.specs.Below.{IsOver, other-there, report_over, durables_of}
+use Rattle.world_closing.specs.stands.Stands.{HoldsOpenings}
+use Rattle.world_commit.specs.attempts.Attempts.{IsHeld, IsSettled, entry_in, IsMember}
+use Rattle.world_contents.specs.reads.ChangeLaws.{entry-among}
+use Rattle.world_letters.specs.lives.Legal.{AreCaused}
+use Rattle.world_closing.specs.Rules.{rules_of}
 
-module _ (g : Given) (w v : World) (simple : IsSimple (rules_of g)) (begun : IsBegun (rules_of g) g.opening w) (k : GoesInOrder g w v) (none : stop_numbers v.lines ≡ []) where
+-- ---- lists
+
+-- no more stops are told of one target than of all
+stops-fewer : (t : ℕ) (ls : List Line) → length (stop_numbers (lines_at t ls)) ≤ length (stop_numbers ls)
+stops-fewer t [] = omega arith
+stops-fewer t (l ∷ ls) = by (is_at t l) (stops-fewer t ls) (length-append (stopped_number l) (stop_numbers (lines_at t ls))) (length-append (stopped_number l) (stop_numbers ls))
+  where
+    by : (b : Bool) → length (stop_numbers (lines_at t ls)) ≤ length (stop_numbers ls) → length (stopped_number l ++ stop_numbers (lines_at t ls)) ≡ length (stopped_number l) + length (stop_numbers (lines_at t ls))
+        → length (stopped_number l ++ stop_numbers ls) ≡ length (stopped_number l) + length (stop_numbers ls) → length (stop_numbers (if b then l ∷ lines_at t ls else lines_at t ls)) ≤ length (stopped_number l ++ stop_numbers ls)
+    by true fewer here all = omega (arith, fewer, here, all)
+    by false fewer here all = omega (arith, fewer, all)
+
+-- no target was given up where no line tells so
+none-least : (ls : List Line) → ((t : ℕ) → Has (line.Down t) ls → ⊥) → down_targets ls ≡ []
+none-least [] none = refl
+none-least (line.Try a ∷ ls) none = none-least ls (λ t i. none t (inr i))
+none-least (line.Stop number target ∷ ls) none = none-least ls (λ t i. none t (inr i))
+none-least (line.Restart number target incarnation floor ∷ ls) none = none-least ls (λ t i. none t (inr i))
+none-least (line.Freeze target cont epoch ∷ ls) none = none-least ls (λ t i. none t (inr i))
+none-least (line.Snapshot name cont epoch ∷ ls) none = none-least ls (λ t i. none t (inr i))
+none-least (line.Aggregate number target cont upto ∷ ls) none = none-least ls (λ t i. none t (inr i))
+none-least (line.Down target ∷ ls) none = absurd (none target (inl refl))
+
+-- an outside that may have caused whatever stopped and was given up
+abbrev anything : Outside
+anything = record { rises = λ t. None; foreign = λ t. true; keeps = λ t. true }
+
+-- ---- the end
+
+module _ (g : Given) (w v : World) (holds : HoldsOpenings g.opening w) (k : GoesInOrder g w v) (none : stop_numbers v.lines ≡ []) where
   abbrev r : Rules
   r = rules_of g
 
-  -- the world at its end, but for the numbers that were drawn
-  abbrev last : World
-  last = with_numbers w.numbers v
+  by-anything : HeadlineOver g anything (durables_of v) (report_over r v)
+  by-anything = orders-are-legal g w v holds k anything (record { stops = λ t. tt; given_up = λ t z here down. tt })
 
-  plain : Run r w last
-  plain = unstopped-is-plain r g.opening w v simple begun (events g w v k) none
+  never : stopless.NoStops v.lines
+  never = none-stopped v.lines none
 
-  over : HasEnded r last
-  over =
-      let e = ended g w v k in
-      record { to_clients = e.to_clients; to_targets = e.to_targets; clients = e.clients; none_stopped = e.none_stopped; settled = e.settled; told = e.told; inquired = e.inquired }
+  -- no line tells that a target was given up
+  none-goes : (t : ℕ) → Has (line.Down t) v.lines → ⊥
+  none-goes = stopless.never-goes g.script anything v.lines never by-anything.told.outcomes.stops.targets
 
-  known : TellsPlain last
-  known = (known-at-each-moment r g.opening w last simple begun plain).lines
+  over : IsOver r v
+  over = end-over g w v k
 
-  tells : TellsPlain v
-  tells = record { attempts = known.attempts; sure = known.sure }
+  there : (m : ℕ) → m < r.script.targets → (z : TargetState) × (slice_get v.targets m ≡ Some z)
+  there m low = at-within v.targets m (let many : length v.targets ≡ r.script.targets = all-there g w v k in omega (arith, low, many))
 
-  none-down : least (down_targets v.lines) ≡ None
-  none-down = sym (tries-undisturbed g.script g.job.threads v.lines tells.attempts).down
+  runs : (t : ℕ) (s : TargetState) → slice_get v.targets t ≡ Some s → s.life ≡ Running
+  runs t s here = elim (over.targets t s here) as (λ x. s.life ≡ Running) [ inl up ↦ up | inr down ↦ absurd (none-goes t (downs-have_lines g w v k t s here down)) ]
 
-  same : report_of r last ≡ report_over r v
-  same = ap (λ d. record { targets = g.script.targets; lines = v.lines; down = d }) (sym none-down)
+  caused : AreCaused g.script undisturbed v
+  caused = record {
+    stops = λ t. let fewer = stops-fewer t v.lines in let zero : length (stop_numbers v.lines) ≡ 0 = ap length none in omega (arith, fewer, zero);
+    given_up = λ t z here down. let bad : Running ≡ Down = sym (runs t z here) ∙ down in let no : ⊥ = cc in absurd no;
+  }
+
+  stands : HeadlineOver g undisturbed (durables_of v) (report_over r v)
+  stands = orders-are-legal g w v holds k undisturbed caused
+
+  known : All (λ a. is_unknown a.outcome ≡ false) (tries v.lines)
+  known = all-from_has (λ a. is_unknown a.outcome ≡ false) (tries v.lines)
+      (λ a i. or_left (is_unknown a.outcome) (is_lost a.id a.outcome) (is-sure g undisturbed (resolved (durables_of v)) (report_over r v) never stands.told a i))
+
+  -- ---- what is kept
+
+  left : LeavesInTheEnd r v
+  left = orders-leave g w v k
+
+  lacks-none : (x : AttemptId) → LacksMember r v x → ⊥
+  lacks-none x lacks = none-goes lacks.member lacks.down
+
+  committed : (t : ℕ) (s : TargetState) (e : Entry) → slice_get v.targets t ≡ Some s → Contains s.durable.entries e → e.committed ≡ true
+  committed t s e here i = elim (left.entries t s e here (runs t s here) i) [ inl is ↦ is | inr lacks ↦ absurd (lacks-none e.attempt lacks) ]
+
+  settled : (t : ℕ) (s : TargetState) → slice_get v.targets t ≡ Some s → IsSettledAt r t s
+  settled t s here = record {
+    committed = λ e i. committed t s e here (contains-from_has s.durable.entries e i);
+    confirmed = λ e i leads m other.
+        let z = there m (other-there r e.attempt m k.begins.form.some_target other) in
+        let among = contains-from_has s.durable.entries e i in
+        left.confirmed t m s z.0 e here (runs t s here) among (committed t s e here among) leads other z.1 (runs m z.0 z.1);
+    undecided = empty-of s.memory.leader.undecided (λ u i. let z = (over.rest t s here (runs t s here)).lacks u i in none-goes z.0 z.2);
+    parked = (over.rest t s here (runs t s here)).parked;
+  }
+
+  -- what a target holds is committed
+  held-settled : (t : ℕ) (x : AttemptId) → IsHeld v t x → IsSettled v t x
+  held-settled t x held = by (slice_get v.targets t) refl
+    where
+      by : (s : Option TargetState) → slice_get v.targets t ≡ s → IsSettled v t x
+      by None gone = let no : ⊥ = cc (sym held.found ∙ ap (λ z. entry_in z x) gone) in absurd no
+      by (Some s) here = record { entry = held.entry; found = held.found; committed = committed t s held.entry here (entry-among s.durable x held.entry (sym (ap (λ z. entry_in z x) here) ∙ held.found)) }
 
   everywhere : (t : ℕ) (s : TargetState) (e : Entry) → slice_get v.targets t ≡ Some s → Contains s.durable.entries e → IsCommittedAtAll r v e
-  everywhere t s e here i = record { named = λ m names. now m (all.named m names); members = λ m member. now m (all.members m member) }
+  everywhere t s e here i = record { members = at-members; named = λ m z at named. at-members m (left.named t m s z e here i at named) }
     where
-      all : IsCommittedAtAll r last e
-      all = ended-runs-commit-at-all r g.opening w last e simple begun plain over (record { t = t; s = s; here = here; among = i })
-
-      now : (m : ℕ) → IsSettled last m e.attempt → IsSettled v m e.attempt
-      now m z = record { entry = z.entry; found = z.found; committed = z.committed }
+      at-members : (m : ℕ) → IsMember r e.attempt m → IsSettled v m e.attempt
+      at-members m member = held-settled m e.attempt (left.held t s e here i (committed t s e here i) m member)
 
   pub plainly : EndsPlainlyIn g v
   plainly = record {
-    legal = λ resolved. subst (Headline g undisturbed resolved) same (runs-give-the-headline g resolved w last simple begun plain over);
-    stands = subst (HeadlineOver g undisturbed (durables_of v)) same (runs-from-the-beginning g w last simple begun plain over);
-    none_down = none-down;
-    tells = tells;
-    settled = λ t s here. ended-runs-are-settled r g.opening w last t s simple begun plain over here;
+    legal = λ found. legal-known g undisturbed (resolved (durables_of v)) found (report_over r v) known stands.told;
+    stands = stands;
+    running = runs;
+    none_down = ap least (none-least v.lines none-goes);
+    known = known;
+    settled = settled;
     everywhere = everywhere;
   }
 
-  pub lone : IsLone g.script undisturbed → TellsOfLoneClient g (report_over r v)
-  lone one =
-      let q = report_over r v in
-      let told = plainly.stands.told in
-      record {
-        never_restarted = never-restart g undisturbed _ q one told;
-        one_attempt = try-once g undisturbed _ q one told;
-        rising = (rise g undisturbed _ q one told).0;
-        plainly = end-plainly g undisturbed _ q one told;
-        committed = λ free room ticks. commit g undisturbed _ q one told simple.some_target simple.some_attempt room free ticks;
-      }
-
 pub unstopped-end-plainly : UnstoppedOrdersEndPlainly
-unstopped-end-plainly g w v simple begun k none = plainly g w v simple begun k none
-
-pub unstopped-lone : UnstoppedOrdersOfLoneClients
-unstopped-lone g w v simple begun k none one = lone g w v simple begun k none one
+unstopped-end-plainly g w v holds k none = plainly g w v holds k none

@@ -1,5 +1,5 @@
 -- Actors that can have their turns, whatever their stores tell.
-use Rattle.world_plain.specs.whole.KnownSnapshots.{ReadsKnown}
+use Rattle.world_contents.specs.posts.KnownSnapshots.{ReadsKnown}
 use Rattle.std.specs.Prelude.{ℕ, ◌≡◌, ◌+◌, ◌<◌, ◌^◌, List, false, true, length, slice_get, Contains, Option, Some}
 use Rattle.std.specs.Option.{ForSome}
 use Rattle.client_core.specs.Clients.{ClientNow}

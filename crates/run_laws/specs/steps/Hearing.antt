@@ -1,5 +1,5 @@
 -- What goes to a target that runs it can hear.
-use Rattle.world_closing.specs.Below.{CanHearLetter, CanHearOfMaking, begins-well, runs-can_hear_all}
+use Rattle.world_closing.specs.Below.{CanHearLetter, CanHearOfMaking, begins-well, runs-can_hear_all, CanHear}
 use Rattle.std.specs.Prelude.{ℕ, ◌≡◌, ◌∷◌, All, true, List, Option, Some, None, refl}
 use Rattle.std.proofs.Common.{inl, inr, sym, ◌∙◌, ap, subst}
 use Rattle.base_messages.specs.declared.message.Message.{Message}
@@ -25,7 +25,6 @@ use Rattle.world_base.specs.Commits.{own_writes}
 use Rattle.world_base.specs.Events.{Rules, target_plan}
 use Rattle.world_base.specs.Letters.{target}
 use Rattle.world_contents.specs.posts.Forms.{HasFormAfterStops, IsInForm, IsLetter}
-use Rattle.world_plain.specs.whole.Hearable.{CanHear}
 
 -- ---- messages
 

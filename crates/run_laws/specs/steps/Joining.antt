@@ -4,7 +4,7 @@ use Rattle.std.proofs.Common.{◌∙◌, ap, subst, arith}
 use Rattle.std.proofs.Math.Path.{path_j, subst_refl, sym_refl}
 use Rattle.base_messages.specs.declared.actor.ActorId.{ActorId}
 use Rattle.base_random.specs.Draws.{drawn}
-use Rattle.run_base.specs.Orders.{after_pick, pick}
+use Rattle.run_base.specs.Picks.{after_pick, pick}
 use Rattle.run_base.specs.Picks.{actors, due, is_due}
 use Rattle.run_laws.specs.steps.Going.{IsBothWays, IsNoWay, IsWayAs}
 use Rattle.run_laws.specs.steps.Ways.{all_from_draw, all_rounds, from_draw, in_order, round_of, some_rounds, turn_of, turned, turns_run}

@@ -1,7 +1,6 @@
 -- A client's turn, and a target's turn, whole or cut, with all that they leave.
 use Rattle.std.specs.Prelude.{ℕ, ◌≡◌, ◌<◌, ◌+◌, ◌==◌, ◌&&◌, Bool, true, false, List, [], length, slice_get, slice_set, Option, Some, None, Ok, Err, refl, if◌then◌else◌}
 use Rattle.std.proofs.Common.{inl, inr, sym, ◌∙◌, ap, subst, arith}
-use Rattle.std.proofs.Math.ListN.{set}
 use Rattle.std.proofs.lemmas.Bool.Decides.{nat_tests}
 use Rattle.base_outside.specs.Causes.{Rose}
 use Rattle.base_types.specs.declared.epoch.Epoch.{Epoch}
@@ -54,8 +53,8 @@ use Rattle.world_letters.specs.lives.Adding.{stops_of}
 use Rattle.world_contents.specs.posts.FormLaws.{clients-send-letters, targets-send-letters}
 use Rattle.world_contents.specs.posts.Forms as posted
 use Rattle.world_contents.specs.posts.Forms.{ClientPosts, TargetPosts, TurnsPostInForm}
-use Rattle.world_plain.specs.whole.KnownSnapshots.{ReadsKnown, clients-keep-reads_known, hearers-keep-reads_known}
-use Rattle.world_plain.specs.whole.Posting.{clients-post-in-form, hearers-post-in-form}
+use Rattle.world_contents.specs.posts.KnownSnapshots.{ReadsKnown, clients-keep-reads_known, hearers-keep-reads_known}
+use Rattle.world_contents.specs.posts.ClientPosts.{clients-post-in-form, hearers-post-in-form}
 
 -- what is left of letters beside one that was taken was among them
 rest-among : (letters rest : List Letter) (a : _) (number : ℕ) (l : Letter) → IsPicked letters a number l rest → (m : Letter) → Has m rest → Has m letters

@@ -2,8 +2,7 @@
 use Rattle.std.specs.Prelude.{ℕ, ◌≡◌, ◌++◌, ◌%◌, Bool, true, false, List, [], ◌∷◌, length, slice_get, Some}
 use Rattle.base_random.specs.Draws.{drawn}
 use Rattle.base_messages.specs.declared.actor.ActorId.{ActorId}
-use Rattle.run_base.specs.Orders.{after_pick, pick}
-use Rattle.run_base.specs.Picks.{actors, due, is_due}
+use Rattle.run_base.specs.Picks.{actors, due, is_due, after_pick, pick}
 use Rattle.run_laws.specs.turns.Turns.{TurnOf, heard_in}
 use Rattle.world_base.specs.declared.world.World.{World}
 use Rattle.world_base.specs.Events.{Rules}

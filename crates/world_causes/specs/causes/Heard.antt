@@ -29,7 +29,6 @@ use Rattle.world_causes.specs.causes.PrepareTurns.{IsPrepare}
 use Rattle.world_causes.specs.causes.ReadTurns.{IsFetch}
 use Rattle.world_causes.specs.causes.Shown.{Causes, IsOpenToAll}
 use Rattle.world_causes.specs.causes.Turns.{AllMeet}
-use Rattle.world_causes.specs.causes.VerdictTurns.{IsVerdict}
 
 -- of the target: its floors are told, its timestamps are of reads, and what isn't settled there a read may meet
 pub record IsKnownAt (r : Rules) (o : Opening) (w : World) (t : ℕ) (s : TargetState) : Type 0 where
@@ -46,7 +45,8 @@ pub record IsHeardAs (r : Rules) (o : Opening) (stored : Stored) (w : World) (t 
   pub ack : (a : AttemptId) (inc : ℕ) (refusal : Option Outcome) → l.message ≡ message.Ack a inc refusal → IsAck r o stored w.issued w.lines a refusal (leader_at (target_plan r t) s.memory s.durable)
   -- where a leader answers that an attempt isn't decided, it is open to any other
   pub query : (a : AttemptId) (ask : Option AttemptId) → l.message ≡ message.Query a ask → query_answer a (leader_at (target_plan r t) s.memory s.durable) ≡ verdicts.Undecided → IsOpenToAll r.script w.lines a
-  pub verdict : (a : AttemptId) (ask : Option AttemptId) (inc : ℕ) (v : Verdict) → l.message ≡ message.Verdict a ask inc v → IsVerdict r o w.issued w.lines (target_plan r t) s.memory a ask v
+  -- it is no Verdict, which frees Fetches
+  pub verdict : (a : AttemptId) (ask : Option AttemptId) (inc : ℕ) (v : Verdict) → l.message ≡ message.Verdict a ask inc v → ⊥
 
 -- what waits at a target meets what it waits for
 pub meet-at : (r : Rules) (o : Opening) (stored : Stored) (w : World) (t : ℕ) (s : TargetState) → Causes r o stored w → slice_get w.targets t ≡ Some s → AllMeet r w.issued s.memory.member.parked

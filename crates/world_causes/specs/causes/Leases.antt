@@ -1,11 +1,10 @@
 -- The leases of targets are within a bound: each was stored for ticks within the limit.
-use Rattle.std.specs.Prelude.{ℕ, ◌≡◌, ◌≤◌, ◌<◌, ◌+◌, ◌*◌, ◌/◌, ◌++◌, Bool, true, false, min, nat_le, List, length, filter, Option, Some, None, refl, if◌then◌else◌}
+use Rattle.std.specs.Prelude.{ℕ, ◌≡◌, ◌≤◌, ◌<◌, ◌+◌, ◌*◌, ◌/◌, ◌++◌, Bool, true, false, min, nat_le, List, length, Option, Some, None, refl, if◌then◌else◌}
 use Rattle.std.specs.Int.{div_ceil}
 use Rattle.std.proofs.Common.{inl, inr, sym, ◌∙◌, ap, subst, arith}
 use Rattle.std.proofs.lemmas.Grind.{div_ceil_times}
 use Rattle.base_types.specs.declared.entry.Settle.{Settle}
 use Rattle.base_types.specs.declared.entry.Verdict.{Verdict}
-use Rattle.base_types.specs.declared.entry.Verdict.TheVariants as verdicts
 use Rattle.base_types.specs.declared.epoch.Epoch.{Epoch}
 use Rattle.base_types.specs.declared.id.AttemptId.{AttemptId}
 use Rattle.base_types.specs.declared.outcome.FloorWhy.{FloorWhy}
@@ -14,11 +13,10 @@ use Rattle.base_types.specs.Epochs.{last_ticks, lease_for}
 use Rattle.base_messages.specs.declared.actor.ActorId.{ActorId}
 use Rattle.base_messages.specs.declared.message.Message.{Message}
 use Rattle.base_messages.specs.declared.message.Message.TheVariants as message
-use Rattle.model_laws.specs.Members.{Has, has-from_filter, has-from_map}
+use Rattle.model_laws.specs.Members.{Has}
 use Rattle.daos_model.specs.declared.durable.Durable.{Durable}
 use Rattle.daos_model.specs.Opening.{Opening}
-use Rattle.dtx_base.specs.declared.member.Parked.{Parked}
-use Rattle.dtx_base.specs.Joining.{is_parked_on, parked_ask, unresolved, verdict_heard}
+use Rattle.dtx_base.specs.Joining.{verdict_heard}
 use Rattle.world_base.specs.declared.did.Did.{Did}
 use Rattle.world_base.specs.declared.letter.Letter.{Letter}
 use Rattle.world_base.specs.declared.request.CommitRequest.{CommitRequest}
@@ -50,12 +48,11 @@ use Rattle.world_causes.specs.causes.Dates.{limit-more, limit-rises, request-dat
 use Rattle.world_causes.specs.causes.Heard.{IsHeardAs}
 use Rattle.world_causes.specs.causes.Premises.{IsRequest}
 use Rattle.world_causes.specs.causes.Shown.{Causes, limit_over}
-use Rattle.world_causes.specs.causes.VerdictTurns.{IsAskFit}
 
 -- ---- a lease for some ticks
 
 -- it is at most so far above them
-lease-near : (n l c : ℕ) → n ≤ c → lease_for n ≡ Some l → l ≤ c + 65535
+pub lease-near : (n l c : ℕ) → n ≤ c → lease_for n ≡ Some l → l ≤ c + 65535
 lease-near n l c low h = near last_ticks h
   where
     up : div_ceil n 65536 * 65536 < n + 65536
@@ -213,14 +210,6 @@ rightly-to c t opening m reading from q old new left below low h = absurd h
 
 -- ---- what a target hears
 
--- the Fetches that a Verdict sets free waited
-freed-waited : (a : AttemptId) (ask : Option AttemptId) (v : Verdict) (t : TargetPlan) (m : TargetMemory) (n : Message) → Has n (verdict_heard a ask v (member_at t m)).freed.again → (p : Parked) × Has p m.member.parked × (p.ask ≡ n)
-unfolding unresolved
-freed-waited a ask verdicts.Committed t m n i = let p = has-from_map parked_ask (filter (is_parked_on a) m.member.parked) n i in (p.0, (has-from_filter (is_parked_on a) m.member.parked p.0 p.1).0, p.2)
-freed-waited a ask verdicts.Aborted t m n i = let p = has-from_map parked_ask (filter (is_parked_on a) m.member.parked) n i in (p.0, (has-from_filter (is_parked_on a) m.member.parked p.0 p.1).0, p.2)
-freed-waited a None verdicts.Undecided t m n i = absurd i
-freed-waited a (Some x) verdicts.Undecided t m n i = absurd i
-
 listed-few : (i : Option (AttemptId × Epoch)) → length (listed i) ≤ 1
 listed-few None = omega arith
 listed-few (Some i) = omega arith
@@ -248,14 +237,11 @@ module _ (r : Rules) (o : Opening) (stored : Stored) (w : World) (t : ℕ) (s : 
   dated : (reading : ℕ) (x : AttemptId) (ep first : Option Epoch) (tracker : Epoch) → t < 256 → IsRequest o w.issued w.lines x ep first tracker → IsDatedBelow bound (target_plan r t) s.memory reading tracker ep
   dated reading x ep first tracker few k = request-below r o w t s.memory ticks reading x ep first tracker few k
 
-  ask-below : (p : Parked) → IsAskFit r o w.issued w.lines (target_plan r t) p.ask → AskBelow bound p.ask
-  ask-below p k = subst (AskBelow bound) (sym k.is) (subst (EpochBelow bound) (sym k.own) (within (k.e.0 / 256) (k.fit.request.own k.e k.own).2))
-
   pub heard-below : (reading : ℕ) (m : Message) → l.message ≡ m → HeardBelow bound (target_plan r t) s.memory reading m
   heard-below reading (message.Fetch x op group ep first tracker y snapshot) is = let f = K.fetch (fetch_request x op group ep first tracker y snapshot) is in dated reading x ep first tracker f.0.few f.0.request
   heard-below reading (message.Commit x ep first tracker ws) is = let c = K.commit (commit_request x ep first tracker ws) is in dated reading x ep first tracker c.0.few c.0.request
   heard-below reading (message.Prepare e first ws inc) is = let p = K.prepare (prepare_request e first ws inc) is in within (e.epoch.0 / 256) (K.at.target.dates e.attempt e.epoch p.issued_to)
-  heard-below reading (message.Verdict x ask inc y) is = λ n i. let p = freed-waited x ask y (target_plan r t) s.memory n i in subst (AskBelow bound) p.2 (ask-below p.0 ((K.verdict x ask inc y is).asks p.0 p.1))
+  heard-below reading (message.Verdict x ask inc y) is = absurd (K.verdict x ask inc y is)
   heard-below reading m is = tt
 
 -- a lease that a turn leaves

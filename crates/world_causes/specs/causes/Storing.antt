@@ -9,11 +9,8 @@ use Rattle.base_messages.specs.declared.message.Message.{Message}
 use Rattle.base_messages.specs.declared.message.Message.TheVariants as message
 use Rattle.base_messages.specs.declared.message.Reply.TheVariants as reply
 use Rattle.daos_model.specs.Attempts.{tries}
-use Rattle.world_commit.specs.attempts.Attempts.{IsBorn}
-use Rattle.world_commit.specs.attempts.History.{History}
 use Rattle.world_base.specs.declared.letter.Letter.{Letter}
 use Rattle.world_base.specs.declared.world.World.{World}
-use Rattle.world_base.specs.Events.{Rules}
 use Rattle.world_base.specs.Letters.{target}
 use Rattle.world_causes.specs.causes.Causes.{Dated, Stored}
 
@@ -56,8 +53,3 @@ pub record StoredOnce (stored : Stored) (w : World) : Type 0 where
   pub issued : (t : ℕ) (x : AttemptId) → Contains stored (t, x) → (e : Epoch) × Contains w.issued (x, e)
   pub asked : (t : ℕ) (x : AttemptId) → IsAskedAt w t x → Contains stored (t, x) → ⊥
   pub refused : (t : ℕ) (x : AttemptId) → IsRefusedAt w t x → (Contains stored (t, x) → ⊥) × (IsAskedAt w t x → ⊥)
-
--- and once its leader stored it
-pub record Storing (r : Rules) (h : History) (stored : Stored) (w : World) : Type 0 where
-  pub so : StoredOnce stored w
-  pub born : (t : ℕ) (x : AttemptId) → Contains stored (t, x) → IsBorn r h w x

@@ -1,6 +1,6 @@
 -- What clients do leaves what was stored, and what was refused.
 use Rattle.std.specs.Prelude.{ℕ, ◌≡◌, ◌++◌, ◌⊎◌, Bool, true, false, List, map, Contains, Option, Some, None, refl}
-use Rattle.std.proofs.Common.{inl, inr, sym, ◌∙◌, ap, subst}
+use Rattle.std.proofs.Common.{inl, inr, sym, ap, subst}
 use Rattle.base_types.specs.declared.epoch.Epoch.{Epoch}
 use Rattle.base_types.specs.declared.id.AttemptId.{AttemptId}
 use Rattle.base_types.specs.declared.outcome.Outcome.TheVariants as outcome
@@ -11,8 +11,6 @@ use Rattle.model_laws.specs.Members.{Has, contains-from_has, has-cases, has-from
 use Rattle.base_messages.specs.declared.message.Message.{Message}
 use Rattle.base_messages.specs.declared.message.Message.TheVariants as message
 use Rattle.base_messages.specs.declared.message.Post.{Post}
-use Rattle.base_messages.specs.declared.message.Reply.{Reply}
-use Rattle.base_messages.specs.declared.message.Reply.TheVariants as reply
 use Rattle.daos_model.specs.Attempts.{tries}
 use Rattle.daos_model.specs.Laws.{tries-append}
 use Rattle.world_base.specs.declared.client.ClientPlan.{ClientPlan}
@@ -20,22 +18,15 @@ use Rattle.world_base.specs.declared.client.ClientState.{ClientState}
 use Rattle.world_base.specs.declared.client.Present.{Present}
 use Rattle.world_base.specs.declared.letter.Letter.{Letter}
 use Rattle.world_base.specs.declared.world.World.{World}
-use Rattle.world_base.specs.ClientTurns.{Move, attempt_id, command_at, heard, hears_epochs, knows, listed, moved, op_of, replied, waits}
-use Rattle.world_base.specs.Events.{ClientGoes, ClientHears, Rules, client_plan, with_client, with_epoch}
+use Rattle.world_base.specs.ClientTurns.{Move, listed, moved, waits}
+use Rattle.world_base.specs.Events.{with_client, with_epoch}
 use Rattle.world_base.specs.Letters.{client, letter_of, letters_of}
-use Rattle.world_base.specs.StepLaws.{by-hearing, by-next}
-use Rattle.world_base.specs.Steps.{KeptByCounting, KeptByHearing, KeptByMoves, after_client, without}
+use Rattle.world_base.specs.Steps.{KeptByCounting, after_client, without}
 use Rattle.world_letters.specs.talks.AskLaws.{move-is, waiting-rests}
 use Rattle.world_letters.specs.talks.Asked.{ARead, ASnapshot, AnAggregation, Asked, Asking, IsMove, ItsWrites, Silent, Telling}
-use Rattle.world_letters.specs.talks.Conversation.{Conversation}
-use Rattle.world_letters.specs.talks.ConversationLaws.{count-keeps, hear-keeps, move-keeps}
-use Rattle.world_letters.specs.talks.Hearing.{AReply, ATracker, AnEnd, IsHearing, hearing-is}
-use Rattle.world_letters.specs.talks.TalkLaws.{left-is-among, taken-is-among}
 use Rattle.world_causes.specs.causes.Causes.{Dated, Stored}
-use Rattle.world_causes.specs.causes.ClientLaws.{IsQuiet, IsQuietLine, answer-mild, moved-mild}
-use Rattle.world_causes.specs.causes.Premises.{IsPlain}
+use Rattle.world_causes.specs.causes.ClientLaws.{IsQuiet, IsQuietLine}
 use Rattle.world_causes.specs.causes.Storing.{HasItsLine, IsAskedAt, IsPrepareOf, IsRefusedAt, IsTold, RefusesAt, StoredOnce}
-use Rattle.world_letters.specs.lines.EndingLaws.{heard-silent}
 
 -- ---- lines
 
@@ -125,11 +116,6 @@ client-did stored w n d letters posts l S among P L = record {
 
 -- ---- clients
 
-pub stored-by-moves : (r : Rules) (stored : Stored) → IsPlain r → KeptByMoves r (StoredOnce stored)
-stored-by-moves r stored P w n c here S =
-    client-did stored w n (moved (client_plan r n) c).state w.messages (listed (moved (client_plan r n) c).post) (moved (client_plan r n) c).line S (λ z i. i) (move-clients (client_plan r n) c)
-    (quiet-only (IsRefusedAt w) (moved (client_plan r n) c).line (moved-mild (client_plan r n) c (P.now n c.place)).quiet)
-
 pub stored-by-counting : (stored : Stored) → KeptByCounting (StoredOnce stored)
 stored-by-counting stored w n k c here S = record {
   once = S.once;
@@ -141,41 +127,3 @@ stored-by-counting stored w n k c here S = record {
     was : (t : ℕ) (x : AttemptId) → IsRefusedAt (with_client n (record c { skip = k }) w) t x → IsRefusedAt w t x
     was t x (IsTold z i p) = IsTold z i p
     was t x (HasItsLine a need free i same is) = HasItsLine a need free i same is
-
--- what is heard tells of a refusal what the line then tells
-heard-only : (r : Rules) (w : World) (n : ℕ) (c : ClientState) (l : Letter) (rest : List Letter) → Contains w.messages l → IsHearing r n c l rest → TellsOnly (IsRefusedAt w) (heard (client_plan r n) c l.message).line
-heard-only r w n c l rest among (ATracker k says it) = subst (λ m. TellsOnly (IsRefusedAt w) m.line) (sym it) tt
-heard-only r w n c l rest among (AReply g group own b says it) = subst (λ m. TellsOnly (IsRefusedAt w) m.line) (sym it) (by b says)
-  where
-    now : ClientState
-    now = hears_epochs l.message c
-
-    by : (b : Reply) → l.message ≡ message.Fetched (attempt_id (client_plan r n) c g.a) g.a.op group own b → TellsOnly (IsRefusedAt w) (replied (client_plan r n) now (knows own g.a) b).line
-    by (reply.Answer b) says = quiet-only (IsRefusedAt w) (replied (client_plan r n) now (knows own g.a) (reply.Answer b)).line (answer-mild (client_plan r n) now (knows own g.a) b (op_of (command_at (client_plan r n) now) g.a.op)).quiet
-    by (reply.Outcome how) says = λ t need free is. IsTold l among (subst (λ m. RefusesAt m t (attempt_id (client_plan r n) c g.a)) (sym (says ∙ ap (λ z. message.Fetched (attempt_id (client_plan r n) c g.a) g.a.op group own (reply.Outcome z)) is)) (refl, refl))
-heard-only r w n c l rest among (AnEnd g own how says it) = subst (λ m. TellsOnly (IsRefusedAt w) m.line) (sym it)
-    (λ t need free is. IsTold l among (subst (λ m. RefusesAt m t (attempt_id (client_plan r n) c g.a)) (sym (says ∙ ap (λ z. message.Ended (attempt_id (client_plan r n) c g.a) own z) is)) (refl, refl)))
-
-module _ (r : Rules) (stored : Stored) (P : IsPlain r) where
-  abbrev Both : World → Type 0
-  Both w = Conversation r w × StoredOnce stored w
-
-  moves : KeptByMoves r Both
-  moves w n c here p = (move-keeps r w n c here p.0, stored-by-moves r stored P w n c here p.1)
-
-  counting : KeptByCounting Both
-  counting w n k c here p = (count-keeps r w n k c here p.0, stored-by-counting stored w n k c here p.1)
-
-  hearing : KeptByHearing r Both
-  hearing w n c l rest here awake takes to p = (
-    hear-keeps r w n c l rest here awake takes to p.0,
-    client-did stored w n (heard (client_plan r n) c l.message).state rest (listed (heard (client_plan r n) c l.message).post) (heard (client_plan r n) c l.message).line p.1 (λ z i. left-is-among w.messages l rest z takes i)
-        (λ q i. absurd (subst (λ o. Has q (listed o)) (heard-silent r n c l rest (hearing-is r w n c l rest p.0 here takes to)) i))
-        (heard-only r w n c l rest (taken-is-among w.messages l rest takes) (hearing-is r w n c l rest p.0 here takes to)),
-  )
-
-  pub going-keeps-stored : (w v : World) → Conversation r w → StoredOnce stored w → ClientGoes r w v → StoredOnce stored v
-  going-keeps-stored w v talk S g = (by-next r Both moves counting w v (talk, S) g).1
-
-  pub client-hears-keeps-stored : (w v : World) → Conversation r w → StoredOnce stored w → ClientHears r w v → StoredOnce stored v
-  client-hears-keeps-stored w v talk S g = (by-hearing r Both moves hearing w v (talk, S) g).1

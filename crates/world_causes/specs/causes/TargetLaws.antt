@@ -38,7 +38,6 @@ use Rattle.world_causes.specs.causes.Paths.{read-path}
 use Rattle.world_causes.specs.causes.PrepareTurns.{prepare-leaves}
 use Rattle.world_causes.specs.causes.ReadTurns.{FetchLeft, fetch-ends}
 use Rattle.world_causes.specs.causes.Turns.{AllMeet, Leaves, all-each}
-use Rattle.world_causes.specs.causes.VerdictTurns.{verdict-leaves}
 use Rattle.world_base.specs.Requests.{fetch_message}
 use Rattle.world_base.specs.TurnLaws.{KeepsAs}
 use Rattle.world_causes.specs.causes.FloorLaws.{turns-keep-floors}
@@ -182,8 +181,7 @@ hears-leaves r o stored w v C g K said is turn = by said is turn
         query-leaves r o stored w.issued w.lines g.t (target_plan r g.t) g.s.memory (kept g.s) ticks meet g.l.from x ask g.new (g.memory, g.did)
         (λ y asked undecided. K.query x ask is undecided y)
         (λ y asked. C.waiting.asked g.l y among (subst (λ m. IsAskedFor m y) (sym (is ∙ ap (message.Query x) asked)) refl)) k
-    by (message.Verdict x ask inc v') is k =
-        verdict-leaves r o stored w.issued w.lines (target_plan r g.t) g.s.opening g.s.memory g.reading x ask v' (kept g.s) K.at.target (K.verdict x ask inc v' is) ticks meet K.at.opens C.bounded.issued g.t g.new (g.memory, g.did) k
+    by (message.Verdict x ask inc v') is k = absurd (K.verdict x ask inc v' is)
     by m is k = absurd k
 
 pub target-hears-keeps : (r : Rules) (o : Opening) (stored : Stored) (w v : World) → Causes r o stored w → (g : TargetHearsRightly r w v) → IsHeardAs r o stored w g.t g.s g.l → Causes r o (stored_by g.t g.s.durable g.new.durable ++ stored) v

@@ -1,7 +1,6 @@
 -- What a target sends that hears a further message, and what waits there then.
-use Rattle.std.specs.Prelude.{ℕ, ◌≡◌, ◌==◌, ◌||◌, ◌++◌, Bool, true, false, List, [], ◌∷◌, filter, map, Option, Some, None, refl, if◌then◌else◌}
+use Rattle.std.specs.Prelude.{ℕ, ◌≡◌, Bool, true, false, List, [], ◌∷◌, map, Option, Some, None, refl, if◌then◌else◌}
 use Rattle.std.proofs.Common.{sym, ap, subst, inl, inr, ◌∙◌}
-use Rattle.base_types.specs.declared.entry.Entry.{Entry}
 use Rattle.base_types.specs.declared.epoch.Epoch.{Epoch}
 use Rattle.base_types.specs.declared.id.AttemptId.{AttemptId}
 use Rattle.base_types.specs.declared.id.ContId.{ContId}
@@ -15,13 +14,9 @@ use Rattle.base_messages.specs.declared.message.Message.{Message, more_of-Messag
 use Rattle.base_messages.specs.declared.message.Message.TheVariants as message
 use Rattle.base_messages.specs.declared.message.Post.{Post}
 use Rattle.daos_model.specs.EntryLaws.{same_attempt-itself}
-use Rattle.dtx_base.specs.declared.leading.Undecided.{Undecided}
 use Rattle.dtx_base.specs.declared.member.Parked.{Parked}
-use Rattle.dtx_base.specs.Asking.{ask_heard, asked_of, asked_open, tells_end}
 use Rattle.dtx_base.specs.Joining as member
-use Rattle.dtx_base.specs.Leading.{LeaderOf, down_told, ended, entry_led, first_down, mark_reset, prepare_reset, quietly, status_asked, to_target, undecided_of}
-use Rattle.dtx_base.specs.Rows.{is_among}
-use Rattle.model_laws.specs.Members.{Has, has-cases, has-from_filter, has-from_map}
+use Rattle.model_laws.specs.Members.{Has, has-from_filter, has-from_map}
 use Rattle.world_base.specs.declared.did.Did.{Did}
 use Rattle.world_base.specs.declared.request.CommitRequest.{CommitRequest}
 use Rattle.world_base.specs.declared.target.Collection.{Collection}
@@ -33,13 +28,18 @@ use Rattle.world_base.specs.Commits as commit
 use Rattle.world_base.specs.Further.{CommitDown, HearsFurther, IsSpent, IsUnknown, knows_down, reset_by}
 use Rattle.world_base.specs.Roles.{leader_at, member_at}
 use Rattle.world_base.specs.Snapshots as snap
-use Rattle.world_base.specs.Statuses.{AtOnce, EndsAs, IsDone, ask_left, status_refusal}
+use Rattle.world_base.specs.Statuses.{AtOnce, EndsAs, IsDone, ask_left, reset_left, status_refusal}
 use Rattle.world_base.specs.TargetTurns.{commit_request}
 use Rattle.world_causes.specs.causes.Causes.{Dated}
 use Rattle.world_causes.specs.causes.FirstTurns.{Knows, all-hear-knows, is_undated}
+use Rattle.world_letters.specs.endings.Answers as follows
+use Rattle.world_letters.specs.endings.Answers.{AnswersAsk, SaysCommitted, SaysUnknown, SaysUnresolved, ask-answers, left-follows}
 use Rattle.world_causes.specs.causes.Premises.{MessageBears}
 use Rattle.world_causes.specs.firsts.Firsts.{GoesWith, MessageTells, WaitsSo}
 use Rattle.world_base.specs.Events.{Rules}
+use Rattle.base_messages.specs.declared.message.Reply.TheVariants as reply
+use Rattle.base_types.specs.declared.operation.Read.{Read}
+use Rattle.base_types.specs.declared.outcome.Cause.TheVariants.{Unresolved}
 
 -- where these epochs were issued, and these lines stand
 module _ (r : Rules) (issued : Dated) (lines : List Line) where
@@ -63,9 +63,6 @@ module _ (r : Rules) (issued : Dated) (lines : List Line) where
   one-tells : (q : Post) → MessageTells r issued lines q.message → PostsTell (q ∷ [])
   one-tells q k s (inl same) = subst (λ x. MessageTells r issued lines x.message) (sym same) k
   one-tells q k s (inr none) = absurd none
-
-  both-tell : (ps qs : List Post) → PostsTell ps → PostsTell qs → PostsTell (ps ++ qs)
-  both-tell ps qs f g q i = elim (has-cases ps qs q i) [ inl j ↦ f q j | inr j ↦ g q j ]
 
   -- what is known of a turn without stops
   bears-tells : (m : Message) → MessageBears (GoesWith r issued lines) m → MessageTells r issued lines m
@@ -91,22 +88,14 @@ module _ (r : Rules) (issued : Dated) (lines : List Line) where
 
   -- ---- an Ask
 
-  open-tells : (x : AttemptId) (from : ActorId) (e : Entry) (down : Option ℕ) (l : LeaderOf) → PostsTell (asked_open x from e down l).posts
-  open-tells x from e None l = none-tell
-  open-tells x from e (Some down) l = one-tells _ tt
-
   -- an attempt of which its leader knows nothing was lost
-  asked-tells : (x : AttemptId) (from : ActorId) (e : Option Entry) (decided : Bool) (l : LeaderOf) → PostsTell (asked_of x from e decided l).posts
-  asked-tells x from None decided l = one-tells _ (λ restarts. same_attempt-itself x)
-  asked-tells x from (Some e) decided l = by (e.committed || decided)
-    where
-      by : (b : Bool) → PostsTell (if b then record { leader = l; posts = tells_end from x (Some e.epoch) outcome.Committed } else asked_open x from e (first_down e.members l.memory.down) l).posts
-      by true = one-tells _ tt
-      by false = open-tells x from e (first_down e.members l.memory.down) l
-
   ask-tells : (t : TargetPlan) (m : TargetMemory) (from : ActorId) (x : AttemptId) (k : Kept) → PostsTell (ask_left t m from x k).1.posts
-  unfolding ask_heard
-  ask-tells t m from x k = asked-tells x from (entry_led x (leader_at t m k.durable)) (is_among x m.leader.decided) (leader_at t m k.durable)
+  ask-tells t m from x k q i = by (ask-answers (leader_at t m k.durable) x from q i)
+    where
+      by : AnswersAsk (leader_at t m k.durable) x from q → MessageTells r issued lines q.message
+      by (SaysCommitted e led known is) = subst (λ z. MessageTells r issued lines z.message) (sym is) tt
+      by (SaysUnknown e down led is) = subst (λ z. MessageTells r issued lines z.message) (sym is) tt
+      by (SaysUnresolved none is) = subst (λ z. MessageTells r issued lines z.message) (sym is) (λ restarts. same_attempt-itself x)
 
   -- ---- snapshots and aggregations
 
@@ -151,49 +140,26 @@ module _ (r : Rules) (issued : Dated) (lines : List Line) where
 
   -- ---- a Reset
 
-  told-down : (t : ℕ) (a : AttemptId) (e : Option Entry) (u : Option Undecided) (l : LeaderOf) → PostsTell (down_told t a e u l).posts
-  told-down t a None u l = none-tell
-  told-down t a (Some e) None l = none-tell
-  told-down t a (Some e) (Some u) l = by u.client
+  left-tells : (t : TargetPlan) (m : TargetMemory) (by : ℕ) (down : Bool) (asked : Message) (k : Kept) → AllDated m.member.parked → PostsTell (reset_left t m by down asked k).1.posts
+  left-tells t m by down asked k dated q i = each (left-follows t m by down asked k q i)
     where
-      by : (o : Option ActorId) → PostsTell (ended o a e.epoch (outcome.Unknown t))
-      by None = none-tell
-      by (Some c) = one-tells _ tt
+      met : (x : AttemptId) (op group : ℕ) (ep first : Option Epoch) (tracker : Epoch) (z : Read) (snapshot : Bool) (how : Outcome) → is_undated (message.Fetch x op group ep first tracker z snapshot) ≡ false
+          → MessageTells r issued lines (message.Fetched x op group ep (reply.Outcome how))
+      met x op group None first tracker z snapshot how off = let no : ⊥ = cc in absurd no
+      met x op group (Some own) first tracker z snapshot how off = tt
 
-  status-tells : (t : ℕ) (a : AttemptId) (inc : ℕ) (l : LeaderOf) → PostsTell (status_asked t a inc l).posts
-  status-tells t a inc l = by (inc == l.incarnation)
-    where
-      by : (b : Bool) → PostsTell (if b then record { leader = l; posts = to_target t (message.Status a inc) ∷ [] } else quietly l).posts
-      by true = one-tells _ tt
-      by false = none-tell
+      each : follows.FollowsReset (leader_at t m k.durable) m.member.parked by q.message → MessageTells r issued lines q.message
+      each (follows.EndsUnknown x e led is) = subst (MessageTells r issued lines) (sym is) tt
+      each (follows.AsksState x inc is) = subst (MessageTells r issued lines) (sym is) tt
+      each (follows.MarksAgain inc marks is) = subst (MessageTells r issued lines) (sym is) tt
+      each (follows.MetUnresolved p x op group ep first tracker z snapshot a among asks is) =
+          subst (MessageTells r issued lines) (sym is) (met x op group ep first tracker z snapshot (outcome.Restart (Unresolved a)) (subst (λ n. is_undated n ≡ false) asks (dated p among)))
 
-  prepare-tells : (t : ℕ) (down : Bool) (a : AttemptId) (inc : ℕ) (l : LeaderOf) → PostsTell (prepare_reset t down a inc l).posts
-  unfolding prepare_reset
-  prepare-tells t true a inc l = told-down t a (entry_led a l) (undecided_of a l) l
-  prepare-tells t false a inc l = status-tells t a inc l
-
-  mark-tells : (t : ℕ) (down : Bool) (inc : ℕ) (marks : List (AttemptId × Bool)) (l : LeaderOf) → PostsTell (mark_reset t down inc marks l).posts
-  unfolding mark_reset
-  mark-tells t true inc marks l = none-tell
-  mark-tells t false inc marks l = one-tells _ tt
-
-  unresolved-tells : (a : AttemptId) (m : Message) → is_undated m ≡ false → PostsTell (member.unresolved_told a m)
-  unresolved-tells a (message.Fetch x op group None first tracker z snapshot) k = let no : ⊥ = cc in absurd no
-  unresolved-tells a (message.Fetch x op group (Some own) first tracker z snapshot) k = one-tells _ tt
-  unresolved-tells a m k = none-tell
-
-  all-unresolved : (a : AttemptId) (ps : List Parked) → AllDated ps → PostsTell (member.all_unresolved_told a ps)
-  all-unresolved a [] dated = none-tell
-  all-unresolved a (p ∷ ps) dated = both-tell (member.unresolved_told a p.ask) (member.all_unresolved_told a ps) (unresolved-tells a p.ask (dated p (inl refl))) (all-unresolved a ps (λ q i. dated q (inr i)))
-
-  query-leaves : (t : TargetPlan) (m : TargetMemory) (down : Bool) (a : AttemptId) (ask : Option AttemptId) → AllWait m.member.parked → AllDated m.member.parked
-      → PostsTell (member.query_reset down a ask (member_at t m)).freed.posts × AllWait (member.query_reset down a ask (member_at t m)).member.memory.parked
+  joins-wait : (down : Bool) (asked : Message) (s : member.MemberOf) → AllWait s.memory.parked → AllWait (member.reset_heard down asked s).member.memory.parked
   unfolding member.unresolved
-  query-leaves t m down a None wait dated = (none-tell, wait)
-  query-leaves t m down a (Some x) wait dated = (
-    all-unresolved a (filter (member.is_waiting a x) m.member.parked) (λ p i. dated p (has-from_filter (member.is_waiting a x) m.member.parked p i).0),
-    λ p i. wait p (has-from_filter (member.is_not_waiting a x) m.member.parked p i).0,
-  )
+  joins-wait down (message.Query a None) s wait = wait
+  joins-wait down (message.Query a (Some x)) s wait = λ p i. wait p (has-from_filter (member.is_not_waiting a x) s.memory.parked p i).0
+  joins-wait down asked s wait = wait
 
   knows-same : (t : ℕ) (down : Bool) (m : TargetMemory) → (knows_down t down m).member.parked ≡ m.member.parked
   knows-same t true m = refl
@@ -212,14 +178,7 @@ module _ (r : Rules) (issued : Dated) (lines : List Line) where
   reset-leaves : (t : TargetPlan) (m : TargetMemory) (by : ℕ) (down : Bool) (asked : Message) (k : Kept) → AllWait m.member.parked → AllDated m.member.parked → Leaves (reset_by t m by down asked k)
   reset-leaves t m by down (message.Freeze x c s) k wait dated = collected-leaves by down m _ (collection-leaves by down (message.Freeze x c s) x (snap.collection_of x m) m tt wait)
   reset-leaves t m by down (message.Prune x c tracker e) k wait dated = collected-leaves by down m _ (collection-leaves by down (message.Prune x c tracker e) x (snap.collection_of x m) m tt wait)
-  reset-leaves t m by down (message.Prepare e first ws inc) k wait dated =
-      record { posts = both-tell (prepare_reset by down e.attempt inc (leader_at t m k.durable)).posts [] (prepare-tells by down e.attempt inc (leader_at t m k.durable)) none-tell; parked = wait }
-  reset-leaves t m by down (message.Status a inc) k wait dated =
-      record { posts = both-tell (prepare_reset by down a inc (leader_at t m k.durable)).posts [] (prepare-tells by down a inc (leader_at t m k.durable)) none-tell; parked = wait }
-  reset-leaves t m by down (message.Mark inc marks) k wait dated =
-      record { posts = both-tell (mark_reset by down inc marks (leader_at t m k.durable)).posts [] (mark-tells by down inc marks (leader_at t m k.durable)) none-tell; parked = wait }
-  reset-leaves t m by down (message.Query a ask) k wait dated = let z = query-leaves t m down a ask wait dated in record { posts = z.0; parked = z.1 }
-  reset-leaves t m by down asked k wait dated = record { posts = none-tell; parked = wait }
+  reset-leaves t m by down asked k wait dated = record { posts = left-tells t m by down asked k dated; parked = joins-wait down asked (member_at t m) wait }
 
   -- ---- every further message
 

@@ -20,12 +20,17 @@ use Rattle.world_base.specs.ClientTurns.{about, attempt_id, is_about, request_of
 use Rattle.world_base.specs.Events.{Rules, client_plan}
 use Rattle.world_base.specs.Letters.{Takes, client}
 use Rattle.world_causes.specs.causes.HearingLaws.{LossStands, LossesStand}
-use Rattle.world_causes.specs.causes.Unsettled.{versions-prepared}
 use Rattle.world_letters.specs.epochs.Epochs.{IsPresent}
 use Rattle.world_causes.specs.losses.ClientHears.{LossesAreAsked, TellsLoss}
 use Rattle.world_causes.specs.losses.Losses.{Losses, is_asked_of, tells_stop}
 use Rattle.world_causes.specs.losses.Readers.{OpenAreHeld}
-use Rattle.world_contents.specs.reads.Versions.{Versions}
+use Rattle.world_contents.specs.reads.Versions.{Versions, IsPreparedAt}
+use Rattle.world_base.specs.declared.target.TargetState.{TargetState}
+
+-- what isn't settled is of an entry that isn't committed
+pub versions-prepared : (r : Rules) (o : Opening) (held : ℕ → List Version) (h : History) (w : World) → Versions r o held h w → (t : ℕ) (s : TargetState) (v : Version) → slice_get w.targets t ≡ Some s → Contains s.durable.versions v → v.done ≡ false
+    → IsPreparedAt s.durable v.by v.epoch
+versions-prepared r o held h w k t s v here = (k.stand t s here).unsettled v
 
 -- a message tells of a loss at this target, which is given up, or isn't
 abbrev pub IsLossAt : ℕ → Bool → Message → Type 0

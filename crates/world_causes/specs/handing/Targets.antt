@@ -22,7 +22,7 @@ use Rattle.dtx_base.specs.Members.{all_targets, has_target, is_other_member, oth
 use Rattle.model_laws.specs.JoinLaws.{has-range}
 use Rattle.model_laws.specs.Members.{Has, contains-from_has, has-filter, has-from_contains, has-from_filter, has-left, has-right, has-map}
 use Rattle.model_laws.specs.TargetLaws.{same_number}
-use Rattle.world_letters.specs.addresses.TurnAddresses.{bit-of}
+use Rattle.world_contents.specs.posts.Members.{bit-of}
 use Rattle.world_commit.specs.attempts.Attempts.{IsOther, first_entry, leader_of, members_of, writes_of}
 use Rattle.world_commit.specs.attempts.History.{History}
 use Rattle.world_base.specs.declared.request.CommitRequest.{CommitRequest}

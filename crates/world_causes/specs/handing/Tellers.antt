@@ -67,7 +67,6 @@ module _ (r : Rules) (h : History) (w : World) (attempts : Attempts r h w) (outc
       let one : attempt_id (client_plan r n) c a ≡ x = cc in
       subst (IsPresent r w) one (record { c = c; a = a; here = here; at = at; own = refl })
 
-  -- a client asks, or is told
   asks : (l : Letter) (x : AttemptId) → Has l w.messages → is_request l.message ≡ true → request_of l.message ≡ Some x → IsPresent r w x
   asks l x i is of =
       let t = taken-from w.messages l (contains-from_has w.messages l i) in
@@ -89,9 +88,6 @@ module _ (r : Rules) (h : History) (w : World) (attempts : Attempts r h w) (outc
       present l.to.number z.0.c p.a z.0.q x z.0.here p.at z.0.question (ap request_of z.1 ∙ of)
 
   module _ (l : Letter) (x : AttemptId) (i : Has l w.messages) where
-    own-request : (y : AttemptId) (m : Message) → request_of m ≡ Some y → same_attempt y x ≡ true → request_of m ≡ Some x
-    own-request y m of is = of ∙ ap (λ z. Some z) (same-is y x is)
-
     lost : (q : Message) → is_asked_of x q ≡ true → IsAskedSo r h w l.to l.from q → TellsLoss l.message q → (is_request q ≡ true → l.to.client ≡ true) → IsBegun x
     lost (message.Prepare e first ws inc) is so tells to = born e.attempt x (same-is e.attempt x is) so.born
     lost (message.Status y inc) is so tells to = born y x (same-is y x is) so.born

@@ -52,7 +52,7 @@ use Rattle.world_causes.specs.hearing.PlainTurns.{knows, others-write}
 use Rattle.world_causes.specs.hearing.Saying.{AsksState, EndsHeld, EndsLost, MarksAgain, MetUnresolved, SaysFurther, TellsState}
 
 -- what is said then answers no read
-says-silent : (d : Durable) (parked : List Parked) (m : Message) → SaysFurther d parked m → is_answer m ≡ false
+pub says-silent : (d : Durable) (parked : List Parked) (m : Message) → SaysFurther d parked m → is_answer m ≡ false
 says-silent d parked m (EndsHeld e how i is) = ap is_answer is
 says-silent d parked m (EndsLost x is) = ap is_answer is
 says-silent d parked m (TellsState x inc how is) = ap is_answer is

@@ -10,7 +10,7 @@ use Rattle.base_messages.specs.declared.message.Message.{Message, more_of-Messag
 use Rattle.base_messages.specs.declared.message.Message.TheVariants as message
 use Rattle.base_messages.specs.declared.message.Post.{Post}
 use Rattle.base_messages.specs.declared.message.Reply.TheVariants as reply
-use Rattle.daos_model.specs.Transactions.{ops_or_none}
+use Rattle.daos_model.specs.Transactions.{ops_or_none, ops_of}
 use Rattle.world_commit.specs.attempts.History.{History}
 use Rattle.world_base.specs.declared.client.ClientPlan.{ClientPlan}
 use Rattle.world_base.specs.declared.client.ClientState.{ClientState}
@@ -26,13 +26,30 @@ use Rattle.world_letters.specs.clients.Standing.{HasTold}
 use Rattle.world_letters.specs.epochs.Epochs.{ClientsStand}
 use Rattle.world_letters.specs.epochs.EventLaws.{stands-by-counting, stands-by-hearing, stands-by-moves}
 use Rattle.world_letters.specs.epochs.Talking.{TalksOnce, silent-unless, taken-silent}
-use Rattle.world_contents.specs.gots.GotLaws.{Here, KeepsGots, at-command, ends-gots, silent-gots, waits-gots, waits-served}
+use Rattle.world_contents.specs.gots.GotLaws.{Here, KeepsGots, at-command, ends-gots, silent-gots, waits-gots, waits-served, IsServedHere}
 use Rattle.world_contents.specs.gots.Gots.{Gots, IsServedAnswer}
 use Rattle.world_contents.specs.gots.HearGots.{answer-gots, ended-gots, outcome-gots}
 use Rattle.world_contents.specs.gots.StepGots.{AreFlying, gots-moved, here-of, is_fetched, sends-one, turned}
-use Rattle.world_contents.specs.gots.TurnGots.{known-here, same-answer, same-here}
 use Rattle.world_letters.specs.talks.HearLaws.{replied-silent}
 use Rattle.world_letters.specs.talks.TalkLaws.{got-is-talk, left-is-among, none-among, taken-is-among}
+use Rattle.base_types.specs.declared.answer.Answer.{Answer}
+use Rattle.base_types.specs.declared.epoch.Epoch.{Epoch}
+use Rattle.world_contents.specs.gots.MoreLaws.{knows-more}
+
+-- a client in another state, but at the same attempt of the same command
+pub same-here : (h : History) (p : ClientPlan) (c e : ClientState) (present : Option Present) → e.place ≡ c.place → e.command ≡ c.command → IsServedHere h p c present → IsServedHere h p e present
+same-here h p c e None place command s = tt
+same-here h p c e (Some a) place command s = rw (place, command) s
+
+pub same-answer : (h : History) (p : ClientPlan) (c e : ClientState) (a : Present) (own : Option Epoch) (b : Answer) → e.place ≡ c.place → e.command ≡ c.command → IsServedAnswer p h c a own b → IsServedAnswer p h e a own b
+same-answer h p c e a own b place command s = record { op = s.op; read = s.read; at = rw (place) (s.at); asks = s.asks; served = rw (command) (s.served) }
+
+-- the attempt that waits, once it knows its epoch
+pub known-here : (h : History) (p : ClientPlan) (c e : ClientState) (d : Command) (a : Present) (own : Option Epoch) → e.place ≡ c.place → e.command ≡ c.command → Here h p c d a → Here h p e d (knows own a)
+known-here h p c e d a own place command k = record {
+  at = record { at = rw (place) (k.at.at); numbers = rw (command) (k.at.numbers) };
+  served = rw (command) (knows-more h (attempt_id p c a) p.targets (ops_of d) own a k.served);
+}
 
 -- what a move says is no answer of a read
 abbrev AnswersNone : Option Post → Type 0

@@ -24,14 +24,13 @@ use Rattle.world_base.specs.Events.{Rules, TargetHearsBy, client_plan, with_epoc
 use Rattle.world_base.specs.Letters.{client, is_talk_of, is_tell, letter_of, letters_of, talk_of, target}
 use Rattle.world_base.specs.Requests.{fetch_message}
 use Rattle.world_base.specs.TargetTurns.{Hearing}
-use Rattle.world_contents.specs.gots.Gots.{Gots, IsServedAnswer}
-use Rattle.world_contents.specs.gots.Remembering.{Remembers}
+use Rattle.world_contents.specs.gots.Gots.{Gots, IsServedAnswer, Remembers}
 use Rattle.world_contents.specs.gots.TargetGots.{AnswersClient, answer-remembered, client-served, same-clients, same-request, sent-or_left}
 use Rattle.world_contents.specs.reads.Adds.{AreAnswered, Heard, IsAnswered, IsAskedIn, Waited, served_at}
 use Rattle.world_commit.specs.statuses.Senders.{IsSentRightly, SendersAreRight}
 use Rattle.world_letters.specs.talks.Asked.{AsksRead}
 use Rattle.world_letters.specs.talks.AskLaws.{asked-is-request, asked-read, sent-is-asked}
-use Rattle.world_letters.specs.talks.Carriers.{is_fetch_of}
+use Rattle.world_letters.specs.talks.Conversation.{is_fetch_of}
 use Rattle.world_letters.specs.talks.HearLaws.{answer-is}
 use Rattle.world_letters.specs.talks.TalkLaws.{got-is-talk, left-is-among, sent-is-talk}
 use Rattle.world_letters.specs.waits.ClientLaws.{present-of}

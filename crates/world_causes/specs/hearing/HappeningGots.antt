@@ -29,7 +29,7 @@ use Rattle.world_base.specs.declared.world.World.{World}
 use Rattle.world_base.specs.Acks as ack
 use Rattle.world_base.specs.Changes.{Kept}
 use Rattle.world_base.specs.Commits as commit
-use Rattle.world_base.specs.Events.{ByClient, ByTarget, Rules, TargetHearsRightly, TargetIdles, ToClient, ToTarget, client_plan, kept, target_plan, with_epoch}
+use Rattle.world_base.specs.Events.{ByClient, ByTarget, Rules, TargetHearsRightly, TargetIdles, ToClient, ToTarget, client_plan, kept, target_plan, with_epoch, rightly}
 use Rattle.world_base.specs.Further.{CommitDown, HearsFurther, IsSpent, IsUnknown}
 use Rattle.world_base.specs.Letters.{client, letter_of, target}
 use Rattle.world_base.specs.MemoryLaws.{hears-follows, idles-follows}
@@ -39,8 +39,7 @@ use Rattle.world_base.specs.TargetTurns.{commit_request}
 use Rattle.world_letters.specs.epochs.Epochs.{ClientsStand}
 use Rattle.world_commit.specs.fates.Facts.{Attempts}
 use Rattle.world_commit.specs.fates.Rightly.{letters-tell}
-use Rattle.world_contents.specs.gots.Gots.{Gots, IsLineServed, IsServedAnswer}
-use Rattle.world_contents.specs.gots.Remembering.{Remembers}
+use Rattle.world_contents.specs.gots.Gots.{Gots, IsLineServed, IsServedAnswer, Remembers}
 use Rattle.world_contents.specs.gots.StepGots.{is_fetched}
 use Rattle.world_contents.specs.gots.TargetGots.{ends-none, gots-remembered, same-clients, sent-or_left}
 use Rattle.world_causes.specs.restarts.EpochLaws.{rests-gots}
@@ -49,7 +48,6 @@ use Rattle.world_commit.specs.statuses.Events.{HappensWithoutSnapshots}
 use Rattle.world_commit.specs.statuses.Heard.{is_of_attempts}
 use Rattle.world_commit.specs.statuses.Senders.{SendersAreRight}
 use Rattle.world_commit.specs.stops.CutEvents.{IsWithoutSnapshots}
-use Rattle.world_commit.specs.stops.Happenings.{rightly}
 use Rattle.world_letters.specs.waits.ClientLaws.{counting-keeps, hearing-keeps, moves-keep}
 use Rattle.world_letters.specs.waits.Waits.{Conversation}
 use Rattle.world_causes.specs.hearing.Cutting.{hearing-cut-tells, turn-silent}

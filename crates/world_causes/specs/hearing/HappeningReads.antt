@@ -23,7 +23,7 @@ use Rattle.dtx_base.specs.Rows.{is_empty}
 use Rattle.world_commit.specs.attempts.Attempts.{IsItsEntry, IsOther, entry_at, entry_in, leader_of}
 use Rattle.world_commit.specs.attempts.Counting.{has-taken}
 use Rattle.world_commit.specs.attempts.History.{History, Tells}
-use Rattle.world_commit.specs.attempts.MarkTurns.{found-here}
+use Rattle.world_commit.specs.attempts.Stored.{found-here}
 use Rattle.world_commit.specs.attempts.MemberBits.{others-same}
 use Rattle.world_base.specs.declared.target.TargetState.{TargetState}
 use Rattle.world_base.specs.declared.world.World.{World}

@@ -13,7 +13,7 @@ use Rattle.world_commit.specs.attempts.Attempts.{Entries, IsOther, IsToLeader, f
 use Rattle.world_commit.specs.attempts.Counting.{has-taken}
 use Rattle.world_commit.specs.attempts.History.{GrowsBy, History}
 use Rattle.world_base.specs.declared.world.World.{World}
-use Rattle.world_base.specs.Events.{ByClient, ByTarget, Event, Rules, TargetHears, TargetHearsRightly, TargetIdles, ToClient, ToTarget, kept, listed, target_after, target_plan}
+use Rattle.world_base.specs.Events.{ByClient, ByTarget, Event, Rules, TargetHears, TargetHearsRightly, TargetIdles, ToClient, ToTarget, kept, listed, target_after, target_plan, rightly}
 use Rattle.world_base.specs.RightTurns.{HearsRightly}
 use Rattle.world_base.specs.Stops.{NoneDown, Plainly}
 use Rattle.world_commit.specs.fates.Facts.{IsSaidSo}
@@ -28,7 +28,7 @@ use Rattle.world_contents.specs.reads.Midway.{TurnLeaves}
 use Rattle.world_contents.specs.reads.Reads.{Reads}
 use Rattle.world_contents.specs.reads.Standing.{Knows}
 use Rattle.world_contents.specs.reads.Versions.{Versions}
-use Rattle.world_commit.specs.stops.Happenings.{rightly, told_plainly}
+use Rattle.world_commit.specs.stops.Happenings.{told_plainly}
 use Rattle.world_causes.specs.hearing.AckTurns.{ack-goes}
 use Rattle.world_causes.specs.hearing.Going.{AnswersAreServed, Before, GoesOn}
 use Rattle.world_causes.specs.hearing.Standing.{attempts-stand}

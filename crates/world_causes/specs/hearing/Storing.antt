@@ -48,7 +48,7 @@ abbrev pub AllFit : Known → {S : Type 0} → (S → Kept → Option Change →
 AllFit P {S} Next = (s : S) (k : Kept) (o : Option Change) (u : S) → Next s k o u → StepFits P k o
 
 module _ (P : Known) where
-  fits-plain : (k : Kept) (o : Option Change) → StepFits P k o → IsPlainly o
+  pub fits-plain : (k : Kept) (o : Option Change) → StepFits P k o → IsPlainly o
   fits-plain k None fits = tt
   fits-plain k (Some (Extends ticks)) fits = refl
   fits-plain k (Some (Prepares e ws)) fits = refl

@@ -33,7 +33,7 @@ use Rattle.world_causes.specs.losses.Losses.{Losses, Rests, StoppedSince, is_ask
 use Rattle.world_causes.specs.losses.Moving.{LinesSo, StaysOrEnds, moved-lines, moved-none, moved-stays}
 use Rattle.world_causes.specs.outcomes.ClientLaws.{present-not-past}
 use Rattle.world_causes.specs.outcomes.Moving.{moved-past, same-past}
-use Rattle.world_contents.specs.verdicts.VerdictLaws.{tried-cases}
+use Rattle.world_causes.specs.outcomes.TurnLaws.{tried-cases}
 
 -- ---- where clients are
 
@@ -102,6 +102,14 @@ pub record Stepped (r : Rules) (w u : World) (n : ℕ) (c : ClientState) (m : Mo
   pub tries : (l : Line) → m.line ≡ Some l → (b : Attempt) × (l ≡ line.Try b)
   pub posts : (q : Post) (x : AttemptId) → Has q (listed m.post) → tells_stop x q.message ≡ true → IsPresent r w x × StoppedSince r w.lines x
 
+-- where a line tells of an attempt, if there is one
+pub line-added : (o : Option Line) → ((l : Line) → o ≡ Some l → (b : Attempt) × (l ≡ line.Try b)) → (b : Attempt) → Has b (tries (listed o)) → o ≡ Some (line.Try b)
+unfolding tries
+line-added None tells b i = absurd i
+line-added (Some l) tells b i =
+    let t = tells l refl in
+    elim (subst (λ y. Has b (tries (y ∷ []))) t.1 i) [ inl same ↦ ap (λ y. Some y) (t.1 ∙ ap (λ y. line.Try y) (sym same)) | inr none ↦ absurd none ]
+
 module _ (r : Rules) (w u : World) (k : After r w u) (n : ℕ) (c : ClientState) (m : Move) (here : slice_get u.clients n ≡ Some c) (s : Stepped r w u n c m) where
   abbrev v : World
   v = after_move u n m
@@ -121,14 +129,7 @@ module _ (r : Rules) (w u : World) (k : After r w u) (n : ℕ) (c : ClientState)
   ]
 
   added : (b : Attempt) → Has b (tries (listed m.line)) → m.line ≡ Some (line.Try b)
-  unfolding tries
-  added b i = by m.line refl i
-    where
-      by : (o : Option Line) → m.line ≡ o → Has b (tries (listed o)) → m.line ≡ Some (line.Try b)
-      by None is j = absurd j
-      by (Some l) is j =
-          let t = s.tries l is in
-          elim (subst (λ y. Has b (tries (y ∷ []))) t.1 j) [ inl same ↦ is ∙ ap (λ y. Some y) (t.1 ∙ ap (λ y. line.Try y) (sym same)) | inr none ↦ absurd none ]
+  added = line-added m.line s.tries
 
   -- lines are added of this client alone
   none-more : (j : ℕ) → (j ≡ n → ⊥) → NoneOf j k.more → NoneOf j (k.more ++ map (with_epoch u.issued) (listed m.line))
@@ -202,7 +203,7 @@ moves-step r w u n c here k = stepped r w u k n c (moved (client_plan r n) c) he
     lines : LinesSo n (moved (client_plan r n) c).line
     lines = moved-lines (client_plan r n) c
 
-counts-step : (r : Rules) (w : World) → KeptByCounting (After r w)
+pub counts-step : (r : Rules) (w : World) → KeptByCounting (After r w)
 counts-step r w u n j c here k = record {
   over = λ x o. over-on x (k.over x o);
   more = k.more;

@@ -1,5 +1,5 @@
 -- What a target hears after stops keeps the facts of losses: it tells of a stop what it was told of one.
-use Rattle.std.specs.Prelude.{ℕ, ◌≡◌, ◌==◌, ◌++◌, Bool, true, false, ◌&&◌, ◌||◌, List, [], ◌∷◌, map, slice_get, Option, Some, None, refl, if◌then◌else◌}
+use Rattle.std.specs.Prelude.{ℕ, ◌≡◌, ◌==◌, ◌++◌, Bool, true, false, ◌&&◌, ◌||◌, List, [], ◌∷◌, map, Option, Some, None, refl, if◌then◌else◌}
 use Rattle.std.proofs.Common.{sym, ◌∙◌, ap, subst, inl, inr}
 use Rattle.base_types.specs.declared.entry.Entry.{Entry}
 use Rattle.base_types.specs.declared.entry.EntryState.{EntryState}
@@ -37,7 +37,6 @@ use Rattle.world_base.specs.Events.{Rules, TargetHearsBy, kept, target_after, ta
 use Rattle.world_base.specs.Letters.{letter_of, letters_of, target}
 use Rattle.world_base.specs.PathLaws.{reached-keeps}
 use Rattle.world_base.specs.Roles.{leader_at}
-use Rattle.world_base.specs.StepLaws.{set-here}
 use Rattle.world_base.specs.Further.{HearsFurther}
 use Rattle.world_base.specs.Statuses.{AtOnce, EndsAs, IsDone, ask_left, state_of, status_left, status_refusal}
 use Rattle.world_base.specs.TargetTurns.{Hearing}
@@ -50,6 +49,7 @@ use Rattle.world_causes.specs.losses.Losses.{Losses, Rests, StoppedSince, tells_
 use Rattle.world_causes.specs.losses.Recalling.{Recalls}
 use Rattle.world_causes.specs.losses.Since.{since-more}
 use Rattle.world_causes.specs.losses.Stopping.{rests-before}
+use Rattle.world_causes.specs.losses.Recalling.{turn-runs}
 
 -- ---- a target hears
 
@@ -68,11 +68,7 @@ module _ (Turn : Hearing) (r : Rules) (w v : World) (k : Losses r w) (g : Target
 
   -- it runs
   runs : (x : AttemptId) → (rests : Rests r v x) → leader_of r x ≡ g.t → rests.s.life ≡ Running
-  runs x rests is =
-      let now : slice_get v.targets g.t ≡ Some (target_after g.s g.new g.memory) = ap (λ ts. slice_get ts g.t) (ap (λ u. u.targets) g.after) ∙ set-here w.targets g.t g.s (target_after g.s g.new g.memory) g.here in
-      let both : Some rests.s ≡ Some (target_after g.s g.new g.memory) = sym rests.here ∙ ap (slice_get v.targets) is ∙ now in
-      let one : rests.s ≡ target_after g.s g.new g.memory = cc in
-      ap (λ s. s.life) one ∙ g.runs
+  runs = turn-runs r w v g.t g.s (target_after g.s g.new g.memory) g.here (ap (λ u. u.targets) g.after) g.runs
 
   pub hearing-recalls : Recalls r w v
   hearing-recalls = record {

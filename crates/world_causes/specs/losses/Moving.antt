@@ -27,7 +27,7 @@ use Rattle.world_causes.specs.losses.Silent.{TellNone, none-tell, one-tells}
 use Rattle.world_causes.specs.outcomes.Moving.{end-own}
 use Rattle.world_letters.specs.talks.AskLaws.{move-is, waiting-rests}
 use Rattle.world_letters.specs.talks.Asked.{ARead, ASnapshot, AnAggregation, Asked, Asking, IsMove, ItsWrites, Silent, Telling}
-use Rattle.world_contents.specs.verdicts.TellLaws.{AllRead, MoveTells, NoSnap, Nothing, moved-tells}
+use Rattle.world_causes.specs.outcomes.TellLaws.{AllRead, MoveTells, NoSnap, Nothing, moved-tells}
 
 -- ---- its attempt
 
@@ -38,51 +38,58 @@ pub record StaysAt (p : ClientPlan) (c : ClientState) (a : Present) (m : Move) :
   pub own : attempt_id p m.state b ≡ attempt_id p c a
   pub untold : m.line ≡ None
 
--- or it is over
-abbrev pub StaysOrEnds : ClientPlan → ClientState → Present → Move → Type 0
-StaysOrEnds p c a m = StaysAt p c a m ⊎ IsPast m.state (attempt_id p c a)
-
 next-attempt : (s : Stage) (a : Present) → (next_stage s a).attempt ≡ a.attempt
 next-attempt stage.Skip a = refl
 next-attempt stage.Cond a = refl
 next-attempt stage.Act a = refl
 
-module _ (p : ClientPlan) (c : ClientState) where
-  commits-stays : (a : Present) (ws : List MinorWrite) → StaysOrEnds p c a (commits p c a ws)
-  commits-stays a [] = inr (end-own p c (command_at p c) a outcome.Committed)
-  commits-stays a (w ∷ ws) = inl (record { b = record a { waits = true }; at = refl; own = refl; untold = refl })
+-- or it is as an end leaves it
+module _ (p : ClientPlan) (c : ClientState) (a : Present) (Ended : Move → Type 0) (ended : Ended (ends p c a outcome.Committed)) where
+  abbrev Stays : Move → Type 0
+  Stays m = StaysAt p c a m ⊎ Ended m
 
-  asks-stays : (a : Present) (snapshot : Bool) (r : Option Read) → StaysOrEnds p c a (asks_or_goes p c a snapshot r)
-  asks-stays a snapshot None = inl (record { b = next_stage a.stage a; at = refl; own = ap (λ n. record { client = p.number; command = c.command; attempt = n }) (next-attempt a.stage a); untold = refl })
-  asks-stays a snapshot (Some r) = inl (record { b = record a { waits = true }; at = refl; own = refl; untold = refl })
+  commits-stays : (ws : List MinorWrite) → Stays (commits p c a ws)
+  commits-stays [] = inr ended
+  commits-stays (w ∷ ws) = inl (record { b = record a { waits = true }; at = refl; own = refl; untold = refl })
 
-  op-stays : (a : Present) (ops : List Op) (snapshot : Bool) (o : Option Op) → StaysOrEnds p c a (op_moves p c a ops snapshot o)
-  op-stays a ops snapshot None = commits-stays a (minor_writes 0 ops)
-  op-stays a ops snapshot (Some op) = asks-stays a snapshot (question a.stage op)
+  asks-stays : (snapshot : Bool) (r : Option Read) → Stays (asks_or_goes p c a snapshot r)
+  asks-stays snapshot None = inl (record { b = next_stage a.stage a; at = refl; own = ap (λ n. record { client = p.number; command = c.command; attempt = n }) (next-attempt a.stage a); untold = refl })
+  asks-stays snapshot (Some r) = inl (record { b = record a { waits = true }; at = refl; own = refl; untold = refl })
 
-  run-stays : (a : Present) (ops : List Op) (turns : List ℕ) (snapshot : Bool) (s : Stage) → StaysOrEnds p c a (run_moves p c a ops turns snapshot s)
-  run-stays a ops turns snapshot stage.Skip = inl (record { b = next_stage stage.Skip a; at = refl; own = refl; untold = refl })
-  run-stays a ops turns snapshot stage.Cond = op-stays a ops snapshot (slice_get ops a.op)
-  run-stays a ops turns snapshot stage.Act = op-stays a ops snapshot (slice_get ops a.op)
+  op-stays : (ops : List Op) (snapshot : Bool) (o : Option Op) → Stays (op_moves p c a ops snapshot o)
+  op-stays ops snapshot None = commits-stays (minor_writes 0 ops)
+  op-stays ops snapshot (Some op) = asks-stays snapshot (question a.stage op)
 
-  attempt-stays : (a : Present) (d : Command) → c.present ≡ Some a → StaysOrEnds p c a (attempt_moves p c a d)
-  attempt-stays a (command.Run ops turns snapshot) at = run-stays a ops turns (is_some snapshot) a.stage
-  attempt-stays a (command.Snap name cont) at = inl (record { b = record a { waits = true }; at = refl; own = refl; untold = refl })
-  attempt-stays a (command.Aggregate cont) at = inl (record { b = record a { waits = true }; at = refl; own = refl; untold = refl })
-  attempt-stays a (command.Tell n) at = inl (record { b = a; at = at; own = refl; untold = refl })
-  attempt-stays a (command.Skip turns) at = inl (record { b = a; at = at; own = refl; untold = refl })
+  run-stays : (ops : List Op) (turns : List ℕ) (snapshot : Bool) (s : Stage) → Stays (run_moves p c a ops turns snapshot s)
+  run-stays ops turns snapshot stage.Skip = inl (record { b = next_stage stage.Skip a; at = refl; own = refl; untold = refl })
+  run-stays ops turns snapshot stage.Cond = op-stays ops snapshot (slice_get ops a.op)
+  run-stays ops turns snapshot stage.Act = op-stays ops snapshot (slice_get ops a.op)
 
-  moves-stays : (a : Present) (o : Option Command) → c.present ≡ Some a → StaysOrEnds p c a (moves_at p c o (Some a))
-  moves-stays a None at = inl (record { b = a; at = at; own = refl; untold = refl })
-  moves-stays a (Some d) at = attempt-stays a d at
+  attempt-stays : (d : Command) → c.present ≡ Some a → Stays (attempt_moves p c a d)
+  attempt-stays (command.Run ops turns snapshot) at = run-stays ops turns (is_some snapshot) a.stage
+  attempt-stays (command.Snap name cont) at = inl (record { b = record a { waits = true }; at = refl; own = refl; untold = refl })
+  attempt-stays (command.Aggregate cont) at = inl (record { b = record a { waits = true }; at = refl; own = refl; untold = refl })
+  attempt-stays (command.Tell n) at = inl (record { b = a; at = at; own = refl; untold = refl })
+  attempt-stays (command.Skip turns) at = inl (record { b = a; at = at; own = refl; untold = refl })
 
-  pub moved-stays : (a : Present) → c.present ≡ Some a → StaysOrEnds p c a (moved p c)
+  moves-stays : (o : Option Command) → c.present ≡ Some a → Stays (moves_at p c o (Some a))
+  moves-stays None at = inl (record { b = a; at = at; own = refl; untold = refl })
+  moves-stays (Some d) at = attempt-stays d at
+
+  pub stays-or : c.present ≡ Some a → Stays (moved p c)
   unfolding moved
-  moved-stays a at = by (waits c)
+  stays-or at = by (waits c)
     where
-      by : (b : Bool) → StaysOrEnds p c a (if b then rests c else moves_at p c (command_at p c) c.present)
+      by : (b : Bool) → Stays (if b then rests c else moves_at p c (command_at p c) c.present)
       by true = inl (record { b = a; at = at; own = refl; untold = refl })
-      by false = subst (λ o. StaysOrEnds p c a (moves_at p c (command_at p c) o)) (sym at) (moves-stays a (command_at p c) at)
+      by false = subst (λ o. Stays (moves_at p c (command_at p c) o)) (sym at) (moves-stays (command_at p c) at)
+
+-- or it is over
+abbrev pub StaysOrEnds : ClientPlan → ClientState → Present → Move → Type 0
+StaysOrEnds p c a m = StaysAt p c a m ⊎ IsPast m.state (attempt_id p c a)
+
+pub moved-stays : (p : ClientPlan) (c : ClientState) (a : Present) → c.present ≡ Some a → StaysOrEnds p c a (moved p c)
+moved-stays p c a = stays-or p c a (λ m. IsPast m.state (attempt_id p c a)) (end-own p c (command_at p c) a outcome.Committed)
 
 -- ---- its line
 

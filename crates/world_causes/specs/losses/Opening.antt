@@ -11,7 +11,7 @@ use Rattle.dtx_base.specs.Leading.{is_led, is_open}
 use Rattle.dtx_base.specs.LeaderLaws.{same-is}
 use Rattle.world_commit.specs.attempts.Attempts.{entry_at, entry_in, leader_of}
 use Rattle.world_commit.specs.attempts.History.{History}
-use Rattle.world_commit.specs.attempts.MarkTurns.{found-here}
+use Rattle.world_commit.specs.attempts.Stored.{found-here}
 use Rattle.world_commit.specs.fates.Asking.{asked-was}
 use Rattle.world_commit.specs.attempts.Turning.{one-or_another}
 use Rattle.world_base.specs.declared.letter.Letter.{Letter}

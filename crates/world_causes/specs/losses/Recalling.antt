@@ -12,6 +12,13 @@ use Rattle.world_base.specs.Events.{Rules}
 use Rattle.world_letters.specs.epochs.Epochs.{IsAt, IsPresent}
 use Rattle.world_causes.specs.losses.Losses.{Losses, Rests, StoppedSince, is_asked_of, tells_stop}
 use Rattle.world_causes.specs.losses.Since.{each-more, since-more}
+use Rattle.std.specs.Prelude.{ℕ, slice_get, Some}
+use Rattle.std.proofs.Common.{◌∙◌, ap}
+use Rattle.std.proofs.Math.ListN.{set}
+use Rattle.world_base.specs.StepLaws.{set-here}
+use Rattle.world_base.specs.declared.target.Life.TheVariants.{Running}
+use Rattle.world_base.specs.declared.target.TargetState.{TargetState}
+use Rattle.world_commit.specs.attempts.Attempts.{leader_of}
 
 -- no line tells of an attempt more; and what tells of a stop is behind one, or told so before
 pub record Recalls (r : Rules) (w v : World) : Type 0 where
@@ -39,3 +46,11 @@ recalling-keeps r w v g k = record {
 
     since : (x : AttemptId) → StoppedSince r (w.lines ++ g.more) x → StoppedSince r v.lines x
     since x z = subst (λ ls. StoppedSince r ls x) (sym g.lines) z
+
+-- an attempt's leader runs, where the target that took a turn leads it
+pub turn-runs : (r : Rules) (w v : World) (t : ℕ) (s z : TargetState) → slice_get w.targets t ≡ Some s → v.targets ≡ set w.targets t z → z.life ≡ Running → (x : AttemptId) → (rests : Rests r v x) → leader_of r x ≡ t → rests.s.life ≡ Running
+turn-runs r w v t s z here targets runs x rests is =
+    let now : slice_get v.targets t ≡ Some z = ap (λ ts. slice_get ts t) targets ∙ set-here w.targets t s z here in
+    let both : Some rests.s ≡ Some z = sym rests.here ∙ ap (slice_get v.targets) is ∙ now in
+    let one : rests.s ≡ z = cc in
+    ap (λ y. y.life) one ∙ runs

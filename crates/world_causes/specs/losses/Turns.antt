@@ -1,5 +1,5 @@
 -- What a target hears as without stops, a Commit with a member that is known to be down, and idle work keep the facts of losses.
-use Rattle.std.specs.Prelude.{ℕ, ◌≡◌, true, [], map, slice_get, Some, refl}
+use Rattle.std.specs.Prelude.{ℕ, ◌≡◌, true, [], map, refl}
 use Rattle.std.proofs.Common.{sym, ◌∙◌, ap, subst, inl, inr}
 use Rattle.base_types.specs.declared.entry.Verdict.{Verdict}
 use Rattle.base_types.specs.declared.entry.Verdict.TheVariants as verdicts
@@ -28,7 +28,6 @@ use Rattle.world_base.specs.Events.{Rules, TargetHears, TargetHearsBy, TargetIdl
 use Rattle.world_base.specs.Further.{HearsFurther}
 use Rattle.world_base.specs.Letters.{letter_of, letters_of, target}
 use Rattle.world_base.specs.Roles.{is_prepared, told_by}
-use Rattle.world_base.specs.StepLaws.{set-here}
 use Rattle.world_base.specs.TargetTurns.{Hears, commit_request, fetch_request, prepare_request}
 use Rattle.world_commit.specs.fates.Asking.{asked-was}
 use Rattle.world_commit.specs.fates.Facts.{Attempts}
@@ -44,6 +43,7 @@ use Rattle.world_causes.specs.losses.Silent.{TellNone, as-told, commit-down-none
 use Rattle.world_causes.specs.losses.Stopping.{rests-before}
 use Rattle.world_causes.specs.outcomes.Untried.{untried-none}
 use Rattle.world_commit.specs.statuses.Heard.{is_of_attempts}
+use Rattle.world_causes.specs.losses.Recalling.{turn-runs}
 
 -- ---- what is heard as without stops
 
@@ -118,11 +118,7 @@ module _ (r : Rules) (w v : World) (g : TargetIdles r w v) where
   unsent l x i is = let q = has-from_map (letter_of (target g.t)) g.did.posts l i in silent.0 q.0 x q.1 (subst (λ n. tells_stop x n.message ≡ true) (sym q.2) is)
 
   runs : (x : AttemptId) → (rests : Rests r v x) → leader_of r x ≡ g.t → rests.s.life ≡ Running
-  runs x rests is =
-      let now : slice_get v.targets g.t ≡ Some (target_after g.s g.new g.memory) = ap (λ ts. slice_get ts g.t) (ap (λ u. u.targets) g.after) ∙ set-here w.targets g.t g.s (target_after g.s g.new g.memory) g.here in
-      let both : Some rests.s ≡ Some (target_after g.s g.new g.memory) = sym rests.here ∙ ap (slice_get v.targets) is ∙ now in
-      let one : rests.s ≡ target_after g.s g.new g.memory = cc in
-      ap (λ s. s.life) one ∙ g.runs
+  runs = turn-runs r w v g.t g.s (target_after g.s g.new g.memory) g.here (ap (λ u. u.targets) g.after) g.runs
 
   pub idling-recalls : Recalls r w v
   idling-recalls = record {

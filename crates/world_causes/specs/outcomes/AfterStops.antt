@@ -1,6 +1,6 @@
 -- What a target hears after stops keeps the facts of outcomes: an Ask, a Status or the answer to it, a Reset, and a Commit where a member is
 -- known to be down.
-use Rattle.std.specs.Prelude.{ℕ, ◌≡◌, ◌≢◌, ◌==◌, ◌++◌, Bool, true, false, ◌||◌, List, [], ◌∷◌, filter, Option, Some, None, is_some, refl, if◌then◌else◌}
+use Rattle.std.specs.Prelude.{ℕ, ◌≡◌, ◌≢◌, Bool, true, false, ◌||◌, List, [], ◌∷◌, filter, Option, Some, None, is_some, refl}
 use Rattle.std.proofs.Common.{sym, ◌∙◌, ap, subst, inl, inr}
 use Rattle.base_types.specs.declared.entry.Entry.{Entry}
 use Rattle.base_types.specs.declared.entry.EntryState.{EntryState}
@@ -19,16 +19,14 @@ use Rattle.base_messages.specs.declared.message.Message.TheVariants as message
 use Rattle.base_messages.specs.declared.message.Post.{Post}
 use Rattle.daos_model.specs.Durables.{entry_of, same_attempt}
 use Rattle.daos_model.specs.EntryLaws.{same_attempt-itself}
-use Rattle.dtx_base.specs.declared.leading.Undecided.{Undecided}
-use Rattle.dtx_base.specs.declared.member.Parked.{Parked}
-use Rattle.dtx_base.specs.Asking.{ask_heard, asked_of, asked_open, tells_end}
+use Rattle.dtx_base.specs.Asking.{ask_heard}
 use Rattle.dtx_base.specs.Joining as member
-use Rattle.dtx_base.specs.Leading.{LeaderOf, down_told, ended, entry_led, first_down, mark_reset, prepare_reset, quietly, reset_of, status_asked, to_target, undecided_of}
+use Rattle.dtx_base.specs.Leading.{LeaderOf, entry_led}
 use Rattle.dtx_base.specs.Rows.{is_among}
 use Rattle.world_commit.specs.attempts.Attempts.{IsBorn, IsHeld, IsUnsettled, entry_at, entry_in, is_known_at, is_known_in, leader_of}
 use Rattle.world_commit.specs.attempts.Counting.{has-taken}
 use Rattle.world_commit.specs.attempts.History.{Decided, GrowsBy, History, Tells}
-use Rattle.world_commit.specs.attempts.MarkTurns.{found-led, led-found, target-is}
+use Rattle.world_commit.specs.attempts.Stored.{found-led, led-found, target-is}
 use Rattle.world_base.specs.declared.did.Did.{Did}
 use Rattle.world_base.specs.declared.request.CommitRequest.{CommitRequest}
 use Rattle.world_base.specs.declared.target.TargetMemory.{TargetMemory}
@@ -42,26 +40,28 @@ use Rattle.world_base.specs.Events.{Rules, TargetHearsBy, kept, target_after, ta
 use Rattle.world_base.specs.Further.{CommitDown, HearsFurther, IsSpent, IsUnknown, reset_by}
 use Rattle.world_base.specs.Letters.{target}
 use Rattle.world_base.specs.PathLaws.{reached-keeps}
-use Rattle.world_base.specs.Roles.{leader_at, member_at}
+use Rattle.world_base.specs.Roles.{leader_at}
 use Rattle.world_base.specs.Snapshots.{collection_of}
 use Rattle.world_base.specs.Snapshots as snap
 use Rattle.world_base.specs.declared.target.Collection.{Collection}
 use Rattle.world_base.specs.CutTurns.{is_stored}
 use Rattle.world_base.specs.EntryLaws.{entry-leased}
-use Rattle.world_base.specs.Statuses.{AtOnce, EndsAs, IsDone, Looking, Looks, NoChange, ask_left, reset_left, status_left, status_refusal}
+use Rattle.world_base.specs.Statuses.{ask_left, reset_left, status_left, status_refusal}
 use Rattle.world_base.specs.TargetTurns.{commit_request}
-use Rattle.world_base.specs.Turns.{Reached, Whole}
+use Rattle.world_base.specs.Turns.{Reached}
 use Rattle.world_commit.specs.fates.Facts.{Attempts, IsSaidSo, IsStateRight}
 use Rattle.world_commit.specs.fates.Told.{silent_end}
 use Rattle.world_commit.specs.statuses.Fates.{tells_fate, told_by_it}
 use Rattle.world_causes.specs.outcomes.Concluding.{Concludes}
 use Rattle.world_causes.specs.outcomes.Hearing.{AreToldOf, IsToldOf, SendsSo, entry-now, held-back, hearing-concludes}
-use Rattle.world_causes.specs.outcomes.Outcomes.{IsEndTrue, Outcomes, commits, is_failed}
+use Rattle.world_causes.specs.outcomes.Outcomes.{IsEndTrue, Outcomes, commits, is_failed, HasWrites}
+use Rattle.world_letters.specs.endings.Answers as follows
+use Rattle.world_letters.specs.endings.Answers.{AnswersAsk, SaysCommitted, SaysUnknown, SaysUnresolved, ask-answers, left-follows}
 use Rattle.world_causes.specs.outcomes.Premises.{AsksGoRight, CommitsAreOfClients, hands}
 use Rattle.world_causes.specs.outcomes.Rightly.{row-held, untried}
 use Rattle.world_causes.specs.outcomes.Storing.{further-unstored}
 use Rattle.world_causes.specs.outcomes.Telling.{ack-tells, end_to, post_to, silent-tells, single}
-use Rattle.world_contents.specs.verdicts.Verdicts.{HasWrites}
+use Rattle.world_commit.specs.statuses.Turns.{Looked, looked}
 
 -- ---- what says nothing of ends
 
@@ -78,71 +78,24 @@ nothing-none x own how tells = absurd tells.sent
 nothing-one : (to : ActorId) (m : Message) → ((x : AttemptId) (own : Option Epoch) (how : Outcome) → m ≡ message.Ended x own how → ⊥) → TellNothing (post_to to m ∷ [])
 nothing-one to m off x own how tells = absurd (off x own how (single to m x own how tells))
 
+unknown-nothing : (t : ℕ) (how : Outcome) → outcome.Unknown t ≡ how → (is_failed how ≡ false) × (how ≢ outcome.Committed)
+unknown-nothing t how is = (sym (ap is_failed is), λ same. let bad : outcome.Unknown t ≡ outcome.Committed = is ∙ same in let no : ⊥ = cc in no)
+
 nothing-unknown : (to : ActorId) (a : AttemptId) (own2 : Option Epoch) (t : ℕ) → TellNothing (end_to to a own2 (outcome.Unknown t) ∷ [])
 nothing-unknown to a own2 t x own how tells =
     let said : message.Ended a own2 (outcome.Unknown t) ≡ message.Ended x own how = single to (message.Ended a own2 (outcome.Unknown t)) x own how tells in
-    let is : outcome.Unknown t ≡ how = cc in
-    (sym (ap is_failed is), λ same. let bad : outcome.Unknown t ≡ outcome.Committed = is ∙ same in let no : ⊥ = cc in no)
-
-nothing-both : (ps qs : List Post) → TellNothing ps → TellNothing qs → TellNothing (ps ++ qs)
-nothing-both ps qs k n x own how tells = elim (has-cases ps qs (end_to tells.to x own how) tells.sent) [
-  | inl j ↦ k x own how (record { to = tells.to; sent = j })
-  | inr j ↦ n x own how (record { to = tells.to; sent = j })
-]
+    unknown-nothing t how (let is : outcome.Unknown t ≡ how = cc in is)
 
 -- ---- a Reset
 
-nothing-ended : (o : Option ActorId) (a : AttemptId) (e : Epoch) (t : ℕ) → TellNothing (ended o a e (outcome.Unknown t))
-nothing-ended None a e t = nothing-none
-nothing-ended (Some c) a e t = nothing-unknown c a (Some e) t
-
-down-nothing : (t : ℕ) (a : AttemptId) (o : Option Entry) (u : Option Undecided) (l : LeaderOf) → TellNothing (down_told t a o u l).posts
-down-nothing t a None u l = nothing-none
-down-nothing t a (Some e) None l = nothing-none
-down-nothing t a (Some e) (Some u) l = nothing-ended u.client a e.epoch t
-
-asked-nothing : (t : ℕ) (a : AttemptId) (inc : ℕ) (l : LeaderOf) → TellNothing (status_asked t a inc l).posts
-asked-nothing t a inc l = by (inc == l.incarnation)
-  where
-    by : (b : Bool) → TellNothing (if b then record { leader = l; posts = to_target t (message.Status a inc) ∷ [] } else quietly l).posts
-    by true = nothing-one (target t) (message.Status a inc) (λ x own how is. let no : ⊥ = cc in no)
-    by false = nothing-none
-
-prepare-nothing : (t : ℕ) (down : Bool) (a : AttemptId) (inc : ℕ) (l : LeaderOf) → TellNothing (prepare_reset t down a inc l).posts
-unfolding prepare_reset
-prepare-nothing t true a inc l = down-nothing t a (entry_led a l) (undecided_of a l) l
-prepare-nothing t false a inc l = asked-nothing t a inc l
-
-mark-nothing : (t : ℕ) (down : Bool) (inc : ℕ) (marks : List (AttemptId × Bool)) (l : LeaderOf) → TellNothing (mark_reset t down inc marks l).posts
-unfolding mark_reset
-mark-nothing t true inc marks l = nothing-none
-mark-nothing t false inc marks l = nothing-one (target t) (message.Mark inc marks) (λ x own how is. let no : ⊥ = cc in no)
-
-leads-nothing : (t : ℕ) (down : Bool) (m : Message) (l : LeaderOf) → TellNothing (reset_of t down m l).posts
-leads-nothing t down (message.Prepare e first ws inc) l = prepare-nothing t down e.attempt inc l
-leads-nothing t down (message.Status a inc) l = prepare-nothing t down a inc l
-leads-nothing t down (message.Mark inc marks) l = mark-nothing t down inc marks l
-leads-nothing t down m l = nothing-none
-
-fetch-nothing : (a : AttemptId) (m : Message) → TellNothing (member.unresolved_told a m)
-fetch-nothing a (message.Fetch x op group ep first tracker r snapshot) = nothing-one _ _ (λ y own how is. let no : ⊥ = cc in no)
-fetch-nothing a m = nothing-none
-
-freed-nothing : (a : AttemptId) (ps : List Parked) → TellNothing (member.all_unresolved_told a ps)
-freed-nothing a [] = nothing-none
-freed-nothing a (p ∷ ps) = nothing-both (member.unresolved_told a p.ask) (member.all_unresolved_told a ps) (fetch-nothing a p.ask) (freed-nothing a ps)
-
-query-nothing : (down : Bool) (a : AttemptId) (ask : Option AttemptId) (s : member.MemberOf) → TellNothing (member.query_reset down a ask s).freed.posts
-unfolding member.unresolved
-query-nothing down a (Some x) s = freed-nothing a (filter (member.is_waiting a x) s.memory.parked)
-query-nothing down a None s = nothing-none
-
-joins-nothing : (down : Bool) (m : Message) (s : member.MemberOf) → TellNothing (member.reset_heard down m s).freed.posts
-joins-nothing down (message.Query a ask) s = query-nothing down a ask s
-joins-nothing down m s = nothing-none
-
 left-nothing : (t : TargetPlan) (m : TargetMemory) (by : ℕ) (down : Bool) (asked : Message) (k : Kept) → TellNothing (reset_left t m by down asked k).1.posts
-left-nothing t m by down asked k = nothing-both (reset_of by down asked (leader_at t m k.durable)).posts (member.reset_heard down asked (member_at t m)).freed.posts (leads-nothing by down asked (leader_at t m k.durable)) (joins-nothing down asked (member_at t m))
+left-nothing t m by down asked k x own how tells = each (left-follows t m by down asked k (end_to tells.to x own how) tells.sent)
+  where
+    each : follows.FollowsReset (leader_at t m k.durable) m.member.parked by (message.Ended x own how) → (is_failed how ≡ false) × (how ≢ outcome.Committed)
+    each (follows.EndsUnknown y e led said) = unknown-nothing by how (let is : how ≡ outcome.Unknown by = cc in sym is)
+    each (follows.AsksState y inc said) = let no : ⊥ = cc in absurd no
+    each (follows.MarksAgain inc marks said) = let no : ⊥ = cc in absurd no
+    each (follows.MetUnresolved p y op group ep first tracker r snapshot a among asks said) = let no : ⊥ = cc in absurd no
 
 collected-nothing : (by : ℕ) (down : Bool) (asked : Message) (x : AttemptId) (o : Option Collection) (m : TargetMemory) → ((y : AttemptId) (own : Option Epoch) (how : Outcome) → asked ≡ message.Ended y own how → ⊥) → TellNothing (snap.collection_reset by down asked x o m).1
 collected-nothing by false asked x o m off = nothing-one (target by) asked off
@@ -158,24 +111,6 @@ reset-lines : (t : TargetPlan) (m : TargetMemory) (by : ℕ) (down : Bool) (aske
 reset-lines t m by down (message.Freeze x c s) k = refl
 reset-lines t m by down (message.Prune x c tracker e) k = refl
 reset-lines t m by down asked k = refl
-
--- ---- turns without a change
-
-record Looked (left_by : Kept → TargetMemory × Did) (old new : Kept) (left : TargetMemory × Did) : Type 0 where
-  same : new ≡ old
-  follows : left ≡ left_by old
-
-looked : (left_by : Kept → TargetMemory × Did) (old new : Kept) (left : TargetMemory × Did) → Whole NoChange (EndsAs left_by) Looking old new left → Looked left_by old new left
-looked left_by old new left turn = record { same = same; follows = ends turn.last new left turn.ends ∙ ap left_by same }
-  where
-    step : (a : AtOnce) (k : Kept) (o : Option Change) (b : AtOnce) (l : Kept) → NoChange a k o b → Steps o k l → k ≡ old → l ≡ old
-    step a k o b l (Looks k2) steps is = steps ∙ is
-
-    same : new ≡ old
-    same = reached-keeps NoChange (λ a k. k ≡ old) step Looking old turn.last new turn.reached refl
-
-    ends : (a : AtOnce) (k : Kept) (left : TargetMemory × Did) → EndsAs left_by a k left → left ≡ left_by k
-    ends a k left (IsDone k2 left2 is) = is
 
 -- ---- a Commit before anything is stored
 
@@ -273,12 +208,10 @@ module _ (number : ℕ) (r : Rules) (h later : History) (w v : World) (k : Attem
             one = let both : Some unsettled.here.entry ≡ Some e = sym unsettled.here.found ∙ found in cc
 
     ask-so : g.new ≡ kept g.s → (y : AttemptId) (own : Option Epoch) (how : Outcome) → Tells (ask_heard x g.l.from L).posts y own how → IsEndTrue r later v y own how
-    unfolding ask_heard
-    ask-so same y own how = by (entry_led x L) refl (is_among x g.s.memory.leader.decided) refl
+    ask-so same y own how tells = by (ask-answers L x g.l.from (end_to tells.to y own how) tells.sent)
       where
-        told-as : (own2 : Option Epoch) (end : Outcome) → (IsEndTrue r later v x own2 end) → Tells (tells_end g.l.from x own2 end) y own how → IsEndTrue r later v y own how
-        told-as own2 end so tells =
-            let said : message.Ended x own2 end ≡ message.Ended y own how = single g.l.from (message.Ended x own2 end) y own how tells in
+        told-as : (own2 : Option Epoch) (end : Outcome) → IsEndTrue r later v x own2 end → message.Ended y own how ≡ message.Ended x own2 end → IsEndTrue r later v y own how
+        told-as own2 end so said =
             let is-x : x ≡ y = cc in
             let is-own : own2 ≡ own = cc in
             let is-how : end ≡ how = cc in
@@ -287,18 +220,10 @@ module _ (number : ℕ) (r : Rules) (h later : History) (w v : World) (k : Attem
         gone : entry_led x L ≡ None → entry_at v (leader_of r x) x ≡ None
         gone none = ap (λ u. entry_at v u x) (sym leads) ∙ entry-now w v g.t g.s z g.here targets x ∙ ap (λ q. entry_of q.durable x) same ∙ unled none
 
-        still : (o : Option ℕ) (e : Entry) → Tells (asked_open x g.l.from e o L).posts y own how → IsEndTrue r later v y own how
-        still None e tells = absurd tells.sent
-        still (Some down) e tells = told-as (Some e.epoch) (outcome.Unknown down) (record { committed = λ q. let no : ⊥ = cc in absurd no; failed = λ q. let no : ⊥ = cc in absurd no }) tells
-
-        found : (e : Entry) → entry_led x L ≡ Some e → (b : Bool) → (e.committed || is_among x g.s.memory.leader.decided) ≡ b
-            → Tells (if b then record { leader = L; posts = tells_end g.l.from x (Some e.epoch) outcome.Committed } else asked_open x g.l.from e (first_down e.members L.memory.down) L).posts y own how → IsEndTrue r later v y own how
-        found e led true known tells = told-as (Some e.epoch) outcome.Committed (record { committed = λ q. (e.epoch, refl, grown x e.epoch (led-decided e led known)); failed = λ q. let no : ⊥ = cc in absurd no }) tells
-        found e led false off tells = still (first_down e.members L.memory.down) e tells
-
-        by : (o : Option Entry) → entry_led x L ≡ o → (b : Bool) → is_among x g.s.memory.leader.decided ≡ b → Tells (asked_of x g.l.from o b L).posts y own how → IsEndTrue r later v y own how
-        by None led b known tells = told-as None (outcome.Restart (Unresolved x)) (record { committed = λ q. let no : ⊥ = cc in absurd no; failed = λ q. gone led }) tells
-        by (Some e) led b known tells = found e led (e.committed || b) (ap (λ y2. e.committed || y2) known) tells
+        by : AnswersAsk L x g.l.from (end_to tells.to y own how) → IsEndTrue r later v y own how
+        by (SaysCommitted e led known is) = told-as (Some e.epoch) outcome.Committed (record { committed = λ q. (e.epoch, refl, grown x e.epoch (led-decided e led known)); failed = λ q. let no : ⊥ = cc in absurd no }) (ap (λ p. p.message) is)
+        by (SaysUnknown e down led is) = told-as (Some e.epoch) (outcome.Unknown down) (record { committed = λ q. let no : ⊥ = cc in absurd no; failed = λ q. let no : ⊥ = cc in absurd no }) (ap (λ p. p.message) is)
+        by (SaysUnresolved none is) = told-as None (outcome.Restart (Unresolved x)) (record { committed = λ q. let no : ⊥ = cc in absurd no; failed = λ q. gone none }) (ap (λ p. p.message) is)
 
     ask-says : Turn (message.Ask x) → Says (message.Ask x)
     ask-says turn =

@@ -30,12 +30,10 @@ use Rattle.world_letters.specs.epochs.Epochs.{IsPast}
 use Rattle.world_letters.specs.lines.Lines.{Lines, filled}
 use Rattle.world_letters.specs.talks.AskLaws.{move-is, waiting-rests}
 use Rattle.world_letters.specs.talks.Asked.{ARead, ASnapshot, AnAggregation, Asked, Asking, IsMove, ItsWrites, Silent, Telling}
-use Rattle.world_contents.specs.verdicts.TellLaws.{AllRead, MoveTells, NoSnap, Nothing, moved-tells}
-use Rattle.world_contents.specs.verdicts.TurnLaws.{move-ends-nothing, move-tells-decided, none-told, ends-one}
-use Rattle.world_contents.specs.verdicts.VerdictLaws.{EndNothing, tried-cases}
-use Rattle.world_contents.specs.verdicts.Verdicts.{HasWrites}
+use Rattle.world_causes.specs.outcomes.TellLaws.{AllRead, MoveTells, NoSnap, Nothing, moved-tells}
+use Rattle.world_causes.specs.outcomes.TurnLaws.{move-ends-nothing, move-tells-decided, none-told, ends-one, EndNothing, tried-cases}
 use Rattle.world_causes.specs.outcomes.Moving.{moved-how}
-use Rattle.world_causes.specs.outcomes.Outcomes.{IsEndTrue, IsHandedOver, Outcomes, WaitsForEnd, commits, is_failed}
+use Rattle.world_causes.specs.outcomes.Outcomes.{IsEndTrue, IsHandedOver, Outcomes, WaitsForEnd, commits, is_failed, HasWrites}
 
 -- ---- what a client does
 

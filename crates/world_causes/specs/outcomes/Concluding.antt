@@ -21,9 +21,8 @@ use Rattle.world_base.specs.Events.{Rules, client_plan}
 use Rattle.world_base.specs.Letters.{Takes, is_tell}
 use Rattle.world_letters.specs.epochs.Epochs.{IsPast}
 use Rattle.world_letters.specs.talks.TalkLaws.{got-is-talk, left-or-it, none-among, sent-is-talk}
-use Rattle.world_causes.specs.outcomes.Outcomes.{IsEndTrue, IsHandedOver, Outcomes, WaitsForEnd, commits}
+use Rattle.world_causes.specs.outcomes.Outcomes.{IsEndTrue, IsHandedOver, Outcomes, WaitsForEnd, commits, HasWrites}
 use Rattle.world_causes.specs.outcomes.Premises.{HandsOver, LinesArePast, hands}
-use Rattle.world_contents.specs.verdicts.Verdicts.{HasWrites}
 
 -- ---- an attempt that is handed over in an event
 

@@ -29,11 +29,10 @@ use Rattle.world_base.specs.Steps.{after_move, without}
 use Rattle.world_letters.specs.clients.Answered.{ops_here}
 use Rattle.world_letters.specs.epochs.Epochs.{IsPast}
 use Rattle.world_letters.specs.lines.Lines.{filled}
-use Rattle.world_contents.specs.verdicts.TurnLaws.{ends-one, none-told}
-use Rattle.world_contents.specs.verdicts.Verdicts.{Agrees, HasWrites}
+use Rattle.world_causes.specs.outcomes.TurnLaws.{ends-one, none-told}
 use Rattle.world_causes.specs.outcomes.ClientLaws.{Does, client-keeps, no-entry, present-not-past, unborn}
 use Rattle.world_causes.specs.outcomes.Moving.{AnswerDoes, FailsWith, OnWith, end-own, end-past, op-does, same-past}
-use Rattle.world_causes.specs.outcomes.Outcomes.{IsBehind, IsEndTrue, Outcomes, WaitsForEnd, commits, is_failed}
+use Rattle.world_causes.specs.outcomes.Outcomes.{IsBehind, IsEndTrue, Outcomes, WaitsForEnd, commits, is_failed, Agrees, HasWrites}
 use Rattle.world_causes.specs.outcomes.Premises.{HearsFitly, IsBefore, IsFit, IsLossFit, IsReplyFit, IsResetFit}
 
 module _ (r : Rules) (h : History) (w : World) (n : ℕ) (c : ClientState) (l : Letter) (here : slice_get w.clients n ≡ Some c) (flies : Has l w.messages) (agrees : Agrees r h w) (k : Outcomes r h w) where

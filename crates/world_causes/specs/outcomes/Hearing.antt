@@ -28,11 +28,10 @@ use Rattle.world_base.specs.StepLaws.{set-here, set-there}
 use Rattle.world_base.specs.TargetTurns.{Hearing}
 use Rattle.world_commit.specs.fates.Facts.{Attempts, IsPrepareRight, IsSaidSo}
 use Rattle.world_causes.specs.outcomes.Concluding.{Concludes, IsTaken}
-use Rattle.world_causes.specs.outcomes.Outcomes.{IsEndTrue, commits, is_failed}
+use Rattle.world_causes.specs.outcomes.Outcomes.{IsEndTrue, commits, is_failed, HasWrites}
 use Rattle.world_causes.specs.outcomes.Premises.{CommitsAreOfClients, hands}
 use Rattle.world_causes.specs.outcomes.Storing.{is_stored_by}
-use Rattle.world_contents.specs.verdicts.VerdictLaws.{tried-cases}
-use Rattle.world_contents.specs.verdicts.Verdicts.{HasWrites}
+use Rattle.world_causes.specs.outcomes.TurnLaws.{tried-cases}
 
 -- ---- what a target tells
 

@@ -6,23 +6,20 @@ use Rattle.base_types.specs.declared.outcome.Outcome.{Outcome}
 use Rattle.base_types.specs.declared.outcome.Outcome.TheVariants.{Committed}
 use Rattle.base_types.specs.declared.report.Attempt.{Attempt}
 use Rattle.daos_model.specs.Attempts.{is_unknown, tries}
-use Rattle.world_letters.specs.addresses.Addresses.{AreAddressed}
 use Rattle.world_commit.specs.attempts.History.{Decided, GrowsBy, History}
 use Rattle.world_base.specs.declared.client.ClientState.{ClientState}
 use Rattle.world_base.specs.declared.letter.Letter.{Letter}
 use Rattle.world_base.specs.declared.world.World.{World}
 use Rattle.world_base.specs.ClientTurns.{heard, moved}
 use Rattle.world_base.specs.Events.{ByClient, ByTarget, RightEvent, Rules, ToClient, ToTarget, client_plan}
-use Rattle.world_base.specs.Letters.{Takes, client}
+use Rattle.world_base.specs.Letters.{Takes}
 use Rattle.world_base.specs.Steps.{KeptByCounting, after_move, without}
 use Rattle.world_base.specs.Stops.{Happening, Plainly, swept}
 use Rattle.world_commit.specs.fates.Facts.{Attempts}
 use Rattle.world_commit.specs.fates.Keeping.{HasNoneYet}
 use Rattle.world_commit.specs.fates.Told.{told_posts}
-use Rattle.world_letters.specs.lines.Lines.{Endings, Lines}
-use Rattle.world_letters.specs.talks.Conversation.{Conversation}
-use Rattle.world_contents.specs.verdicts.Verdicts.{Agrees, HasWrites}
-use Rattle.world_causes.specs.outcomes.Outcomes.{IsEndTrue, Outcomes, is_failed}
+use Rattle.world_letters.specs.lines.Lines.{Lines}
+use Rattle.world_causes.specs.outcomes.Outcomes.{IsEndTrue, Outcomes, is_failed, Agrees, HasWrites}
 use Rattle.world_causes.specs.outcomes.Premises.{AsksGoRight, CommitsAreOfClients, HandsOver, HearsFitly, LinesArePast, MakersWriteNothing}
 use Rattle.world_commit.specs.statuses.Events.{told_by}
 
@@ -91,13 +88,3 @@ FailedAreUndecided = (r : Rules) (h : History) (w : World) (a : Attempt) (e : Ep
 -- of a decided one a line tells that it is committed, or that it is unknown what became of it
 abbrev pub DecidedAreTold : Type 0
 DecidedAreTold = (r : Rules) (h : History) (w : World) (a : Attempt) (e : Epoch) → Attempts r h w → Outcomes r h w → Contains (tries w.lines) a → HasWrites r a.id → Decided h a.id e → (a.outcome ≡ Committed) ⊎ (is_unknown a.outcome ≡ true)
-
--- ---- conversations
-
--- where conversations are in order, clients hand attempts over one at a time
-abbrev pub ConversationsHandOver : Type 0
-ConversationsHandOver = (r : Rules) (w : World) → Conversation r w → AreAddressed r w → HandsOver r w
-
--- and hear what goes with what they asked
-abbrev pub ConversationsFit : Type 0
-ConversationsFit = (r : Rules) (w : World) (n : ℕ) (c : ClientState) (l : Letter) (rest : List Letter) → Conversation r w → Endings w → slice_get w.clients n ≡ Some c → Takes w.messages l rest → l.to ≡ client n → HearsFitly (client_plan r n) c l.message

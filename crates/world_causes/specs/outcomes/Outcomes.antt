@@ -1,5 +1,5 @@
 -- What is told of how attempts ended, in a run in which targets may stop.
-use Rattle.std.specs.Prelude.{◌≡◌, ◌≢◌, ◌⊎◌, Bool, true, false, List, [], slice_get, Contains, Option, Some, None}
+use Rattle.std.specs.Prelude.{◌≡◌, ◌≢◌, ◌⊎◌, Bool, true, false, List, [], slice_get, Contains, Option, Some, None, ℕ}
 use Rattle.base_types.specs.declared.epoch.Epoch.{Epoch}
 use Rattle.base_types.specs.declared.id.AttemptId.{AttemptId}
 use Rattle.base_types.specs.declared.operation.Op.{Op}
@@ -23,7 +23,14 @@ use Rattle.world_base.specs.ClientTurns.{attempt_id}
 use Rattle.world_base.specs.Events.{Rules, client_plan}
 use Rattle.world_letters.specs.clients.Answered.{ops_here}
 use Rattle.world_letters.specs.epochs.Epochs.{IsPast}
-use Rattle.world_contents.specs.verdicts.Verdicts.{HasWrites}
+use Rattle.daos_model.specs.Transactions.{attempt_ops}
+
+abbrev pub HasWrites : Rules → AttemptId → Type 0
+HasWrites r x = minor_writes 0 (attempt_ops r.script x) ≢ []
+
+-- the epoch that a client knows of its attempt is that of its decision
+abbrev pub Agrees : Rules → History → World → Type 0
+Agrees r h w = (n : ℕ) (c : ClientState) (a : Present) (f e : Epoch) → slice_get w.clients n ≡ Some c → c.present ≡ Some a → a.epoch ≡ Some f → Decided h (attempt_id (client_plan r n) c a) e → f ≡ e
 
 -- ---- outcomes
 

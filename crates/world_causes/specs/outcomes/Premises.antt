@@ -23,8 +23,7 @@ use Rattle.world_base.specs.Events.{Rules, client_plan}
 use Rattle.world_base.specs.Letters.{Takes, client, talk_of, target}
 use Rattle.world_letters.specs.clients.Answered.{ops_here}
 use Rattle.world_letters.specs.epochs.Epochs.{IsPast}
-use Rattle.world_contents.specs.verdicts.Verdicts.{HasWrites}
-use Rattle.world_causes.specs.outcomes.Outcomes.{IsBehind, WaitsForEnd, commits}
+use Rattle.world_causes.specs.outcomes.Outcomes.{IsBehind, WaitsForEnd, commits, HasWrites}
 
 -- ---- conversations
 

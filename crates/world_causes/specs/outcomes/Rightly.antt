@@ -22,7 +22,7 @@ use Rattle.dtx_base.specs.Rows.{is_among, row_of}
 use Rattle.world_commit.specs.attempts.Attempts.{IsHeld, IsOpenAt, entry_in, leader_of, row_at, row_in}
 use Rattle.world_commit.specs.attempts.Counting.{has-taken}
 use Rattle.world_commit.specs.attempts.History.{GrowsBy, History, Tells}
-use Rattle.world_commit.specs.attempts.MarkTurns.{target-is}
+use Rattle.world_commit.specs.attempts.Stored.{target-is}
 use Rattle.world_base.specs.declared.letter.Letter.{Letter}
 use Rattle.world_base.specs.declared.target.TargetState.{TargetState}
 use Rattle.world_base.specs.declared.world.World.{World}
@@ -44,7 +44,7 @@ use Rattle.world_causes.specs.outcomes.Hearing.{AreToldOf, held-back, hearing-co
 use Rattle.world_causes.specs.outcomes.Premises.{CommitsAreOfClients, hands}
 use Rattle.world_causes.specs.outcomes.Storing.{idles-unstored, rightly-unstored}
 use Rattle.world_causes.specs.outcomes.Telling.{AreEndsOf, end_to, IsOfRow, ack-tells, commit-ends, post_to, silent-tells, single}
-use Rattle.world_contents.specs.verdicts.VerdictLaws.{tried-cases}
+use Rattle.world_causes.specs.outcomes.TurnLaws.{tried-cases}
 
 -- no line tells of an attempt where there is none
 pub untried : (lines : List Line) (a : Attempt) → lines ≡ [] → Has a (tries lines) → ⊥

@@ -2,7 +2,6 @@
 use Rattle.std.specs.Prelude.{ℕ, ◌≡◌, ◌≤◌, ◌+◌, ◌/◌, ◌++◌, ◌||◌, ◌⊎◌, true, false, List, [], ◌∷◌, filter, Contains, slice_get, Option, Some, None, refl}
 use Rattle.std.proofs.Common.{append-nil, inl, inr, sym, ◌∙◌, ap, subst, arith}
 use Rattle.base_types.specs.declared.entry.Verdict.{Verdict}
-use Rattle.base_types.specs.declared.entry.Verdict.TheVariants as verdicts
 use Rattle.base_types.specs.declared.epoch.Epoch.{Epoch}
 use Rattle.base_types.specs.declared.id.AttemptId.{AttemptId}
 use Rattle.base_types.specs.declared.id.ContId.{ContId}
@@ -19,7 +18,6 @@ use Rattle.daos_model.specs.Blocks.{blocks}
 use Rattle.daos_model.specs.CausesShown.{ShowsFloor}
 use Rattle.daos_model.specs.Opening.{Opening, top}
 use Rattle.base_messages.specs.declared.actor.ActorId.{ActorId}
-use Rattle.dtx_base.specs.Joining.{verdict_heard}
 use Rattle.world_base.specs.declared.letter.Letter.{Letter}
 use Rattle.world_base.specs.declared.request.CommitRequest.{CommitRequest}
 use Rattle.world_base.specs.declared.request.FetchRequest.{FetchRequest}
@@ -41,11 +39,11 @@ use Rattle.world_base.specs.PathLaws.{AllPlain}
 use Rattle.world_base.specs.Prepares as prepare
 use Rattle.world_base.specs.Reads as read
 use Rattle.world_base.specs.Requests.{fetch_message, issued_for}
-use Rattle.world_base.specs.Roles.{is_prepared, member_at, told_by}
+use Rattle.world_base.specs.Roles.{is_prepared}
 use Rattle.world_base.specs.Statuses.{AtOnce, Looking, Looks, NoChange, status_refusal}
 use Rattle.world_base.specs.Stops.{AtWork, CutOf, Hearing, IdleWork, after_cut, is_not_to, is_to, reset_letter, resets, stopped_at, stops_so_far}
 use Rattle.world_base.specs.TargetTurns.{commit_request, fetch_request, prepare_request}
-use Rattle.world_base.specs.TurnLaws.{RaisesAll, ack-plain, ack-raises, commit-plain, commit-raises, fetch-plain, fetch-raises, idle-plain, idle-raises, mark-plain, mark-raises, marked-plain, marked-raises, prepare-plain, prepare-raises, query-plain, query-raises, verdict-plain, verdict-raises}
+use Rattle.world_base.specs.TurnLaws.{RaisesAll, ack-plain, ack-raises, commit-plain, commit-raises, fetch-plain, fetch-raises, idle-plain, idle-raises, mark-plain, mark-raises, marked-plain, marked-raises, prepare-plain, prepare-raises, query-plain, query-raises}
 use Rattle.world_base.specs.Verdicts as verdict
 use Rattle.world_causes.specs.restarts.Cuts.{cut-of}
 use Rattle.world_causes.specs.restarts.Resting.{is_silent}
@@ -60,11 +58,12 @@ use Rattle.world_causes.specs.causes.Dates.{IsDated, request-dated}
 use Rattle.world_causes.specs.causes.FloorLaws.{stops-keep-floors}
 use Rattle.world_causes.specs.causes.Heard.{IsHeardAs}
 use Rattle.world_causes.specs.causes.Lasting.{limit-told}
-use Rattle.world_causes.specs.causes.Leases.{AsksBelow, CommitBelow, ExtendsTo, FetchBelow, IsDatedBelow, IsLeasedBelow, VerdictBelow, ack-to, commit-to, fetch-to, heard-below, idle-to, leased-near, mark-to, marked-to, prepare-to, query-to, verdict-to, was-leased}
+use Rattle.world_causes.specs.causes.Leases.{CommitBelow, ExtendsTo, FetchBelow, IsDatedBelow, IsLeasedBelow, ack-to, commit-to, fetch-to, heard-below, idle-to, leased-near, mark-to, marked-to, prepare-to, query-to, was-leased}
 use Rattle.world_causes.specs.causes.Paths.{CommitDated, CommitSoFar, ReadDated, commit-path, costs, prepare-path, prepared_blocks, read-path, taken_at}
 use Rattle.world_causes.specs.causes.Shown.{Causes, limit_over}
-use Rattle.world_causes.specs.showing.CutTurns.{ack-cheap, commit-open, commit-takes, cut-conts, cut-free, cut-leased, cut-raises, cut-silent, fetch-cheap, idle-cheap, is_prepared_stage, is_store_cut, mark-cheap, marked-cheap, prepare-open, prepare-takes, query-cheap, stored-space, stored_if, verdict-cheap}
-use Rattle.world_causes.specs.showing.Follows.{Follows, FollowsAt, follows-keep}
+use Rattle.world_causes.specs.showing.CutTurns.{ack-cheap, commit-open, commit-takes, cut-conts, cut-free, cut-leased, cut-raises, cut-silent, fetch-cheap, idle-cheap, is_prepared_stage, is_store_cut, mark-cheap, marked-cheap, prepare-open, prepare-takes, query-cheap, stored-space, stored_if}
+use Rattle.world_causes.specs.showing.Follows.{Follows, follows-keep}
+use Rattle.world_causes.specs.showing.Following.{FollowsOn}
 use Rattle.world_causes.specs.showing.Stopping.{one-line}
 
 -- ---- what a cut turn stored
@@ -123,12 +122,6 @@ issue-dated o w x None first e issued is d y f i = subst (λ is'. f.0 / 256 ≤ 
     by (inl same) = subst (λ g. g.0 / 256 ≤ limit_over o w.lines (w.issued ++ (x, e) ∷ [])) (sym (ap (λ z. z.1) same)) d.within
     by (inr none) = absurd none
 issue-dated o w x (Some own) first e issued is d y f i = absurd (has-from_contains [] (y, f) (subst (λ is'. Contains is' (y, f)) is i))
-
--- what a Verdict tells a leader changes nothing of what a member knows
-member-same : (t : TargetPlan) (v : Verdict) (x : AttemptId) (m : TargetMemory) → member_at t m ≡ member_at t (told_by v x m)
-member-same t verdicts.Committed x m = refl
-member-same t verdicts.Aborted x m = refl
-member-same t verdicts.Undecided x m = refl
 
 looks-plain : AllPlain NoChange
 looks-plain s k c u (Looks j) = tt
@@ -299,15 +292,6 @@ module _ (r : Rules) (o : Opening) (stored : Stored) (w : World) (C : Causes r o
             (prepare-open (target_plan r t) s.opening s.memory q) none-prepared all-prepared r.script t q.entry.attempt stored g.last (kept s) g.mid cut.left g.lines p.need (prepare-path (target_plan r t) s.opening s.memory q (kept s) g.last g.mid g.did g.path).free g.here;
       }
 
-    -- a Verdict
-    verdict-leaves : (x : AttemptId) (ask : Option AttemptId) (inc : ℕ) (v : Verdict) (cut : Cutting) → l.message ≡ message.Verdict x ask inc v
-        → CutTurn (verdict.VerdictNext is_prepared (target_plan r t) (told_by v x s.memory) reading x ask v) none_issued t verdict.Heard (kept s) cut → CutLeaves r o stored [] w t s cut
-    verdict-leaves x ask inc v cut is g =
-        quiet-leaves (verdict.VerdictNext is_prepared (target_plan r t) (told_by v x s.memory) reading x ask v) (verdict-plain is_prepared (target_plan r t) (told_by v x s.memory) reading x ask v)
-        (verdict-raises is_prepared (target_plan r t) (told_by v x s.memory) reading x ask v) (verdict-cheap is_prepared (target_plan r t) (told_by v x s.memory) reading x ask v) (VerdictBelow edge is_prepared (target_plan r t) (told_by v x s.memory) reading x ask v) r o stored w t s
-        (verdict-to edge is_prepared (target_plan r t) (told_by v x s.memory) reading x ask v) low verdict.Heard cut
-        (subst (λ m. AsksBelow edge (verdict_heard x ask v m).freed.again) (member-same (target_plan r t) v x s.memory) (heard-below r o stored w t s l K ticks reading (message.Verdict x ask inc v) is)) g
-
     -- whatever was heard
     pub hearing-leaves : (m : Message) (number : ℕ) (cut : Cutting) → l.message ≡ m → is_without_snapshots m ≡ true → (g : HearingIsCut is_prepared number (target_plan r t) s.opening s.memory reading l.from m (kept s) cut)
         → CutLeaves r o stored (hearing_stored number (target_plan r t) s.opening s.memory reading l.from m (kept s) cut g) w t s cut
@@ -320,7 +304,7 @@ module _ (r : Rules) (o : Opening) (stored : Stored) (w : World) (C : Causes r o
     hearing-leaves (message.Marked inc ids) number cut is plain g =
         quiet-leaves (ack.MarkedNext (target_plan r t) s.memory l.from.number) (marked-plain (target_plan r t) s.memory l.from.number) (marked-raises (target_plan r t) s.memory l.from.number) (marked-cheap (target_plan r t) s.memory l.from.number) (λ a. Unit {0}) r o stored w t s
         (marked-to edge (target_plan r t) s.memory l.from.number) low (ack.to_confirm inc ids s.durable) cut tt g
-    hearing-leaves (message.Verdict x ask inc v) number cut is plain g = verdict-leaves x ask inc v cut is g
+    hearing-leaves (message.Verdict x ask inc v) number cut is plain g = absurd (K.verdict x ask inc v is)
     hearing-leaves (message.Query x ask) number cut is plain g = quiet-leaves verdict.QueryNext query-plain query-raises query-cheap (λ a. Unit {0}) r o stored w t s (query-to edge) low verdict.IsAsked cut tt g
     hearing-leaves (message.Ask x) number cut is plain g = looks-leave cut g
     hearing-leaves (message.Status x inc) number cut is plain g = looks-leave cut g
@@ -363,7 +347,7 @@ module _ (r : Rules) (o : Opening) (stored new : Stored) (w v : World) (C : Caus
     | inr j ↦ (let z = has-from_map (reset_letter false) (filter (is_to t) w.asked) l j in inr (ap (λ y. is_silent y.message) (sym z.2)))
   ]
 
-  at-it : FollowsAt r stored new bound t s (stopped_at s cut.left)
+  at-it : FollowsOn r stored new bound t s (stopped_at s cut.left)
   at-it = record {
     ticks = λ is. let no : ⊥ = cc in absurd no;
     lease = inr (sum cut.left.durable.lease (limit_over o w.lines (w.issued ++ cut.issued)) bound (leased-near o w cut.issued cut.left k.leased) rises);
@@ -374,8 +358,8 @@ module _ (r : Rules) (o : Opening) (stored new : Stored) (w v : World) (C : Caus
       sum : (a b c : ℕ) → a ≤ b + 65536 → b ≤ c → a ≤ c + 65536
       sum a b c p q = omega (arith, p, q)
 
-  elsewhere : (u : ℕ) (z : TargetState) → ((u ≡ t) → ⊥) → FollowsAt r stored new bound u z z
-  elsewhere u z off = record { ticks = λ is. inl (is, low z.memory.ticks); lease = inl (low z.durable.lease); free = sum z.free (blocks_of_stored r.script u stored) (blocks_of_stored r.script u (new ++ stored)) (others u off); parked = λ p i. i }
+  elsewhere : (u : ℕ) (z : TargetState) → ((u ≡ t) → ⊥) → FollowsOn r stored new bound u z z
+  elsewhere u z off = record { ticks = λ is. inl (is, low z.memory.ticks); lease = inl (low z.durable.lease); free = sum z.free (blocks_of_stored r.script u stored) (blocks_of_stored r.script u (new ++ stored)) (others u off); parked = λ p i. inl i }
     where
       low : (n : ℕ) → n ≤ n
       low n = omega arith
@@ -383,9 +367,9 @@ module _ (r : Rules) (o : Opening) (stored new : Stored) (w v : World) (C : Caus
       sum : (a b c : ℕ) → b ≤ c → a + b ≤ a + c
       sum a b c p = omega (arith, p)
 
-  targets-follow : (u : ℕ) (z : TargetState) → slice_get v.targets u ≡ Some z → (x : TargetState) × (slice_get w.targets u ≡ Some x) × FollowsAt r stored new bound u x z
+  targets-follow : (u : ℕ) (z : TargetState) → slice_get v.targets u ≡ Some z → (x : TargetState) × (slice_get w.targets u ≡ Some x) × FollowsOn r stored new bound u x z
   targets-follow u z at = elim (at-or-there w.targets t s (stopped_at s cut.left) here u z (ap (λ x. slice_get x.targets u) (sym after) ∙ at)) [
-    | inl same ↦ (s, subst (λ n. slice_get w.targets n ≡ Some s) (sym same.0) here, subst (λ n. FollowsAt r stored new bound n s z) (sym same.0) (subst (FollowsAt r stored new bound t s) (sym same.1) at-it))
+    | inl same ↦ (s, subst (λ n. slice_get w.targets n ≡ Some s) (sym same.0) here, subst (λ n. FollowsOn r stored new bound n s z) (sym same.0) (subst (FollowsOn r stored new bound t s) (sym same.1) at-it))
     | inr old ↦ (z, old.1, elsewhere u z old.0)
   ]
 

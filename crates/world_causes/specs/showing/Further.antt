@@ -1,10 +1,9 @@
 -- What is heard after stops keeps that outcomes show their causes: an Ask, a Status and its answer, a Reset, and a Commit with a member that
 -- is known to be down.
-use Rattle.std.specs.Prelude.{ℕ, ◌≡◌, ◌≤◌, ◌/◌, ◌++◌, ◌==◌, ◌||◌, Bool, true, false, List, [], ◌∷◌, filter, Contains, Option, Some, None, refl, if◌then◌else◌}
+use Rattle.std.specs.Prelude.{ℕ, ◌≡◌, ◌≤◌, ◌/◌, ◌++◌, ◌==◌, ◌||◌, Bool, true, false, List, [], ◌∷◌, Contains, Option, Some, None, refl, if◌then◌else◌}
 use Rattle.std.proofs.Common.{sym, ◌∙◌, ap, subst}
 use Rattle.base_types.specs.declared.entry.Entry.{Entry}
 use Rattle.base_types.specs.declared.entry.EntryState.{EntryState}
-use Rattle.base_types.specs.declared.entry.Verdict.TheVariants as verdicts
 use Rattle.base_types.specs.declared.epoch.Epoch.{Epoch}
 use Rattle.base_types.specs.declared.id.AttemptId.{AttemptId}
 use Rattle.base_types.specs.declared.outcome.Cause.TheVariants as cause
@@ -15,17 +14,17 @@ use Rattle.base_types.specs.declared.report.Line.TheVariants as line
 use Rattle.base_messages.specs.declared.actor.ActorId.{ActorId}
 use Rattle.base_messages.specs.declared.message.Message.{Message, more_of-Message}
 use Rattle.base_messages.specs.declared.message.Message.TheVariants as message
-use Rattle.model_laws.specs.Members.{Has, has-from_filter}
+use Rattle.model_laws.specs.Members.{Has}
 use Rattle.daos_model.specs.Accesses.{attempt_targets}
 use Rattle.daos_model.specs.Attempts.{up_to_last_of}
 use Rattle.daos_model.specs.CausesShown.{StopsAfter}
 use Rattle.daos_model.specs.EntryLaws.{same_attempt-itself}
-use Rattle.daos_model.specs.Opening.{Opening, top}
+use Rattle.daos_model.specs.Opening.{Opening}
 use Rattle.daos_model.specs.Order.{told_by}
 use Rattle.dtx_base.specs.declared.leading.Undecided.{Undecided}
 use Rattle.dtx_base.specs.declared.member.Parked.{Parked}
 use Rattle.dtx_base.specs.Asking.{ask_heard, asked_of, asked_open, tells_end}
-use Rattle.dtx_base.specs.Joining.{is_not_waiting, is_waiting, unresolved}
+use Rattle.dtx_base.specs.Joining.{unresolved}
 use Rattle.dtx_base.specs.Joining as joining
 use Rattle.dtx_base.specs.Leading.{LeaderOf, quietly, to_target, down_told, entry_led, first_down, mark_reset, prepare_reset, reset_of, undecided_of}
 use Rattle.dtx_base.specs.Rows.{is_among}
@@ -39,16 +38,13 @@ use Rattle.world_base.specs.Letters.{client}
 use Rattle.world_base.specs.Roles.{leader_at, member_at}
 use Rattle.world_base.specs.Statuses.{down_of, status_refusal}
 use Rattle.world_letters.specs.talks.Asked.{commit_of}
-use Rattle.world_causes.specs.causes.AtFloors.{IsTarget}
 use Rattle.world_causes.specs.causes.Causes.{Dated, Stored}
 use Rattle.world_causes.specs.causes.CommitTurns.{IsCommit}
 use Rattle.world_causes.specs.causes.Heard.{IsKnownAt}
 use Rattle.world_causes.specs.causes.MemberTurns.{IsAck, ended-shows, mark-shows}
-use Rattle.world_causes.specs.causes.Paths.{AreOpen}
 use Rattle.world_causes.specs.causes.ReadTurns.{none-told, told-one}
 use Rattle.world_causes.specs.causes.Shown.{MeetsUnresolved, OutcomeStands, limit_over}
-use Rattle.world_causes.specs.causes.Turns.{AllMeet, AllShow, PostShows}
-use Rattle.world_causes.specs.causes.VerdictTurns.{IsVerdict, all-unresolved-show}
+use Rattle.world_causes.specs.causes.Turns.{AllShow, PostShows}
 
 -- ---- what is known of what is heard
 
@@ -70,12 +66,12 @@ AsksAfter (message.Prepare e first ws inc) x = e.attempt ≡ x
 AsksAfter (message.Status a inc) x = a ≡ x
 AsksAfter m x = ⊥
 
--- Of a Reset: where the target that was asked is down, a client that waits is the attempt's, and that target one of the attempt's. What a
--- Fetch waits for, of which the question got no answer, is open to the Fetch's attempt.
+-- Of a Reset: where the target that was asked is down, a client that waits is the attempt's, and that target one of the attempt's; and it isn't
+-- of a question for who waits.
 pub record IsResetKnown (r : Rules) (o : Opening) (stored : Stored) (w : World) (t : ℕ) (s : TargetState) (by : ℕ) (down : Bool) (asked : Message) : Type 0 where
   pub waiting : (a : AttemptId) (e : Entry) (u : Undecided) (c : ActorId) → AsksAfter asked a → down ≡ true → entry_led a (leader_at (target_plan r t) s.memory s.durable) ≡ Some e → undecided_of a (leader_at (target_plan r t) s.memory s.durable) ≡ Some u → u.client ≡ Some c
       → (c ≡ client a.client) × IsGone r w.lines a by × (e.epoch.0 / 256 ≤ limit_over o w.lines w.issued)
-  pub query : (a x : AttemptId) → asked ≡ message.Query a (Some x) → IsVerdict r o w.issued w.lines (target_plan r t) s.memory a (Some x) verdicts.Undecided
+  pub query : (a x : AttemptId) → asked ≡ message.Query a (Some x) → ⊥
 
 -- a message tells that another one got no answer by a target, which is down, or isn't
 abbrev pub TellsReset : ℕ → Bool → Message → Message → Type 0
@@ -162,15 +158,10 @@ module _ (r : Rules) (o : Opening) (stored : Stored) (w : World) (t : ℕ) (s : 
   leads-show (message.Mark inc marks) is = marks-show down inc marks
   leads-show m is = tt
 
-  -- what was answered of Fetches that wait
-  pub joins-show : (T : IsTarget r o w.issued w.lines t s.opening (kept s)) (reading : ℕ) (ticks : s.memory.ticks ≤ limit_over o w.lines w.issued) (meet : AllMeet r w.issued s.memory.member.parked) (opens : AreOpen r.script (target_plan r t) w.lines (top o) s.durable s.memory.leader.decided)
-      (dates : (x : AttemptId) (e : Epoch) → Contains w.issued (x, e) → e.0 / 256 ≤ limit_over o w.lines w.issued) (m : Message) → asked ≡ m
+  -- no Fetch that waits is answered
+  pub joins-show : (m : Message) → asked ≡ m
       → AllShow r o stored w.issued w.lines (joining.reset_heard down m (member_at (target_plan r t) s.memory)).freed.posts × ((p : Parked) → Has p (joining.reset_heard down m (member_at (target_plan r t) s.memory)).member.memory.parked → Has p s.memory.member.parked)
   unfolding unresolved
-  joins-show T reading ticks meet opens dates (message.Query a None) is = (tt, λ p i. i)
-  joins-show T reading ticks meet opens dates (message.Query a (Some x)) is = (
-    all-unresolved-show r o stored w.issued w.lines (target_plan r t) s.opening s.memory reading a (Some x) verdicts.Undecided (kept s) T (K.query a x is) ticks meet opens dates x (filter (is_waiting a x) s.memory.member.parked)
-        (λ p i. has-from_filter (is_waiting a x) s.memory.member.parked p i) refl refl,
-    λ p i. (has-from_filter (is_not_waiting a x) s.memory.member.parked p i).0,
-  )
-  joins-show T reading ticks meet opens dates m is = (tt, λ p i. i)
+  joins-show (message.Query a None) is = (tt, λ p i. i)
+  joins-show (message.Query a (Some x)) is = absurd (K.query a x is)
+  joins-show m is = (tt, λ p i. i)

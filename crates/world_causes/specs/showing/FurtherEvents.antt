@@ -1,5 +1,5 @@
 -- What is heard after stops, as an event.
-use Rattle.std.specs.Prelude.{ℕ, ◌≡◌, ◌≤◌, ◌+◌, ◌++◌, Bool, true, false, List, [], Option, None, refl}
+use Rattle.std.specs.Prelude.{ℕ, ◌≡◌, ◌≤◌, ◌+◌, ◌++◌, Bool, true, false, List, [], None, refl}
 use Rattle.std.proofs.Common.{append-nil, sym, ◌∙◌, ap, subst, arith}
 use Rattle.base_types.specs.declared.entry.EntryState.{EntryState}
 use Rattle.base_types.specs.declared.id.AttemptId.{AttemptId}
@@ -18,15 +18,15 @@ use Rattle.world_base.specs.declared.target.TargetState.{TargetState}
 use Rattle.world_base.specs.declared.world.World.{World}
 use Rattle.world_base.specs.Acks as ack
 use Rattle.world_base.specs.ChangeLaws.{conts-made, incarnation-made, lease-same, snaps-made}
-use Rattle.world_base.specs.Changes.{Change, Kept, Steps}
+use Rattle.world_base.specs.Changes.{Kept}
 use Rattle.world_base.specs.Commits as commit
 use Rattle.world_base.specs.Events.{Rules, kept, target_plan}
 use Rattle.world_base.specs.Further.{CommitDown, HearsFurther, IsSpent, IsUnknown}
 use Rattle.world_base.specs.Letters.{client}
-use Rattle.world_base.specs.PathLaws.{path-keeps, whole-leaves}
+use Rattle.world_base.specs.PathLaws.{whole-leaves}
 use Rattle.world_base.specs.Requests.{says}
 use Rattle.world_base.specs.Roles.{leader_at, member_at}
-use Rattle.world_base.specs.Statuses.{AtOnce, EndsAs, IsDone, Looking, Looks, NoChange, ask_left, reset_joins, reset_leads, reset_left, state_of, status_left, status_refusal}
+use Rattle.world_base.specs.Statuses.{EndsAs, Looking, NoChange, ask_left, reset_joins, reset_leads, reset_left, state_of, status_left, status_refusal}
 use Rattle.world_base.specs.Stops.{HearsMore}
 use Rattle.world_base.specs.TargetTurns.{commit_request}
 use Rattle.world_base.specs.TurnLaws.{KeepsAs, ack-plain, ack-raises, commit-plain, commit-raises, whole-raises}
@@ -53,6 +53,7 @@ use Rattle.world_causes.specs.causes.CommitTurns.{space-same}
 use Rattle.world_causes.specs.causes.ReadTurns.{meet-more}
 use Rattle.world_causes.specs.causes.Turns.{ParkedMeets, all-more}
 use Rattle.world_causes.specs.showing.Further.{IsHeardFurther, TellsReset, ask-shows, joins-show, leads-show, state-shows}
+use Rattle.world_commit.specs.statuses.Turns.{looked}
 
 not-false : (b : Bool) → not b ≡ true → b ≡ false
 not-false true h = let no : ⊥ = cc in absurd no
@@ -62,13 +63,7 @@ not-false false h = refl
 
 -- it leaves what it left by what is kept
 looks-so : (f : Kept → TargetMemory × Did) (old new : Kept) (left : TargetMemory × Did) → Whole NoChange (EndsAs f) Looking old new left → (new ≡ old) × (left ≡ f new)
-looks-so f old new left w = (path-keeps NoChange (λ s k. k ≡ old) step Looking old w.reached.did w.last new w.reached.path refl, ends w.last new left w.ends)
-  where
-    step : (s : AtOnce) (k : Kept) (c : Option Change) (u : AtOnce) (l : Kept) → NoChange s k c u → Steps c k l → k ≡ old → l ≡ old
-    step s k c u l (Looks j) st h = st ∙ h
-
-    ends : (s : AtOnce) (k : Kept) (left : TargetMemory × Did) → EndsAs f s k left → left ≡ f k
-    ends s k left (IsDone j z is) = is
+looks-so f old new left w = let k = looked f old new left w in (k.same, k.follows ∙ ap f (sym k.same))
 
 -- a turn that issues nothing, takes no blocks and waits for nothing more leaves what it sends
 few-leaves : (r : Rules) (o : Opening) (stored : Stored) (issued : Dated) (lines : List Line) (t : ℕ) (m : TargetMemory) (old new : Kept) (left : TargetMemory × Did) → left.1.issued ≡ None → old.free ≤ new.free → left.0.ticks ≡ m.ticks
@@ -150,7 +145,7 @@ module _ (r : Rules) (o : Opening) (stored : Stored) (w v : World) (C : Causes r
       (all-both r o stored w.issued w.lines (reset_leads (target_plan r t) s.memory by down q (kept s)).posts (reset_joins (target_plan r t) s.memory down q).freed.posts (leads-show r o stored w t s by down q (K.reset by down q tells) q refl) joins.0)
     where
       joins : AllShow r o stored w.issued w.lines (joining.reset_heard down q (member_at (target_plan r t) s.memory)).freed.posts × ((p : Parked) → Has p (joining.reset_heard down q (member_at (target_plan r t) s.memory)).member.memory.parked → Has p s.memory.member.parked)
-      joins = joins-show r o stored w t s by down q (K.reset by down q tells) K.at.target g.hears.reading ticks meet K.at.opens C.bounded.issued q refl
+      joins = joins-show r o stored w t s by down q (K.reset by down q tells) q refl
 
   -- a Commit with a member that is known to be down
   module _ (q : CommitRequest) (is : g.hears.l.message ≡ commit_of q) where

@@ -27,26 +27,27 @@ use Rattle.world_causes.specs.causes.FloorLaws.{KeepsFloors, lines-keep-floors, 
 use Rattle.world_causes.specs.causes.Growth.{at-set}
 use Rattle.world_causes.specs.causes.Lasting.{numbers-both}
 use Rattle.world_causes.specs.causes.Shown.{Causes, limit_over}
-use Rattle.world_causes.specs.showing.Follows.{Follows, FollowsAt, follows-keep}
+use Rattle.world_causes.specs.showing.Follows.{Follows, follows-keep}
+use Rattle.world_causes.specs.showing.Following.{FollowsOn}
 
 -- ---- targets that stay as they are
 
-pub same-at : (r : Rules) (stored : Stored) (limit t : ℕ) (s : TargetState) → FollowsAt r stored [] limit t s s
-same-at r stored limit t s = record { ticks = λ runs. inl (runs, low s.memory.ticks); lease = inl (low s.durable.lease); free = low (s.free + blocks_of_stored r.script t stored); parked = λ p i. i }
+pub same-at : (r : Rules) (stored : Stored) (limit t : ℕ) (s : TargetState) → FollowsOn r stored [] limit t s s
+same-at r stored limit t s = record { ticks = λ runs. inl (runs, low s.memory.ticks); lease = inl (low s.durable.lease); free = low (s.free + blocks_of_stored r.script t stored); parked = λ p i. inl i }
   where
     low : (n : ℕ) → n ≤ n
     low n = omega arith
 
 -- where one target changed
-pub one-follows : (r : Rules) (stored : Stored) (limit : ℕ) (w v : World) (t : ℕ) (s z : TargetState) → slice_get w.targets t ≡ Some s → v.targets ≡ set w.targets t z → FollowsAt r stored [] limit t s z
-    → (u : ℕ) (y : TargetState) → slice_get v.targets u ≡ Some y → (x : TargetState) × (slice_get w.targets u ≡ Some x) × FollowsAt r stored [] limit u x y
+pub one-follows : (r : Rules) (stored : Stored) (limit : ℕ) (w v : World) (t : ℕ) (s z : TargetState) → slice_get w.targets t ≡ Some s → v.targets ≡ set w.targets t z → FollowsOn r stored [] limit t s z
+    → (u : ℕ) (y : TargetState) → slice_get v.targets u ≡ Some y → (x : TargetState) × (slice_get w.targets u ≡ Some x) × FollowsOn r stored [] limit u x y
 one-follows r stored limit w v t s z here targets k u y at =
-    at-set w.targets t s z (λ n y. (x : TargetState) × (slice_get w.targets n ≡ Some x) × FollowsAt r stored [] limit n x y) here (s, here, k) (λ n y there. (y, there, same-at r stored limit n y)) u y (ap (λ ts. slice_get ts u) (sym targets) ∙ at)
+    at-set w.targets t s z (λ n y. (x : TargetState) × (slice_get w.targets n ≡ Some x) × FollowsOn r stored [] limit n x y) here (s, here, k) (λ n y there. (y, there, same-at r stored limit n y)) u y (ap (λ ts. slice_get ts u) (sym targets) ∙ at)
 
 -- what follows where nothing was issued, and these lines were added
 rests-follow : (r : Rules) (o : Opening) (stored : Stored) (w v : World) (more : List Line) → Rests w v → v.lines ≡ w.lines ++ more → tries more ≡ []
     → ((t : ℕ) (floor : Epoch) (cont : ContId) (reason : FloorWhy) → Any (ShowsFloor t floor cont reason) more → floor.0 / 256 ≤ limit_over o v.lines v.issued)
-    → ((t : ℕ) (z : TargetState) → slice_get v.targets t ≡ Some z → (s : TargetState) × (slice_get w.targets t ≡ Some s) × FollowsAt r stored [] (limit_over o v.lines v.issued) t s z) → KeepsFloors w v
+    → ((t : ℕ) (z : TargetState) → slice_get v.targets t ≡ Some z → (s : TargetState) × (slice_get w.targets t ≡ Some s) × FollowsOn r stored [] (limit_over o v.lines v.issued) t s z) → KeepsFloors w v
     → Follows r o stored [] w v
 rests-follow r o stored w v more k lines silent told targets floors = record {
   added = [];
@@ -136,7 +137,7 @@ failure-keeps r o stored w v C g = follows-keep r o stored [] w v C (rests-follo
       ticks = λ runs. inl (runs, low g.s.memory.ticks);
       lease = inl same-lease;
       free = sum g.s.free g.k.free (blocks_of_stored r.script g.t stored) g.no_less;
-      parked = λ p i. i;
+      parked = λ p i. inl i;
     })) (openings-keep-floors r w v (inr (inl g))))
   where
     low : (n : ℕ) → n ≤ n
@@ -168,7 +169,7 @@ given_up-keeps r o stored w v C g = follows-keep r o stored [] w v C (rests-foll
       ticks = λ runs. absurd (gone runs);
       lease = inl (low g.s.durable.lease);
       free = low (g.s.free + blocks_of_stored r.script g.t stored);
-      parked = λ p i. i;
+      parked = λ p i. inl i;
     })) (openings-keep-floors r w v (inr (inr g))))
   where
     low : (n : ℕ) → n ≤ n

@@ -11,9 +11,8 @@ use Rattle.world_base.specs.Stops.{WorldRun}
 use Rattle.world_causes.specs.causes.Causes.{Stored}
 use Rattle.world_upheld.specs.below.Legal.{AreAll, Concluded, IsStill, NoneGoesToGivenUp, Resolves, WaitersAreAsked, stored_over}
 use Rattle.world_letters.specs.lines.LastLines.{AreDone}
-use Rattle.world_upheld.specs.below.Plain.{AreBefore, held_at}
 use Rattle.world_upheld.specs.explained.Explanations.{Explained, HoldNoMoreSnapshots}
-use Rattle.world_upheld.specs.upheld.Begins.{AreRulesInForm, RunBeginsWell, RunBeginsWith}
+use Rattle.world_upheld.specs.upheld.Begins.{AreRulesInForm, RunBeginsWell, RunBeginsWith, held_at, AreBefore}
 use Rattle.world_closing.specs.asked.Collections.{CollectionsAreAsked}
 use Rattle.world_closing.specs.asked.Over.{IsAllOver}
 

@@ -20,25 +20,23 @@ use Rattle.daos_model.specs.Opening.{Opening, top}
 use Rattle.dtx_base.specs.Leading.{entry_attempt}
 use Rattle.world_commit.specs.attempts.Attempts.{IsItsEntry, entry_at, entry_in, leader_of}
 use Rattle.world_commit.specs.attempts.History.{Decided, History}
-use Rattle.world_commit.specs.attempts.MarkTurns.{found-attempt}
-use Rattle.world_commit.specs.attempts.Stored.{row-found}
+use Rattle.world_commit.specs.attempts.Stored.{row-found, found-attempt}
 use Rattle.world_base.specs.declared.target.TargetState.{TargetState}
 use Rattle.world_base.specs.declared.world.World.{World}
 use Rattle.world_base.specs.Events.{Rules}
 use Rattle.world_commit.specs.fates.Facts.{Attempts}
-use Rattle.world_upheld.specs.below.Plain.{AreBefore, durables_of, from-durables}
+use Rattle.world_upheld.specs.below.Legal.{from-durables, durables_of}
 use Rattle.world_letters.specs.epochs.Epochs.{Epochs, HasLine, IsPresent}
 use Rattle.world_causes.specs.hearing.Deciding.{AreEnded, MayEnd, end-all}
 use Rattle.world_causes.specs.hearing.Going.{EntriesWrite}
 use Rattle.world_letters.specs.lines.LastLines.{AreDone}
-use Rattle.world_causes.specs.outcomes.Outcomes.{Outcomes, is_failed}
+use Rattle.world_causes.specs.outcomes.Outcomes.{Outcomes, is_failed, HasWrites}
 use Rattle.world_contents.specs.reads.ChangeLaws.{entry-among}
 use Rattle.world_contents.specs.reads.Given.{Given}
 use Rattle.world_contents.specs.reads.Reads.{Reads}
 use Rattle.world_contents.specs.reads.Versions.{Versions}
-use Rattle.world_contents.specs.verdicts.Verdicts.{HasWrites}
 use Rattle.world_upheld.specs.below.Legal.{AreHeld, Concluded, HasEntries, IsResolved, IsToldOf, Resolves, decided-held, durable-at, held-at, held-resolved, resolved-held}
-use Rattle.world_upheld.specs.upheld.Begins.{AreRulesInForm}
+use Rattle.world_upheld.specs.upheld.Begins.{AreRulesInForm, AreBefore}
 use Rattle.world_upheld.specs.upheld.Heard.{all-heard_right}
 use Rattle.world_upheld.specs.upheld.Upheld.{Upheld}
 

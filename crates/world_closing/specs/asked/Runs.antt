@@ -18,7 +18,6 @@ use Rattle.world_commit.specs.fates.Facts.{talking}
 use Rattle.world_commit.specs.requests.Rows.{commits-find}
 use Rattle.world_letters.specs.lives.Lives.{Lives}
 use Rattle.world_upheld.specs.below.Legal.{AreAsking, DownsAreKnown, IsStill, NoneGoesToGivenUp, WaitersAreAsked, events-go_on, runs-as_many, stored_over}
-use Rattle.world_upheld.specs.below.Plain.{held_at}
 use Rattle.world_upheld.specs.explained.Explanations.{upheld_of}
 use Rattle.world_upheld.specs.explained.Runs.{runs-are_explained}
 use Rattle.world_upheld.specs.reasons.Runs.{runs-are_accounted}
@@ -26,7 +25,7 @@ use Rattle.world_upheld.specs.upheld.BeginVersions.{begins-well}
 use Rattle.world_commit.specs.statuses.Events.{told_by}
 use Rattle.world_upheld.specs.reasons.Accounted.{AccountedFor}
 use Rattle.world_upheld.specs.reasons.Events.{accounted-then}
-use Rattle.world_upheld.specs.upheld.Begins.{AreRulesInForm, RunBeginsWell, client_begins}
+use Rattle.world_upheld.specs.upheld.Begins.{AreRulesInForm, RunBeginsWell, client_begins, held_at}
 use Rattle.world_upheld.specs.upheld.Events as stands
 use Rattle.world_upheld.specs.upheld.Events.{event-many}
 use Rattle.world_upheld.specs.upheld.Runs.{held-first}

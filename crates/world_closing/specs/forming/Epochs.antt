@@ -27,7 +27,7 @@ use Rattle.world_upheld.specs.below.Legal.{LeasesFit, floor-short as plain-floor
 use Rattle.world_letters.specs.epochs.Epochs.{IsEpochOf, IsIssued, IsOwn, IsSeen, ReadsNamed}
 use Rattle.world_letters.specs.snapshots.Makings.{ComesOf}
 use Rattle.world_making.specs.freezings.Seeing.{SeesFrozen, readers-see}
-use Rattle.world_upheld.specs.below.Plain.{try-among}
+use Rattle.world_closing.specs.forming.ReportForms.{try-among}
 use Rattle.world_upheld.specs.upheld.Upheld.{Grounds}
 use Rattle.world_upheld.specs.reasons.Accounted.{AccountedFor}
 use Rattle.world_upheld.specs.hearing.Leases.{AllKeepCovered}

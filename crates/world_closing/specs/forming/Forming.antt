@@ -11,7 +11,7 @@ use Rattle.script_traits.specs.Keyed.{MapHasKeys, ScriptHasKeys}
 use Rattle.world_base.specs.declared.world.World.{World}
 use Rattle.world_base.specs.Stops.{WorldRun}
 use Rattle.world_upheld.specs.below.Legal.{report_over}
-use Rattle.world_upheld.specs.below.Plain.{rules_of}
+use Rattle.world_closing.specs.Rules.{rules_of}
 use Rattle.world_upheld.specs.explained.Explanations.{HoldNoMoreSnapshots}
 use Rattle.world_upheld.specs.upheld.Begins.{AreRulesInForm, RunBeginsWith}
 use Rattle.world_closing.specs.stands.Stands.{HoldsOpenings}

@@ -35,7 +35,9 @@ use Rattle.world_causes.specs.handing.Places.{snapshots-read}
 use Rattle.world_upheld.specs.below.Legal.{AreShort}
 use Rattle.world_letters.specs.clients.Answered.{EndsWell}
 use Rattle.world_letters.specs.clients.Snapshots.{is_at_snapshot}
-use Rattle.world_upheld.specs.below.Plain.{attempt-paths, attempt-writes, rules_of, space-form}
+use Rattle.world_closing.specs.forming.SpaceForms.{space-form}
+use Rattle.world_closing.specs.forming.PathForms.{attempt-paths, attempt-writes}
+use Rattle.world_closing.specs.Rules.{rules_of}
 use Rattle.world_closing.specs.forming.Fit.{AreLinesFit, floor-form, place-form}
 
 -- What counts as the epoch of an attempt that reads at no snapshot was issued to it.

@@ -29,14 +29,18 @@ use Rattle.world_upheld.specs.below.Legal.{AreShort, issued-id, report_over, sto
 use Rattle.world_letters.specs.clients.Answered.{EndsAsAnswered, ops_numbered}
 use Rattle.world_letters.specs.lines.LastLines.{lines-answered}
 use Rattle.world_letters.specs.snapshots.Makings.{ComesOf}
-use Rattle.world_upheld.specs.below.Plain.{as_of-keys, down-is, held_at, ops-few, rules_of, told-form, try-among}
+use Rattle.world_contents.specs.posts.ScriptForm.{ops-few}
+use Rattle.world_closing.specs.forming.ReportForms.{down-is, try-among}
+use Rattle.world_answers.specs.KeyLaws.{as_of-keys}
+use Rattle.world_answers.specs.AnswerForms.{told-form}
+use Rattle.world_closing.specs.Rules.{rules_of}
 use Rattle.world_upheld.specs.causing.Dates.{issued-own}
 use Rattle.world_upheld.specs.causing.OverDates.{CausesOverDates, later-reads_issued}
 use Rattle.world_upheld.specs.explained.Explanations.{Explained, Explanations}
 use Rattle.world_upheld.specs.explained.Runs.{runs-are_explained}
 use Rattle.world_upheld.specs.hearing.Leases.{AllKeepCovered, all-runs-are_covered}
 use Rattle.world_upheld.specs.upheld.BeginVersions.{begins-well}
-use Rattle.world_upheld.specs.upheld.Begins.{AreRulesInForm}
+use Rattle.world_upheld.specs.upheld.Begins.{AreRulesInForm, held_at}
 use Rattle.world_upheld.specs.upheld.Upheld.{Grounds}
 use Rattle.world_closing.specs.forming.Epochs.{HasShortEpochs, all-lines-are-short, issued-short}
 use Rattle.world_closing.specs.forming.Fit.{AreLinesFit, its-line}

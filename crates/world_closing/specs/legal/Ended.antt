@@ -9,21 +9,23 @@ use Rattle.world_base.specs.declared.world.World.{World}
 use Rattle.world_base.specs.Ended.{HasEnded}
 use Rattle.world_base.specs.Events.{Rules}
 use Rattle.world_base.specs.Stops.{WorldRun}
-use Rattle.world_causes.specs.handing.Places.{snapshots-read}
+use Rattle.world_upheld.specs.upheld.Events.{given-before}
+use Rattle.world_upheld.specs.upheld.Upheld.{Grounds}
 use Rattle.world_commit.specs.attempts.History.{History}
-use Rattle.world_upheld.specs.below.Legal.{AreLines, Concluded, IsOver, report_over, runs-as_many, stored_over}
+use Rattle.world_upheld.specs.below.Legal.{Concluded, IsOver, report_over, runs-as_many, stored_over, durables_of}
 use Rattle.world_letters.specs.lines.LastLines.{lines-in-turn}
 use Rattle.world_letters.specs.lives.Counting.{AreCountedSo}
 use Rattle.world_letters.specs.lives.Legal.{AreCaused}
-use Rattle.world_upheld.specs.below.Plain.{durables_of, held_at, lines-apart, rules_of}
+use Rattle.world_closing.specs.legal.LinesApart.{lines-apart}
+use Rattle.world_closing.specs.Rules.{rules_of}
 use Rattle.world_upheld.specs.explained.Explanations.{HoldNoMoreSnapshots}
 use Rattle.world_upheld.specs.explained.Runs.{runs-are_explained}
-use Rattle.world_upheld.specs.upheld.Begins.{AreRulesInForm, RunBeginsWell, RunBeginsWith}
+use Rattle.world_upheld.specs.upheld.Begins.{AreRulesInForm, RunBeginsWell, RunBeginsWith, held_at}
 use Rattle.world_upheld.specs.upheld.Runs.{runs-have_grounds}
 use Rattle.world_closing.specs.legal.Following.{HoldsKept}
 use Rattle.world_closing.specs.legal.Headline.{reports-are_legal}
 use Rattle.world_closing.specs.legal.Moments.{runs-issue_once, runs-name}
-use Rattle.world_closing.specs.legal.Reads.{OpensWithDkeys}
+use Rattle.world_closing.specs.legal.Reads.{AreLines, OpensWithDkeys}
 
 -- ---- lines
 
@@ -36,14 +38,16 @@ ends-in_turn g w v A B run over = lines-in-turn (rules_of g) v (runs-have_ground
 
 -- and of each attempt there is one line
 abbrev pub AllEndsHaveLines : Type 0
-AllEndsHaveLines = (g : Given) (w v : World) → AreRulesInForm (rules_of g) → RunBeginsWell (rules_of g) g.opening w → WorldRun (rules_of g) w v → IsOver (rules_of g) v → AreLines g.script v
+AllEndsHaveLines = (g : Given) (w v : World) → AreRulesInForm (rules_of g) → RunBeginsWell (rules_of g) g.opening w → WorldRun (rules_of g) w v → IsOver (rules_of g) v → AreLines v
 
 pub ends-have_lines : AllEndsHaveLines
 ends-have_lines g w v A B run over = record {
-  reads = snapshots-read (rules_of g) g.script.targets A.form;
-  distinct = (runs-have_grounds (rules_of g) g.opening w v A B run).1.heard.epochs.distinct.distinct;
+  differ = (given-before (rules_of g) g.opening grounds.0 v grounds.1.heard).apart;
   apart = lines-apart g.job.attempts g.script v.lines (ends-in_turn g w v A B run over);
 }
+  where
+    grounds : (h : History) × Grounds (rules_of g) g.opening h v
+    grounds = runs-have_grounds (rules_of g) g.opening w v A B run
 
 -- ---- the headline
 

@@ -53,7 +53,8 @@ use Rattle.world_making.specs.freezings.Freezings.{Freezings, IsFromBefore, IsKn
 use Rattle.world_making.specs.freezings.Knowing.{IsLearned, LearnsBy, heard-knows, learned-is, learned-more, learned-new, moved-committed, moved-same}
 use Rattle.world_making.specs.freezings.Seeing.{found-known}
 use Rattle.world_making.specs.making.Snapshots.{holds_created}
-use Rattle.world_upheld.specs.below.Plain.{get-map, lines-stand}
+use Rattle.world_upheld.specs.upheld.Clients.{lines-stand}
+use Rattle.world_upheld.specs.below.Legal.{get-map}
 use Rattle.world_upheld.specs.below.Standing.{ClientsSpeak, sweeping-tells}
 use Rattle.world_upheld.specs.causing.DateLaws.{epoch-once}
 use Rattle.world_upheld.specs.upheld.Begins.{AreRulesInForm, RunBeginsWith, client_begins, snaps_held}

@@ -13,15 +13,16 @@ use Rattle.daos_model.specs.Opening.{Given, Outside}
 use Rattle.world_base.specs.declared.world.World.{World}
 use Rattle.world_base.specs.Events.{Rules}
 use Rattle.world_causes.specs.causes.Causes.{Stored}
-use Rattle.world_causes.specs.causes.IssuedOnce.{IssuedOnce}
+use Rattle.world_closing.specs.Issued.{IssuedOnce}
 use Rattle.world_causes.specs.causes.Shown.{Causes, OutcomeStands}
-use Rattle.world_causes.specs.handing.Places.{snapshots-read}
+use Rattle.world_upheld.specs.upheld.Events.{given-before}
 use Rattle.world_commit.specs.attempts.History.{History}
-use Rattle.world_upheld.specs.below.Legal.{AreLines, Concluded, report_over}
+use Rattle.world_upheld.specs.below.Legal.{Concluded, report_over, durables_of}
 use Rattle.world_letters.specs.lines.LastLines.{AreDone, HasClients}
 use Rattle.world_letters.specs.lives.Counting.{AreCountedSo}
 use Rattle.world_letters.specs.lives.Legal.{AreCaused, NoneIsStopped}
-use Rattle.world_upheld.specs.below.Plain.{durables_of, lines-apart, rules_of}
+use Rattle.world_closing.specs.legal.LinesApart.{lines-apart}
+use Rattle.world_closing.specs.Rules.{rules_of}
 use Rattle.world_upheld.specs.causing.Dates.{with_dates}
 use Rattle.world_upheld.specs.causing.OverDates.{CausesOverDates, later-reads_issued}
 use Rattle.world_upheld.specs.explained.Explanations.{Explained, upheld_of}
@@ -29,7 +30,7 @@ use Rattle.world_upheld.specs.upheld.Begins.{AreRulesInForm}
 use Rattle.world_closing.specs.Causes.{last-causes_show}
 use Rattle.world_closing.specs.legal.Naming.{ReadsNameSnapshots}
 use Rattle.world_closing.specs.legal.Outcomes.{OutcomesHold, in-turn, outcomes-are_legal}
-use Rattle.world_closing.specs.legal.Reads.{OpensWithDkeys, reads-are_legal}
+use Rattle.world_closing.specs.legal.Reads.{AreLines, OpensWithDkeys, reads-are_legal}
 use Rattle.world_closing.specs.legal.Told.{EndsTold, ends-are_told}
 
 -- ---- the end
@@ -65,10 +66,9 @@ module _ (g : Given) (outside : Outside) (held : ℕ → List Version) (h : Hist
   outcomes = record { upheld = upheld_of k.explained; names = k.names; wants = wants; targets = k.targets; clients = k.clients; done = k.done; none_stopped = k.none_stopped }
 
   -- of each attempt there is one line
-  pub are-lines : AreLines g.script v
+  are-lines : AreLines v
   are-lines = record {
-    reads = snapshots-read r g.script.targets A.form;
-    distinct = k.explained.explanations.reasons.accounted.grounds.heard.epochs.distinct.distinct;
+    differ = (given-before r g.opening h v k.explained.explanations.reasons.accounted.grounds.heard).apart;
     apart = lines-apart g.job.attempts g.script v.lines (in-turn g outside held h v outcomes);
   }
 

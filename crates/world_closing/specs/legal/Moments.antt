@@ -5,14 +5,13 @@ use Rattle.world_commit.specs.attempts.History.{History}
 use Rattle.world_base.specs.declared.world.World.{World}
 use Rattle.world_base.specs.Events.{Rules}
 use Rattle.world_base.specs.Stops.{Begins, Goes, WorldRun}
-use Rattle.world_causes.specs.causes.IssuedOnce.{IssuedOnce}
 use Rattle.world_causes.specs.causes.Storing.{AreApart, dated_ids}
 use Rattle.world_upheld.specs.below.Standing.{ClientsSpeak, decided-issued}
 use Rattle.world_upheld.specs.upheld.Begins.{AreRulesInForm, RunBeginsWith}
 use Rattle.world_upheld.specs.upheld.Runs.{grounds-begin, runs-have_grounds}
 use Rattle.world_upheld.specs.upheld.BeginVersions.{begins-well}
 use Rattle.world_upheld.specs.upheld.Upheld.{Grounds}
-use Rattle.world_closing.specs.Issued.{all-events-issue_once}
+use Rattle.world_closing.specs.Issued.{all-events-issue_once, IssuedOnce}
 use Rattle.world_closing.specs.legal.Following.{HoldsKept, all-events-name, runs-begin_named}
 use Rattle.world_closing.specs.legal.Naming.{ReadsNameSnapshots}
 

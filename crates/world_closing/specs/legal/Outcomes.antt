@@ -27,7 +27,7 @@ use Rattle.world_letters.specs.clients.Answered.{IsAnsweredWhole}
 use Rattle.world_letters.specs.lines.LastLines.{AreDone, HasClients, lines-in-turn}
 use Rattle.world_letters.specs.lives.Counting.{AreCountedSo}
 use Rattle.world_letters.specs.lives.Legal.{AreCaused, NoneIsStopped, stops-legal}
-use Rattle.world_upheld.specs.below.Plain.{rules_of}
+use Rattle.world_closing.specs.Rules.{rules_of}
 use Rattle.world_upheld.specs.upheld.Named.{command-knows}
 use Rattle.world_upheld.specs.upheld.Upheld.{Upheld}
 use Rattle.world_closing.specs.legal.Naming.{ReadsNameSnapshots}

@@ -32,8 +32,11 @@ use Rattle.world_contents.specs.gots.MoreLaws.{served-more, stays-remembered}
 use Rattle.world_contents.specs.gots.Right.{SeenHaveDkeys}
 use Rattle.world_contents.specs.gots.ToldLaws.{lines-right}
 use Rattle.world_contents.specs.reads.Transactions.{transactions}
-use Rattle.world_upheld.specs.below.Legal.{AreLines, Concluded, report_over, right-same, took-same_map}
-use Rattle.world_upheld.specs.below.Plain.{decided-form, durables_of}
+use Rattle.world_upheld.specs.below.Legal.{Concluded, report_over, right-same, durables_of}
+use Rattle.world_closing.specs.stands.Took.{EpochsDiffer, took-same_map}
+use Rattle.world_causes.specs.causes.LastCauses.{ids}
+use Rattle.world_causes.specs.causes.Storing.{AreApart}
+use Rattle.world_closing.specs.stands.Stores.{decided-form}
 
 -- ---- cells without a dkey
 
@@ -77,7 +80,12 @@ legal-by_same s o T U a same k = by a.epoch k
 
 -- ---- all of it
 
-module _ (r : Rules) (o : Opening) (held : ℕ → List Version) (h : History) (v : World) (form : IsInForm r.script.targets r.script) (opens : OpensWithDkeys o) (gots : Gots r h v) (c : Concluded r o held h v) (l : AreLines r.script v) where
+-- what is known of lines: of each attempt there is one, and no two were issued one epoch
+pub record AreLines (v : World) : Type 0 where
+  pub differ : EpochsDiffer v
+  pub apart : AreApart (ids (tries v.lines))
+
+module _ (r : Rules) (o : Opening) (held : ℕ → List Version) (h : History) (v : World) (form : IsInForm r.script.targets r.script) (opens : OpensWithDkeys o) (gots : Gots r h v) (c : Concluded r o held h v) (l : AreLines v) where
   -- what lines tell was served by the history that goes on, too
   served-later : (a : Attempt) → IsLineServed r h a → IsLineServed r c.so.later a
   served-later a s = served-more h c.so.later a.id r.script.targets (attempt_ops r.script a.id) a.epoch a.epoch a.gots a.conds (stays-remembered h c.so.later a.id a.epoch (λ q i. subst (Has q) (sym c.so.served) i)) s
@@ -87,13 +95,13 @@ module _ (r : Rules) (o : Opening) (held : ℕ → List Version) (h : History) (
     where
       one : (a : Attempt) → Has a (tries v.lines) → AttemptReadsLegal r.script o.stand (took r.script (resolved (durables_of v)) v.lines) a
       one a i =
-          legal-by_same r.script o.stand (taken_in (transactions r.script c.so.later)) (took r.script (resolved (durables_of v)) v.lines) a (λ e cell. sym (took-same_map r o held h v c l e cell))
+          legal-by_same r.script o.stand (taken_in (transactions r.script c.so.later)) (took r.script (resolved (durables_of v)) v.lines) a (λ e cell. sym (took-same_map r o held h v l.differ c l.apart e cell))
           (lines-right r o c.so.later r.script.targets a form c.so.reads.answers (seen-dkeys r o c.so.later form opens) (served-later a (has-all (IsLineServed r h) (tries v.lines) a gots.lines i)))
 
 -- What lines tell of reads is legal where it is known what became of attempts.
 abbrev pub AllReadsAreLegal : Type 0
 AllReadsAreLegal =
-    (r : Rules) (o : Opening) (held : ℕ → List Version) (h : History) (v : World) → IsInForm r.script.targets r.script → OpensWithDkeys o → Gots r h v → Concluded r o held h v → AreLines r.script v
+    (r : Rules) (o : Opening) (held : ℕ → List Version) (h : History) (v : World) → IsInForm r.script.targets r.script → OpensWithDkeys o → Gots r h v → Concluded r o held h v → AreLines v
     → ReadsLegal r.script o.stand (took r.script (resolved (durables_of v)) v.lines) (report_over r v)
 
 pub reads-are_legal : AllReadsAreLegal

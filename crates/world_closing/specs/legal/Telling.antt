@@ -28,7 +28,7 @@ use Rattle.world_base.specs.ClientTurns.{Move, about, answered, at_present, atte
 use Rattle.world_letters.specs.clients.Answered.{is_refusal}
 use Rattle.world_letters.specs.lines.Lines.{IsCommitted, IsRefusalOrNone, TellsEnd}
 use Rattle.world_causes.specs.losses.Moving.{end-is}
-use Rattle.world_contents.specs.verdicts.TellLaws.{AllRead, MoveTells, NoSnap, Nothing, moved-tells}
+use Rattle.world_causes.specs.outcomes.TellLaws.{AllRead, MoveTells, NoSnap, Nothing, moved-tells}
 
 none-some : {A : Type 0} {T : Type 0} (x : A) → None ≡ Some x → T
 none-some x bad = let no : ⊥ = cc in absurd no

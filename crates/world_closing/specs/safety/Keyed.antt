@@ -27,7 +27,7 @@ use Rattle.world_commit.specs.fates.Asked.{AskedRight}
 use Rattle.world_commit.specs.fates.Facts.{Attempts}
 use Rattle.world_upheld.specs.below.Legal.{stored_over}
 use Rattle.world_upheld.specs.below.Owners.{Brings, EventBrings, all-events-keep_versions}
-use Rattle.world_upheld.specs.below.Plain.{attempt-keys}
+use Rattle.world_answers.specs.KeyLaws.{attempt-keys}
 use Rattle.world_upheld.specs.below.Readers.{PreparesCarryOwn, attempts-prepare_own}
 use Rattle.world_upheld.specs.upheld.Events.{asked-so}
 use Rattle.world_upheld.specs.upheld.Runs.{idle, no-tries}

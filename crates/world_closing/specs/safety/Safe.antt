@@ -28,7 +28,7 @@ use Rattle.world_contents.specs.posts.Forms.{IsInForm}
 use Rattle.world_ended.specs.Clients.{AllEndWell}
 use Rattle.world_upheld.specs.below.Legal.{report_over, stored_over}
 use Rattle.world_letters.specs.kinds.Fitting.{AllAnswersFit}
-use Rattle.world_upheld.specs.below.Plain.{AreEnlisted, no_history, rules_of}
+use Rattle.world_closing.specs.Rules.{rules_of}
 use Rattle.world_upheld.specs.below.Readers.{AllBeginInTurn, AllKeepInForm, AnswersFitInWorld}
 use Rattle.world_upheld.specs.below.Standing.{AreSentSo}
 use Rattle.world_upheld.specs.causing.OverDates.{CausesOverDates}
@@ -36,7 +36,7 @@ use Rattle.world_upheld.specs.explained.Explanations.{Explanations, HoldNoMoreSn
 use Rattle.world_upheld.specs.hearing.Across.{GoAcross}
 use Rattle.world_upheld.specs.hearing.Hearable.{CanHearLetter}
 use Rattle.world_upheld.specs.hearing.Leases.{AllKeepCovered}
-use Rattle.world_upheld.specs.upheld.Begins.{AreRulesInForm, RunBeginsWell}
+use Rattle.world_upheld.specs.upheld.Begins.{AreRulesInForm, RunBeginsWell, AreEnlisted, no_history}
 use Rattle.world_closing.specs.asked.Over.{IsAllOver}
 use Rattle.world_closing.specs.forming.Forming.{IsSmallRun}
 

@@ -17,7 +17,7 @@ use Rattle.world_base.specs.declared.world.World.{World}
 use Rattle.world_base.specs.ClientTurns.{is_created_at}
 use Rattle.world_making.specs.freezings.Snapping.{snap-itself}
 use Rattle.world_making.specs.making.Snapshots.{holds_created}
-use Rattle.world_upheld.specs.below.Plain.{durable_of, durables_of}
+use Rattle.world_upheld.specs.below.Legal.{durable_of, durables_of}
 
 -- Each snapshot of before the run that target 0 holds as created is one of which the opening keeps a map.
 abbrev pub AreKeptBy : Opening → World → Type 0

@@ -3,10 +3,9 @@ use Rattle.std.specs.Prelude.{ℕ, ◌≡◌, ◌⊎◌, ◌<◌, ◌≤◌, ◌
 use Rattle.std.proofs.Common.{inl, inr, sym, ◌∙◌, ap, subst, arith}
 use Rattle.std.proofs.lemmas.Option.{slice_get_within}
 use Rattle.base_types.specs.declared.report.Attempt.{Attempt}
-use Rattle.base_types.specs.declared.report.Line.TheVariants as line
 use Rattle.model_laws.specs.Decided.{taken_in}
 use Rattle.model_laws.specs.DecidedLaws.{all-from_has, has-all}
-use Rattle.model_laws.specs.Lists.{any-of, has-cut}
+use Rattle.model_laws.specs.Lists.{any-of}
 use Rattle.model_laws.specs.Members.{Has, contains-from_has, has-filter}
 use Rattle.daos_model.specs.declared.durable.Version.{Version}
 use Rattle.daos_model.specs.declared.stand.SnapMap.{SnapMap}
@@ -34,8 +33,10 @@ use Rattle.world_letters.specs.waits.Requests.{is_lost_request}
 use Rattle.world_letters.specs.waits.Waits.{Conversation}
 use Rattle.world_making.specs.freezings.Freezings.{EndComes, Freezings, HasItsLine, IsFated, IsFatedSnap, LossComes}
 use Rattle.world_making.specs.freezings.InTheEnd.{committed-created}
-use Rattle.world_upheld.specs.below.Plain.{durables_of, rules_of}
-use Rattle.world_upheld.specs.below.Legal.{Concluded, among-tries, report_over}
+use Rattle.world_upheld.specs.below.Legal.{durables_of}
+use Rattle.world_closing.specs.Rules.{rules_of}
+use Rattle.world_upheld.specs.below.Legal.{Concluded, report_over}
+use Rattle.world_closing.specs.forming.ReportForms.{try-among}
 use Rattle.world_closing.specs.stands.Containers.{parts-same}
 use Rattle.world_closing.specs.stands.Created.{IsCreatedThere}
 use Rattle.world_closing.specs.stands.Stands.{HoldsOpenings, IsMadeHere}
@@ -63,10 +64,6 @@ module _ (r : Rules) (v : World) (talk : Conversation r v) (told : AreAllTold r 
           let clients : length v.clients ≡ length r.script.clients = told.clients in
           told.none l.to.number l (omega (arith, within, clients)) (contains-from_has v.messages l i) to
 
--- an attempt with its line is among those that lines tell of
-try-among : (v : World) (a : Attempt) → Has (line.Try a) v.lines → Has a (tries v.lines)
-try-among v a i = let c = has-cut v.lines (line.Try a) i in among-tries v.lines c.0 a c.1 c.2
-
 -- ---- snapshots
 
 -- So each snapshot that target 0 created in this run is that of an attempt with a line, which is committed, or of which its client isn't sure
@@ -82,7 +79,7 @@ module _ (r : Rules) (o : Opening) (v : World) (talk : Conversation r v) (reques
       by (EndComes l i says) = absurd (none-to_client r v talk told l i (ap is_tell says) ((requests.letters l i).end (ap is_end says)))
       by (LossComes l t down c name q i says) = absurd (none-to_client r v talk told l i (ap is_tell says) ((requests.letters l i).lost (ap is_lost_request says)))
       by (HasItsLine a i id epoch how) =
-          any-of (MayHaveMade r.script s) (tries v.lines) a (try-among v a i) ((f.snaps.0, record { command = ap (command_of r.script) id ∙ f.snaps.1; issued = epoch }), how)
+          any-of (MayHaveMade r.script s) (tries v.lines) a (try-among v.lines a i) ((f.snaps.0, record { command = ap (command_of r.script) id ∙ f.snaps.1; issued = epoch }), how)
 
 -- ---- all of it
 
@@ -96,7 +93,7 @@ module _ (g : Run) (held : ℕ → List Version) (h : History) (v : World) (give
   taken = took g.script (resolved (durables_of v)) v.lines
 
   same-maps : (e : ℕ) → SameMap (as_of g.opening.stand taken e) (as_of g.opening.stand (taken_in (transactions g.script c.so.later)) e)
-  same-maps e = took-same_map r g.opening held h v given c apart e
+  same-maps e = took-same_map r g.opening held h v given.apart c apart e
 
   -- a snapshot of target 0 is one of the opening, or new
   each-new : (s : SnapMap) → Has s (stand (durables_of v)).snaps → IsKeptIn g.opening.stand.snaps s ⊎ IsNewSnapshot g.script g.opening.stand taken (tries v.lines) s

@@ -1,5 +1,5 @@
 -- Stores in which nothing is left to settle, with snapshots that last: a run may begin with them, and the opening is what they stand for together.
-use Rattle.std.specs.Prelude.{ℕ, ◌≡◌, ◌≤◌, ◌<◌, ◌/◌, ◌&&◌, ◌||◌, ◌==◌, true, nat_lt, Contains, List, [], filter, is_some, length, map, slice_get, Some, refl}
+use Rattle.std.specs.Prelude.{ℕ, ◌≡◌, ◌≤◌, ◌<◌, ◌/◌, ◌&&◌, ◌||◌, ◌==◌, true, nat_lt, Contains, List, [], filter, is_some, length, map, slice_get, Some, refl, max, suc, zero, ◌∷◌}
 use Rattle.std.specs.Option.{option_map}
 use Rattle.std.proofs.Common.{sym, ◌∙◌, ap, subst, arith}
 use Rattle.base_types.specs.declared.epoch.Epoch.{Epoch}
@@ -30,9 +30,9 @@ use Rattle.world_base.specs.declared.world.World.{World}
 use Rattle.world_making.specs.freezings.Freezings.{KeepsFrozen}
 use Rattle.world_making.specs.making.Snapshots.{holds_created}
 use Rattle.world_contents.specs.reads.Versions.{HoldsMap, is_own_in}
-use Rattle.world_upheld.specs.below.Plain.{OpensWith, durable_of, durables_of, floors-rise, get-map, lease-within}
+use Rattle.world_upheld.specs.below.Legal.{get-map, durable_of, durables_of}
 use Rattle.world_upheld.specs.explained.Explanations.{HoldKeptSnapshots}
-use Rattle.world_upheld.specs.upheld.Begins.{KeepsSnapshots, is_settled_version, without_snaps}
+use Rattle.world_upheld.specs.upheld.Begins.{KeepsSnapshots, is_settled_version, without_snaps, OpensWith}
 use Rattle.world_upheld.specs.upheld.BeginVersions.{same-row}
 use Rattle.world_closing.specs.stands.Containers.{family-inside, map-inside, part-inside}
 use Rattle.world_closing.specs.stands.Covered.{edge_over, row-within}
@@ -40,6 +40,29 @@ use Rattle.world_closing.specs.stands.Created.{IsNamedIn, created-at, kept-among
 use Rattle.world_closing.specs.stands.Held.{opened-are_held}
 use Rattle.world_closing.specs.stands.Sounding.{covered-within}
 use Rattle.world_closing.specs.stands.Stands.{HoldsOpenings}
+
+-- no lease is above the greatest
+pub lease-within : (F : List Durable) (t : ℕ) (d : Durable) → slice_get F t ≡ Some d → d.lease ≤ greatest_lease F
+lease-within [] t d at = let no : ⊥ = cc in absurd no
+lease-within (e ∷ F) zero d at = let same : e.lease ≡ d.lease = cc in first e.lease d.lease (greatest_lease F) same
+  where
+    first : (a b c : ℕ) → a ≡ b → b ≤ max a c
+    first a b c same = omega (arith, same)
+lease-within (e ∷ F) (suc t) d at = later e.lease d.lease (greatest_lease F) (lease-within F t d at)
+  where
+    later : (a b c : ℕ) → b ≤ c → b ≤ max a c
+    later a b c low = omega (arith, low)
+
+-- and the greatest is at or below what all are
+pub leases-below : (F : List Durable) (b : ℕ) → ((t : ℕ) (d : Durable) → slice_get F t ≡ Some d → d.lease ≤ b) → greatest_lease F ≤ b
+leases-below [] b low = omega arith
+leases-below (e ∷ F) b low = both e.lease (greatest_lease F) (low 0 e refl) (leases-below F b (λ t d at. low (suc t) d at))
+  where
+    both : (a c : ℕ) → a ≤ b → c ≤ b → max a c ≤ b
+    both a c p q = omega (arith, p, q)
+
+pub floors-rise : (n low high : ℕ) → n ≤ restart_floor low → low ≤ high → n ≤ restart_floor high
+floors-rise n low high le up = omega (arith, le, up)
 
 -- ---- the statement
 

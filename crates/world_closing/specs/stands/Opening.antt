@@ -26,14 +26,13 @@ use Rattle.world_base.specs.Stops.{Begins, Goes, WorldEvent, WorldRun}
 use Rattle.world_making.specs.freezings.Freezings.{IsCreatedFirst, IsOfSnap}
 use Rattle.world_making.specs.freezings.Snapping.{created-frozen}
 use Rattle.world_making.specs.making.Snapshots.{holds_created}
-use Rattle.world_upheld.specs.below.Plain.{OpensWith}
-use Rattle.world_upheld.specs.upheld.Begins.{AreRulesInForm, RunBeginsWith}
+use Rattle.world_upheld.specs.upheld.Begins.{AreRulesInForm, RunBeginsWith, OpensWith}
 use Rattle.world_upheld.specs.upheld.BeginVersions.{begins-well, frozen-before, same-row, snap-before}
 use Rattle.world_upheld.specs.upheld.Runs.{runs-have_grounds}
 use Rattle.world_upheld.specs.below.Standing.{AreAll}
 use Rattle.world_closing.specs.stands.Covered.{IsRowWithin, IsWithin, edge_over}
 use Rattle.world_closing.specs.stands.Created.{AreKeptBy}
-use Rattle.world_closing.specs.stands.Snapped.{WasSnapped, all-events-snap_so}
+use Rattle.world_making.specs.freezings.Snapped.{WasSnapped, all-events-snap_so}
 use Rattle.world_closing.specs.stands.Stands.{HoldsOpenings}
 
 -- ---- what was created before the run

@@ -13,18 +13,18 @@ use Rattle.daos_model.specs.Opening.{Opening}
 use Rattle.dtx_base.specs.Leading.{entry_attempt}
 use Rattle.world_commit.specs.attempts.Attempts.{IsItsEntry, entry_at, entry_in, leader_of}
 use Rattle.world_commit.specs.attempts.History.{Decided, History}
-use Rattle.world_commit.specs.attempts.MarkTurns.{found-attempt}
-use Rattle.world_commit.specs.attempts.Stored.{row-found}
+use Rattle.world_commit.specs.attempts.Stored.{row-found, found-attempt}
 use Rattle.world_base.specs.declared.target.TargetState.{TargetState}
 use Rattle.world_base.specs.declared.world.World.{World}
 use Rattle.world_base.specs.Events.{Rules}
 use Rattle.world_causes.specs.hearing.Deciding.{AreEnded, MayEnd, end-all}
 use Rattle.world_contents.specs.reads.ChangeLaws.{entry-among}
 use Rattle.world_contents.specs.reads.Given.{Given}
-use Rattle.world_upheld.specs.below.Plain.{AreBefore, durables_of}
+use Rattle.world_upheld.specs.below.Legal.{durables_of}
 use Rattle.world_upheld.specs.below.Legal.{AreHeld, HasEntries, IsResolved, Resolves, decided-held, held-at, held-resolved, resolved-held}
 use Rattle.world_upheld.specs.upheld.Heard.{all-heard_right}
 use Rattle.world_upheld.specs.upheld.Upheld.{Upheld}
+use Rattle.world_upheld.specs.upheld.Begins.{AreBefore}
 
 -- ---- the entries of some targets
 

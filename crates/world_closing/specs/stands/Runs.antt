@@ -11,10 +11,11 @@ use Rattle.world_base.specs.Ended.{HasEnded}
 use Rattle.world_base.specs.Events.{Rules}
 use Rattle.world_base.specs.Stops.{WorldRun}
 use Rattle.world_contents.specs.reads.Given.{Given}
-use Rattle.world_upheld.specs.below.Plain.{AreBefore, durables_of, held_at, rules_of}
+use Rattle.world_upheld.specs.below.Legal.{durables_of}
+use Rattle.world_closing.specs.Rules.{rules_of}
 use Rattle.world_upheld.specs.below.Standing.{AreAll}
 use Rattle.world_upheld.specs.below.Legal.{Resolves, covered-of, runs-as_many}
-use Rattle.world_upheld.specs.upheld.Begins.{AreRulesInForm, RunBeginsWith, client_begins}
+use Rattle.world_upheld.specs.upheld.Begins.{AreRulesInForm, RunBeginsWith, client_begins, held_at, AreBefore}
 use Rattle.world_upheld.specs.upheld.Runs.{held-first, runs-are_upheld}
 use Rattle.world_upheld.specs.upheld.Upheld.{Upheld}
 use Rattle.world_closing.specs.stands.Covered.{IsWithin, all-runs-stay_within}

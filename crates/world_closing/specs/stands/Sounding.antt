@@ -26,10 +26,11 @@ use Rattle.world_base.specs.Events.{Rules}
 use Rattle.world_contents.specs.reads.Given.{FitsTargets}
 use Rattle.world_contents.specs.reads.MemberLaws.{bits-has}
 use Rattle.world_contents.specs.reads.Versions.{VersionsStand}
-use Rattle.world_upheld.specs.below.Plain.{AreBefore, durables_of, from-durables}
+use Rattle.world_upheld.specs.below.Legal.{from-durables, durables_of}
 use Rattle.world_upheld.specs.below.Standing.{AreAll}
 use Rattle.world_upheld.specs.below.Legal.{field-is, many}
 use Rattle.world_upheld.specs.upheld.Upheld.{Upheld}
+use Rattle.world_upheld.specs.upheld.Begins.{AreBefore}
 use Rattle.world_closing.specs.stands.Covered.{IsWithin, edge_over}
 use Rattle.world_closing.specs.stands.Resolving.{given, has-entries, its, one-epoch}
 

@@ -23,9 +23,10 @@ use Rattle.world_causes.specs.causes.LastCauses.{ids}
 use Rattle.world_causes.specs.causes.Storing.{AreApart}
 use Rattle.world_contents.specs.reads.Transactions.{decided_of}
 use Rattle.world_making.specs.freezings.Freezings.{IsCreatedFirst, IsOfSnap}
-use Rattle.world_upheld.specs.below.Plain.{durables_of, held_at, rules_of}
+use Rattle.world_upheld.specs.below.Legal.{durables_of}
+use Rattle.world_closing.specs.Rules.{rules_of}
 use Rattle.world_upheld.specs.below.Legal.{Concluded, IsResolved, report_over}
-use Rattle.world_upheld.specs.upheld.Begins.{AreRulesInForm, RunBeginsWith}
+use Rattle.world_upheld.specs.upheld.Begins.{AreRulesInForm, RunBeginsWith, held_at}
 use Rattle.world_closing.specs.stands.Containers.{IsMapIn}
 
 -- ---- the beginning

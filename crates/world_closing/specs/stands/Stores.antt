@@ -38,17 +38,29 @@ use Rattle.world_base.specs.Events.{Rules}
 use Rattle.world_contents.specs.reads.ChangeLaws.{decided-has, has-decided}
 use Rattle.world_contents.specs.reads.Given.{Given}
 use Rattle.world_contents.specs.reads.SnapLaws.{frozen-among}
-use Rattle.world_contents.specs.reads.Transactions.{counts_by, transactions}
+use Rattle.world_contents.specs.reads.Transactions.{counts_by, transactions, decided_of}
 use Rattle.world_contents.specs.reads.Versions.{HoldsMap, VersionsStand, is_own_in, mark_of}
 use Rattle.world_making.specs.freezings.Freezings.{Freezings, IsOfSnap}
 use Rattle.world_making.specs.freezings.Snapping.{created-frozen}
-use Rattle.world_upheld.specs.below.Plain.{below-lease, decided-form, durable_of, durables_of, from-durables, of-end}
+use Rattle.world_upheld.specs.below.Legal.{from-durables, durable_of, durables_of}
 use Rattle.world_upheld.specs.below.Standing.{AreAll}
 use Rattle.world_upheld.specs.below.Legal.{Resolves}
 use Rattle.world_closing.specs.stands.Containers.{EachGivesIn, IsMapIn, containers-agree, containers-stand_for, part-whole}
 use Rattle.world_closing.specs.stands.Covered.{IsWithin, edge_over, row-within}
 use Rattle.world_closing.specs.stands.Created.{AreKeptBy, IsCreatedThere, IsKeptOf, created-at, created-from, kept-among, kept-from, same-cont}
 use Rattle.world_closing.specs.stands.Stands.{HoldsOpenings, IsMadeHere, StandsForAll}
+use Rattle.world_contents.specs.posts.ScriptForm.{attempt-writes-form, of-end}
+use Rattle.daos_model.specs.Forms.{is_write_in_form}
+
+-- epochs that a lease covers are below a bound
+pub below-lease : (x l n : ℕ) → x / 256 ≤ l → l < n → x < n * 256
+below-lease x l n a b = omega (arith, a, b)
+
+-- a decided transaction's writes are in form
+pub decided-form : (r : Rules) (h : History) (targets : ℕ) → IsInForm targets r.script → (d : Decided) → Contains (transactions r.script h) d → All (λ w. is_write_in_form w.write ≡ true) d.writes
+decided-form r h targets form d i =
+    let p = has-from_map (decided_of r.script) h.decided d (has-from_contains (transactions r.script h) d i) in
+    subst (λ f. All (λ w. is_write_in_form w.write ≡ true) f.writes) p.2 (attempt-writes-form targets r.script p.0.0 form)
 
 -- ---- what is known of the targets
 

@@ -1,5 +1,5 @@
 -- What took effect by the lines of any run, where each attempt has one line at most, is what a history decided that goes on in the end.
-use Rattle.std.specs.Prelude.{ℕ, ◌≡◌, ◌≢◌, ◌++◌, ◌⊎◌, Bool, true, false, List, [], ◌∷◌, map, AllPairs, Option, Some, None, refl, if◌then◌else◌}
+use Rattle.std.specs.Prelude.{ℕ, ◌≡◌, ◌≢◌, ◌++◌, ◌⊎◌, Bool, true, false, Contains, List, [], ◌∷◌, map, AllPairs, Option, Some, None, refl, if◌then◌else◌}
 use Rattle.std.proofs.Common.{sym, ◌∙◌, ap, subst, inl, inr, arith}
 use Rattle.std.proofs.lemmas.List.Kept.{AllPairs-cons}
 use Rattle.base_types.specs.declared.epoch.Epoch.{Epoch}
@@ -29,9 +29,8 @@ use Rattle.world_base.specs.declared.world.World.{World}
 use Rattle.world_base.specs.Events.{Rules}
 use Rattle.world_causes.specs.causes.LastCauses.{ids}
 use Rattle.world_causes.specs.causes.Storing.{AreApart}
-use Rattle.world_contents.specs.reads.Given.{Given}
 use Rattle.world_contents.specs.reads.Transactions.{decided_of, transactions}
-use Rattle.world_upheld.specs.below.Plain.{durables_of, written-minors}
+use Rattle.world_upheld.specs.below.Legal.{written-minors, durables_of}
 use Rattle.world_upheld.specs.below.Legal.{Concluded, IsToldOf, one-line}
 
 -- ---- one line
@@ -144,12 +143,16 @@ pairs-apart s (i ∷ told) once own =
 
 -- ---- the maps of both
 
+-- no two attempts were issued one epoch
+abbrev pub EpochsDiffer : World → Type 0
+EpochsDiffer v = (x y : AttemptId) (e f : Epoch) → Contains v.issued (x, e) → Contains v.issued (y, f) → e.0 ≡ f.0 → x ≡ y
+
 -- an outcome that is neither
 neither : (how : Outcome) → (how ≡ outcome.Committed) ⊎ (is_unknown how ≡ true) → is_unknown how ≡ false → (how ≡ outcome.Committed → ⊥) → ⊥
 neither how (inl same) known off = off same
 neither how (inr unknown) known off = let no : ⊥ = cc (unknown, known) in no
 
-module _ (r : Rules) (o : Opening) (held : ℕ → List Version) (h : History) (v : World) (given : Given r o held v) (c : Concluded r o held h v) (apart : AreApart (ids (tries v.lines))) where
+module _ (r : Rules) (o : Opening) (held : ℕ → List Version) (h : History) (v : World) (differ : EpochsDiffer v) (c : Concluded r o held h v) (apart : AreApart (ids (tries v.lines))) where
   abbrev is_resolved : AttemptId → Bool
   is_resolved = resolved (durables_of v)
 
@@ -216,7 +219,7 @@ module _ (r : Rules) (o : Opening) (held : ℕ → List Version) (h : History) (
   are-decided : AreDecided (map (decided_of r.script) taken.told)
   are-decided = record {
     apart = pairs-apart r.script taken.told (taken.once apart)
-        (λ x y e f i j. given.apart x y e f (c.so.versions.issued x e (told-decided x e i)) (c.so.versions.issued y f (told-decided y f j)));
+        (λ x y e f i j. differ x y e f (c.so.versions.issued x e (told-decided x e i)) (c.so.versions.issued y f (told-decided y f j)));
     numbered = all-from_has IsNumbered (map (decided_of r.script) taken.told) (λ d i. has-all IsNumbered (transactions r.script c.so.later) d c.so.versions.apart.numbered (to-transactions d i));
   }
 

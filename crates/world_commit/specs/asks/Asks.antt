@@ -1,6 +1,6 @@
 -- What is told and asked between targets has a letter in flight until it is answered: what Marks name, which Fetches wait, and what
 -- idle work inquires.
-use Rattle.std.specs.Prelude.{ℕ, ◌≡◌, Bool, true, false, List, [], slice_get, Option, Some, None}
+use Rattle.std.specs.Prelude.{ℕ, ◌≡◌, Bool, true, false, List, Option, Some, None}
 use Rattle.std.specs.List.{list_all}
 use Rattle.base_types.specs.declared.entry.Entry.{Entry}
 use Rattle.base_types.specs.declared.entry.Verdict.{Verdict}
@@ -10,19 +10,12 @@ use Rattle.model_laws.specs.Members.{Has}
 use Rattle.base_messages.specs.declared.message.Message.TheVariants.{Mark, Marked, Query, Verdict as Verdict_message}
 use Rattle.dtx_base.specs.declared.leading.Naming.{Naming}
 use Rattle.dtx_base.specs.declared.leading.Undecided.{Undecided}
-use Rattle.dtx_base.specs.declared.member.Inquiry.{Inquiry}
-use Rattle.dtx_base.specs.declared.member.Parked.{Parked}
-use Rattle.dtx_base.specs.declared.member.QueryState.TheVariants as state
-use Rattle.dtx_base.specs.Joining.{asker}
 use Rattle.dtx_base.specs.Leading.{attempts_of}
 use Rattle.dtx_base.specs.Members.{has_target}
-use Rattle.world_commit.specs.attempts.Asked.{AskedRight}
-use Rattle.world_commit.specs.attempts.Attempts.{Attempts, IsBorn, IsOther, entry_at, is_prepare_to, leader_of, others_of, row_at}
-use Rattle.world_commit.specs.attempts.History.{GrowsBy, History, target_posts}
+use Rattle.world_commit.specs.attempts.Attempts.{entry_at, is_prepare_to, leader_of, others_of, row_at}
 use Rattle.world_base.specs.declared.letter.Letter.{Letter}
-use Rattle.world_base.specs.declared.target.TargetState.{TargetState}
 use Rattle.world_base.specs.declared.world.World.{World}
-use Rattle.world_base.specs.Events.{RightEvent, Rules}
+use Rattle.world_base.specs.Events.{Rules}
 use Rattle.world_base.specs.Letters.{target}
 
 -- a letter of this kind is in flight
@@ -36,25 +29,12 @@ pub data IsNamingOf (t : ℕ) (n : Naming) (l : Letter) : Type 0 where
   IsMark : (marks : List (AttemptId × Bool)) → l.message ≡ Mark n.inc marks → l.from ≡ target t → l.to ≡ target n.member → Has n.attempt (attempts_of marks) → IsNamingOf t n l
   IsMarked : (ids : List AttemptId) → l.message ≡ Marked n.inc ids → l.from ≡ target n.member → l.to ≡ target t → Has n.attempt ids → IsNamingOf t n l
 
--- of what a leader named and has no answer on, the Mark or the answer is in flight
-abbrev pub NamedAreSent : World → Type 0
-NamedAreSent w = (t : ℕ) (s : TargetState) (n : Naming) → slice_get w.targets t ≡ Some s → Has n s.memory.leader.named → Flies w (IsNamingOf t n)
-
 -- ---- which Fetches wait
 
 -- a letter is the Query by which a member asks what became of an attempt, for a Fetch or of itself, or the answer to it
 pub data IsQueryOf (m : ℕ) (x : AttemptId) (ask : Option AttemptId) (l : Letter) : Type 0 where
   IsQuery : (leader : ℕ) → l.message ≡ Query x ask → l.from ≡ target m → l.to ≡ target leader → IsQueryOf m x ask l
   IsVerdict : (inc : ℕ) (v : Verdict) → l.message ≡ Verdict_message x ask inc v → l.to ≡ target m → IsQueryOf m x ask l
-
--- what waits is a Fetch of some attempt, for which the leader of what it waits for was asked
-pub record IsParkedRight (w : World) (m : ℕ) (p : Parked) : Type 0 where
-  pub of : AttemptId
-  pub fetch : asker p.ask ≡ Some of
-  pub asked : Flies w (IsQueryOf m p.on (Some of))
-
-abbrev pub ParkedAreAsked : World → Type 0
-ParkedAreAsked w = (m : ℕ) (s : TargetState) (p : Parked) → slice_get w.targets m ≡ Some s → Has p s.memory.member.parked → IsParkedRight w m p
 
 -- ---- what idle work inquires
 
@@ -93,53 +73,8 @@ pub record IsUndecidedTold (m : ℕ) (x : AttemptId) (l : Letter) : Type 0 where
   pub says : l.message ≡ Verdict_message x None inc verdict.Undecided
   pub to : l.to ≡ target m
 
--- an inquiry is of an attempt that another target leads, and of which a Prepare was heard; it is unanswered while its Query or the answer
--- is in flight, and one that was answered undecided needs not be asked again
-pub record IsInquiryRight (r : Rules) (h : History) (w : World) (m : ℕ) (q : Inquiry) : Type 0 where
-  pub other : IsOther r q.attempt m
-  pub born : IsBorn r h w q.attempt
-  pub heard : NonePrepares w m q.attempt
-  pub up : q.state ≡ state.Down → ⊥
-  pub unanswered : q.state ≡ state.Unanswered → Flies w (IsQueryOf m q.attempt None)
-  pub undecided : q.state ≡ state.Undecided → IsToBeTold r w m q.attempt
-
--- of each Query of idle work, and of each answer, in flight: a Prepare was heard; and what was undecided is to be told
-pub record InquiriesAreRight (r : Rules) (h : History) (w : World) : Type 0 where
-  pub rows : (m : ℕ) (s : TargetState) (q : Inquiry) → slice_get w.targets m ≡ Some s → Has q s.memory.member.inquiries → IsInquiryRight r h w m q
-  pub heard : (m : ℕ) (x : AttemptId) → IsOther r x m → Flies w (IsQueryOf m x None) → NonePrepares w m x
-  pub told : (m : ℕ) (x : AttemptId) → Flies w (IsUndecidedTold m x) → IsToBeTold r w m x
-
 -- ---- what isn't decided
 
 -- an undecided attempt waits for a member
 abbrev pub RowsLack : Rules → World → Type 0
 RowsLack r w = (t : ℕ) (x : AttemptId) (u : Undecided) → row_at w t x ≡ Some u → list_all (has_target u.counted) (others_of r x) ≡ false
-
--- and no member is known to be down
-pub record RowsWait (r : Rules) (w : World) : Type 0 where
-  pub lacking : RowsLack r w
-  pub up : (t : ℕ) (s : TargetState) → slice_get w.targets t ≡ Some s → s.memory.leader.down ≡ 0
-
--- ---- all together
-
-pub record Asks (r : Rules) (h : History) (w : World) : Type 0 where
-  pub named : NamedAreSent w
-  pub parked : ParkedAreAsked w
-  pub inquiries : InquiriesAreRight r h w
-  pub rows : RowsWait r w
-
--- every right event keeps them, beside the facts of attempts, which hold before and after it
-abbrev pub AsksAreKept : Type 0
-AsksAreKept =
-    (r : Rules) (h later : History) (w v : World) → AskedRight r h w → Attempts r h w → (event : RightEvent r w v) → GrowsBy h (target_posts event) later → Attempts r later v → Asks r h w → Asks r later v
-
--- a target that remembers nothing
-pub record RemembersNothing (s : TargetState) : Type 0 where
-  pub undecided : s.memory.leader.undecided ≡ []
-  pub named : s.memory.leader.named ≡ []
-  pub down : s.memory.leader.down ≡ 0
-  pub parked : s.memory.member.parked ≡ []
-  pub inquiries : s.memory.member.inquiries ≡ []
-
-abbrev pub AsksBegin : Type 0
-AsksBegin = (r : Rules) (h : History) (w : World) → w.messages ≡ [] → ((t : ℕ) (s : TargetState) → slice_get w.targets t ≡ Some s → RemembersNothing s) → Asks r h w

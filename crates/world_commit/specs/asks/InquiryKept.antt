@@ -15,24 +15,23 @@ use Rattle.dtx_base.specs.declared.member.Inquiry.{Inquiry}
 use Rattle.dtx_base.specs.declared.member.QueryState.TheVariants as state
 use Rattle.dtx_base.specs.Joining.{inquiry_for, new_inquiry}
 use Rattle.dtx_base.specs.Leading.{entry_attempt, query_answer}
-use Rattle.world_commit.specs.asks.Asks.{Flies, InquiriesAreRight, IsQuery, IsQueryOf, IsToBeTold, IsUndecidedTold, IsVerdict, NonePrepares}
+use Rattle.world_commit.specs.asks.Asks.{Flies, IsQuery, IsQueryOf, IsToBeTold, IsUndecidedTold, IsVerdict, NonePrepares}
 use Rattle.world_commit.specs.asks.InquiryLaws.{InquiryAfter, IsInquired, WasAnswered, WasThere, hears-inquired, idles-inquired, queried, undecided-kept}
 use Rattle.world_commit.specs.asks.Knowing.{CommitsAreNew, KnowsAttempts, TellsOf}
-use Rattle.world_commit.specs.asks.Moving.{ClientMoves, TargetMoves, all-stay, goes-moves, heard-moves, hears-moves, idle-moves, now-here, same-there}
-use Rattle.world_commit.specs.asks.ParkedLaws.{IsOpenStill, asked-on, client-asked, queries-answered}
+use Rattle.world_commit.specs.asks.Moving.{ClientMoves, TargetMoves, heard-moves, idle-moves, now-here, same-there}
+use Rattle.world_commit.specs.asks.ParkedLaws.{IsOpenStill}
 use Rattle.world_commit.specs.asks.Sending.{MaySend, hears-sends}
-use Rattle.world_commit.specs.asks.Told.{LeavesTold, born-on, client-leaves, no-client, refused-told, told-on}
+use Rattle.world_commit.specs.asks.Told.{LeavesTold, born-on, client-leaves, no-client, refused-told}
 use Rattle.world_commit.specs.asks.ToldTurns.{AMark, AnInquiry, IsIdlySent, hears-leaves, idles-leave, idles-sends}
 use Rattle.world_commit.specs.attempts.Attempts.{IsBorn, IsHeld, IsItsEntry, IsOther, entry_at, entry_in, leader_of}
 use Rattle.world_commit.specs.attempts.Counting.{has-taken}
 use Rattle.world_commit.specs.attempts.History.{Aborted, History}
-use Rattle.world_commit.specs.attempts.MarkTurns.{target-is}
-use Rattle.world_commit.specs.attempts.Stored.{row-found}
+use Rattle.world_commit.specs.attempts.Stored.{row-found, target-is}
 use Rattle.world_commit.specs.attempts.Turning.{one-or_another}
 use Rattle.world_base.specs.declared.letter.Letter.{Letter}
 use Rattle.world_base.specs.declared.target.TargetState.{TargetState}
 use Rattle.world_base.specs.declared.world.World.{World}
-use Rattle.world_base.specs.Events.{ByClient, ByTarget, RightEvent, Rules, TargetHearsRightly, TargetIdles, ToClient, ToTarget, kept, target_after, target_plan}
+use Rattle.world_base.specs.Events.{Rules, TargetHearsRightly, TargetIdles, kept, target_after, target_plan}
 use Rattle.world_base.specs.Letters.{client, letter_of, target}
 use Rattle.world_base.specs.RightTurns.{HearsRightly}
 use Rattle.world_base.specs.Roles.{leader_at}
@@ -277,51 +276,3 @@ module _ (C D : World → ℕ → AttemptId → Type 0) (T : History → World �
       | inr sent ↦ absurd (no-answer m x f.0 sent.0 sent.2 (idle-asks sent.0 sent.1) f.2)
     ];
   }
-
--- ---- without stops
-
-abbrev IsFlying : World → ℕ → AttemptId → Type 0
-IsFlying w m x = Flies w (IsQueryOf m x None)
-
-abbrev NoneIsDown : World → ℕ → AttemptId → Type 0
-NoneIsDown w m x = ⊥
-
-abbrev IsToldStill : Rules → History → World → ℕ → AttemptId → Type 0
-IsToldStill r h w m x = IsToBeTold r w m x
-
-abbrev InquiriesPlain : Rules → History → World → Type 0
-InquiriesPlain r h w = InquiriesSo IsFlying NoneIsDown (IsToldStill r) r h w
-
-inquiries-so : (r : Rules) (h : History) (w : World) → InquiriesAreRight r h w → InquiriesPlain r h w
-inquiries-so r h w k = record {
-  rows = λ m s q here i. let z = k.rows m s q here i in record { other = z.other; born = z.born; heard = z.heard; down = z.up; unanswered = z.unanswered; undecided = z.undecided };
-  heard = k.heard;
-  told = k.told;
-}
-
-inquiries-are : (r : Rules) (h : History) (w : World) → InquiriesPlain r h w → InquiriesAreRight r h w
-inquiries-are r h w k = record {
-  rows = λ m s q here i. let z = k.rows m s q here i in record { other = z.other; born = z.born; heard = z.heard; up = z.down; unanswered = z.unanswered; undecided = z.undecided };
-  heard = k.heard;
-  told = k.told;
-}
-
-module _ (r : Rules) (h later : History) (w v : World) (Q : CommitsAreNew r h w) (A : KnowsAttempts r h w) (B : KnowsAttempts r later v) (grown : (x : AttemptId) → Aborted h x → Aborted later x) where
-  sense : LeavesTold r h later w v → SenseStays NoneIsDown (IsToldStill r) r h later w v
-  sense L = record { down = λ m x none. none; told = λ m x other heard t. told-on r h later w v B L m x other heard t; plainly = λ m x t. t }
-
-  by-kind : (e : RightEvent r w v) → InquiriesPlain r h w → InquiriesPlain r later v
-  by-kind (ByClient g) k =
-      client-inquiries IsFlying NoneIsDown (IsToldStill r) r h later w v grown A B k (goes-moves r w v g) (sense (client-leaves r h later w v grown B (goes-moves r w v g))) (λ m x. client-asked w v (goes-moves r w v g) m x None)
-  by-kind (ToClient g) k =
-      client-inquiries IsFlying NoneIsDown (IsToldStill r) r h later w v grown A B k (hears-moves r w v g) (sense (client-leaves r h later w v grown B (hears-moves r w v g))) (λ m x. client-asked w v (hears-moves r w v g) m x None)
-  by-kind (ToTarget g) k =
-      heard-inquiries IsFlying NoneIsDown (IsToldStill r) r h later w v Q grown A B k g (sense (hears-leaves r h later w v Q A B grown g))
-      (λ m x open'. asked-on w v g.t g.s (target_after g.s g.new g.memory) g.l g.did.posts (heard-moves r w v g) g.to_it
-      (queries-answered (target_plan r g.t) g.s.opening g.s.memory g.reading g.l.from g.l.message (kept g.s) g.new (g.memory, g.did) g.turn) m x None open')
-  by-kind (ByTarget g) k =
-      idle-inquiries IsFlying NoneIsDown (IsToldStill r) r h later w v grown A B k g (sense (idles-leave r h later w v g grown))
-      (λ m x f. (f.0, all-stay w v g.t g.s (target_after g.s g.new g.memory) g.did.posts (idle-moves r w v g) f.0 f.1, f.2)) (λ m x f. f)
-
-  pub inquiries-kept : (e : RightEvent r w v) → InquiriesAreRight r h w → InquiriesAreRight r later v
-  inquiries-kept e k = inquiries-are r later v (by-kind e (inquiries-so r h w k))

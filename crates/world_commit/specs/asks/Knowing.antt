@@ -1,6 +1,6 @@
 -- What the laws of questions need to know of attempts: they are stated over this, so that they hold with and without stops.
 use Rattle.std.specs.Prelude.{ℕ, ◌≡◌, Bool, true, false, List, slice_get, Option, Some, None}
-use Rattle.std.proofs.Common.{inl, inr, subst}
+use Rattle.std.proofs.Common.{inl, inr}
 use Rattle.base_types.specs.declared.entry.Verdict.{Verdict}
 use Rattle.base_types.specs.declared.epoch.Epoch.{Epoch}
 use Rattle.base_types.specs.declared.id.AttemptId.{AttemptId}
@@ -11,7 +11,7 @@ use Rattle.base_messages.specs.declared.message.Message.{Message}
 use Rattle.base_messages.specs.declared.message.Message.TheVariants as message
 use Rattle.dtx_base.specs.declared.leading.Undecided.{Undecided}
 use Rattle.world_commit.specs.attempts.Asked.{IsCommitNew}
-use Rattle.world_commit.specs.attempts.Attempts.{Attempts, Entries, IsBorn, IsFromLeader, IsOrdered, IsToLeader, IsTrueOf, entry_at, is_prepare_to, leader_of, row_at}
+use Rattle.world_commit.specs.attempts.Attempts.{Entries, IsBorn, IsFromLeader, IsOrdered, IsToLeader, entry_at, is_prepare_to, leader_of, row_at}
 use Rattle.world_commit.specs.attempts.History.{Aborted, History}
 use Rattle.world_base.specs.declared.letter.Letter.{Letter}
 use Rattle.world_base.specs.declared.target.TargetState.{TargetState}
@@ -50,32 +50,3 @@ CommitsAreNew r h w = (l : Letter) (x : AttemptId) (ep first : Option Epoch) (tr
 pub unborn-still : (r : Rules) (h : History) (w : World) (x : AttemptId) → entry_at w (leader_of r x) x ≡ None → (Aborted h x → ⊥) → IsBorn r h w x → ⊥
 unborn-still r h w x unstored unended (inl held) = let found = held.found in (let no : ⊥ = cc (found, unstored) in no)
 unborn-still r h w x unstored unended (inr a) = unended a
-
--- ---- runs without stops
-
-module _ (r : Rules) (h : History) (w : World) (A : Attempts r h w) where
-  told-so : (l : Letter) → (m : Message) → IsTrueOf r h w l.from l.to m → (x : AttemptId) → TellsOf x m → IsFromLeader r x l.from l.to
-  told-so l (message.Prepare e first ws inc) k x same = subst (λ y. IsFromLeader r y l.from l.to) same k.way
-  told-so l (message.Mark inc marks) k x i = (k x i.0 i.1).way
-  told-so l (message.Verdict y ask inc v) k x same = subst (λ z. IsFromLeader r z l.from l.to) same k.way
-  told-so l m k x none = absurd none
-
-  aborted-so : (l : Letter) → (m : Message) → IsTrueOf r h w l.from l.to m → (x : AttemptId) → SaysAborted x m → Aborted h x
-  aborted-so l (message.Mark inc marks) k x i = (k x false i).fate
-  aborted-so l m k x none = absurd none
-
-  says : (l : Letter) (m : Message) → Has l w.messages → l.message ≡ m → IsTrueOf r h w l.from l.to m
-  says l m i is = subst (IsTrueOf r h w l.from l.to) is (A.letters l i)
-
-  pub knows-attempts : KnowsAttempts r h w
-  knows-attempts = record {
-    entries = λ x. (A.each x).entries;
-    ordered = A.ordered;
-    rows = λ x t u at. let o = ((A.each x).rows.undecided t u at).here in (A.each x).entries.born t o.entry o.found;
-    before = λ x m l i is. (A.each x).awaited.before m l i is;
-    told = λ l x i k. told-so l l.message (A.letters l i) x k;
-    aborted = λ l x i k. aborted-so l l.message (A.letters l i) x k;
-    acks = λ l x inc refusal i is. (says l (message.Ack x inc refusal) i is).way;
-    asked = λ l x ask i is. let k = says l (message.Query x ask) i is in (k.way, k.born);
-    answered = λ l x ask inc v i is. (says l (message.Verdict x ask inc v) i is).born;
-  }

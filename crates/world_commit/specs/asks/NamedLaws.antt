@@ -23,13 +23,12 @@ use Rattle.world_base.specs.declared.did.Did.{Did}
 use Rattle.world_base.specs.declared.letter.Letter.{Letter}
 use Rattle.world_base.specs.declared.target.TargetMemory.{TargetMemory}
 use Rattle.world_base.specs.declared.target.TargetPlan.{TargetPlan}
-use Rattle.world_commit.specs.asks.Asks.{Flies, IsMark, IsMarked, IsNamingOf, NamedAreSent}
-use Rattle.world_commit.specs.asks.Moving.{ClientMoves, TargetMoves, all-stay, goes-moves, heard-moves, hears-moves, idle-moves, now-here, same-there}
-use Rattle.world_commit.specs.attempts.MarkTurns.{target-is}
+use Rattle.world_commit.specs.asks.Asks.{Flies, IsMark, IsMarked, IsNamingOf}
+use Rattle.world_commit.specs.asks.Moving.{ClientMoves, TargetMoves, now-here, same-there}
+use Rattle.world_commit.specs.attempts.Stored.{target-is}
 use Rattle.world_commit.specs.attempts.Turning.{one-or_another}
 use Rattle.world_base.specs.declared.target.TargetState.{TargetState}
 use Rattle.world_base.specs.declared.world.World.{World}
-use Rattle.world_base.specs.Events.{ByClient, ByTarget, RightEvent, Rules, ToClient, ToTarget, kept, target_after, target_plan}
 use Rattle.world_base.specs.Letters.{letter_of, target}
 use Rattle.world_base.specs.Acks as ack
 use Rattle.world_base.specs.Changes.{Change, Kept, Steps}
@@ -292,22 +291,3 @@ target-named C w v t s z heard posts Open g after new on k u y n here i = elim (
       ])
   | inr other ↦ on u n (λ e. absurd (other e)) (k u y n (sym (same-there w v t s z heard posts g u other) ∙ here) i)
 ]
-
--- the Mark or the answer is in flight
-abbrev pub IsSent : World → ℕ → Naming → Type 0
-IsSent w t n = Flies w (IsNamingOf t n)
-
-pub named-kept : (r : Rules) (w v : World) → NamedAreSent w → RightEvent r w v → NamedAreSent v
-named-kept r w v k (ByClient g) = untouched-named IsSent w v (goes-moves r w v g).targets (client-named w v (goes-moves r w v g)) k
-named-kept r w v k (ToClient g) = untouched-named IsSent w v (hears-moves r w v g).targets (client-named w v (hears-moves r w v g)) k
-named-kept r w v k (ToTarget g) =
-    target-named IsSent w v g.t g.s (target_after g.s g.new g.memory) (Some g.l) g.did.posts (λ n. IsUnanswered g.l.from n g.l.message) (heard-moves r w v g)
-    (hears-names (target_plan r g.t) g.s.opening g.s.memory g.reading g.l.from g.l.message (kept g.s) g.new (g.memory, g.did) g.turn)
-    (newly-flies w v g.t g.s (target_after g.s g.new g.memory) (Some g.l) g.did.posts (heard-moves r w v g))
-    (flies-on w v g.t g.s (target_after g.s g.new g.memory) g.l g.did.posts (heard-moves r w v g) g.to_it
-    (marks-answered (target_plan r g.t) g.s.opening g.s.memory g.reading g.l.from g.l.message (kept g.s) g.new (g.memory, g.did) g.turn)) k
-named-kept r w v k (ByTarget g) =
-    target-named IsSent w v g.t g.s (target_after g.s g.new g.memory) None g.did.posts (λ n. Unit {0}) (idle-moves r w v g)
-    (idles-names g.settling (target_plan r g.t) g.s.memory (kept g.s) g.new (g.memory, g.did) g.turn)
-    (newly-flies w v g.t g.s (target_after g.s g.new g.memory) None g.did.posts (idle-moves r w v g))
-    (λ u n open' f. (f.0, all-stay w v g.t g.s (target_after g.s g.new g.memory) g.did.posts (idle-moves r w v g) f.0 f.1, f.2)) k

@@ -16,9 +16,9 @@ use Rattle.daos_model.specs.Durables.{same_attempt}
 use Rattle.dtx_base.specs.declared.member.Parked.{Parked}
 use Rattle.dtx_base.specs.Joining.{MemberOf, asker, is_asker, is_not_waiting, is_parked_elsewhere, is_waiting, unresolved, verdict_heard}
 use Rattle.dtx_base.specs.Leading.{query_answer, to_target}
-use Rattle.world_commit.specs.asks.Asks.{Flies, IsQuery, IsQueryOf, IsVerdict, ParkedAreAsked}
-use Rattle.world_commit.specs.asks.Moving.{ClientMoves, TargetMoves, goes-moves, heard-moves, all-stay, hears-moves, idle-moves, now-here, same-there}
-use Rattle.world_commit.specs.attempts.MarkTurns.{target-is}
+use Rattle.world_commit.specs.asks.Asks.{Flies, IsQuery, IsQueryOf, IsVerdict}
+use Rattle.world_commit.specs.asks.Moving.{ClientMoves, TargetMoves, now-here, same-there}
+use Rattle.world_commit.specs.attempts.Stored.{target-is}
 use Rattle.world_commit.specs.attempts.Turning.{one-or_another}
 use Rattle.world_base.specs.declared.did.Did.{Did}
 use Rattle.world_base.specs.declared.letter.Letter.{Letter}
@@ -27,7 +27,6 @@ use Rattle.world_base.specs.declared.target.TargetMemory.{TargetMemory}
 use Rattle.world_base.specs.declared.target.TargetPlan.{TargetPlan}
 use Rattle.world_base.specs.declared.target.TargetState.{TargetState}
 use Rattle.world_base.specs.declared.world.World.{World}
-use Rattle.world_base.specs.Events.{ByClient, ByTarget, RightEvent, Rules, ToClient, ToTarget, kept, target_after, target_plan}
 use Rattle.world_base.specs.Letters.{letter_of, target}
 use Rattle.world_base.specs.Changes.{Kept}
 use Rattle.world_base.specs.MemoryLaws.{ack-leaves, commit-leaves, idle-leaves, mark-leaves, marked-leaves, member-then, prepare-leaves, query-leaves}
@@ -239,29 +238,3 @@ target-parked C w v t s z heard posts Open Still g after still new on k m y p he
       let a = k m y p (sym (same-there w v t s z heard posts g m other) ∙ here) i in
       record { of = a.of; fetch = a.fetch; asked = on m p.on (Some a.of) (λ e. absurd (other e)) a.asked }
 ]
-
--- the question or the answer is in flight
-abbrev pub IsInquired : World → ℕ → AttemptId → Option AttemptId → Type 0
-IsInquired w m x ask = Flies w (IsQueryOf m x ask)
-
-parked-so : (w : World) → ParkedAreAsked w → ParkedSo IsInquired w
-parked-so w k m s p here i = let a = k m s p here i in record { of = a.of; fetch = a.fetch; asked = a.asked }
-
-parked-are : (w : World) → ParkedSo IsInquired w → ParkedAreAsked w
-parked-are w k m s p here i = let a = k m s p here i in record { of = a.of; fetch = a.fetch; asked = a.asked }
-
-parked-so-kept : (r : Rules) (w v : World) → ParkedSo IsInquired w → RightEvent r w v → ParkedSo IsInquired v
-parked-so-kept r w v k (ByClient g) = untouched-parked IsInquired w v (goes-moves r w v g).targets (client-asked w v (goes-moves r w v g)) k
-parked-so-kept r w v k (ToClient g) = untouched-parked IsInquired w v (hears-moves r w v g).targets (client-asked w v (hears-moves r w v g)) k
-parked-so-kept r w v k (ToTarget g) =
-    target-parked IsInquired w v g.t g.s (target_after g.s g.new g.memory) (Some g.l) g.did.posts (IsWaitingStill g.l.message) (λ x ask. IsOpenStill x ask g.l.message) (heard-moves r w v g)
-    (hears-parks (target_plan r g.t) g.s.opening g.s.memory g.reading g.l.from g.l.message (kept g.s) g.new (g.memory, g.did) g.turn) (λ p of fetch still. still of fetch) (λ m x ask f. f)
-    (asked-on w v g.t g.s (target_after g.s g.new g.memory) g.l g.did.posts (heard-moves r w v g) g.to_it
-    (queries-answered (target_plan r g.t) g.s.opening g.s.memory g.reading g.l.from g.l.message (kept g.s) g.new (g.memory, g.did) g.turn)) k
-parked-so-kept r w v k (ByTarget g) =
-    target-parked IsInquired w v g.t g.s (target_after g.s g.new g.memory) None g.did.posts (λ p. Unit {0}) (λ x ask. Unit {0}) (idle-moves r w v g)
-    (idles-parks g.settling (target_plan r g.t) g.s.memory (kept g.s) g.new (g.memory, g.did) g.turn) (λ p of fetch still. tt) (λ m x ask f. f)
-    (λ m x ask open' f. (f.0, all-stay w v g.t g.s (target_after g.s g.new g.memory) g.did.posts (idle-moves r w v g) f.0 f.1, f.2)) k
-
-pub parked-kept : (r : Rules) (w v : World) → ParkedAreAsked w → RightEvent r w v → ParkedAreAsked v
-parked-kept r w v k e = parked-are v (parked-so-kept r w v (parked-so w k) e)

@@ -18,8 +18,7 @@ use Rattle.dtx_base.specs.Leading.{LeaderOf, LeaderStep, ack_heard, answer_heard
 use Rattle.dtx_base.specs.Members.{are_all_counted, has_target, is_other_member, other_members, with_target}
 use Rattle.dtx_base.specs.Rows.{is_empty, row_of, with_row, without_row}
 use Rattle.dtx_base.specs.RowLaws.{row-is, row-map, row-with, row-without}
-use Rattle.world_commit.specs.attempts.AckTurns.{counted-same}
-use Rattle.world_commit.specs.attempts.MemberBits.{has-none}
+use Rattle.world_commit.specs.attempts.MemberBits.{has-none, counted-same}
 use Rattle.world_commit.specs.attempts.Stored.{row-gone, row-new}
 use Rattle.world_commit.specs.attempts.Turning.{one-or_other}
 

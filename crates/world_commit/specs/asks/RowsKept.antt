@@ -18,14 +18,14 @@ use Rattle.dtx_base.specs.declared.leading.Undecided.{Undecided}
 use Rattle.dtx_base.specs.Leading.{ack_heard, entry_led, undecided_attempt}
 use Rattle.dtx_base.specs.Members.{has_target, other_members}
 use Rattle.dtx_base.specs.Rows.{row_of}
-use Rattle.world_commit.specs.asks.Asks.{RowsLack, RowsWait}
+use Rattle.world_commit.specs.asks.Asks.{RowsLack}
 use Rattle.world_commit.specs.asks.Knowing.{CommitsAreNew, KnowsAttempts, unborn-still}
 use Rattle.world_commit.specs.asks.Moving.{TargetMoves, goes-moves, heard-moves, hears-moves, idle-moves, now-here, same-there}
 use Rattle.world_commit.specs.asks.Rows.{IsLacking, LeadsOn, ack-leads, begun-rows}
 use Rattle.world_commit.specs.attempts.Attempts.{entry_in, leader_of, members_of, others_of, row_at, row_in}
 use Rattle.world_commit.specs.attempts.Counting.{has-taken}
 use Rattle.world_commit.specs.attempts.History.{History}
-use Rattle.world_commit.specs.attempts.MarkTurns.{led-found, target-is}
+use Rattle.world_commit.specs.attempts.Stored.{led-found, target-is}
 use Rattle.world_commit.specs.attempts.MemberBits.{others-same}
 use Rattle.world_commit.specs.attempts.Turning.{one-or_another}
 use Rattle.world_base.specs.declared.did.Did.{Did}
@@ -219,13 +219,3 @@ module _ (r : Rules) (h : History) (w v : World) (Q : CommitsAreNew r h w) (A : 
   masks-kept (ToTarget g) u = heard-masks r h w v Q A g u
   masks-kept (ByTarget g) u =
       target-masks w v g.t g.s (target_after g.s g.new g.memory) None g.did.posts (idle-moves r w v g) (idle-leaves g.settling (target_plan r g.t) g.s.memory g.turn.last g.new (g.memory, g.did) g.turn.ends).down u
-
-  pub rows-kept : RowsWait r w → RightEvent r w v → RowsWait r v
-  rows-kept k e = record {
-    lacking = lacks-kept k.lacking e;
-    up = λ t s here. sym (ap mask_in here) ∙ masks-kept e t ∙ by t (slice_get w.targets t) refl;
-  }
-    where
-      by : (t : ℕ) (o : Option TargetState) → slice_get w.targets t ≡ o → mask_in o ≡ 0
-      by t None is = refl
-      by t (Some s) is = k.up t s is

@@ -22,8 +22,7 @@ use Rattle.world_commit.specs.asks.Knowing.{KnowsAttempts, TellsOf}
 use Rattle.world_commit.specs.asks.Moving.{ClientMoves, TargetMoves, now-here, same-there}
 use Rattle.world_commit.specs.attempts.Attempts.{IsBorn, IsHeld, IsOther, entry_at, entry_in, is_asked_by, is_prepare_to, is_target, leader_of}
 use Rattle.world_commit.specs.attempts.History.{Aborted, History}
-use Rattle.world_commit.specs.attempts.Overs.{prepare-to}
-use Rattle.world_commit.specs.attempts.Turning.{one-or_another}
+use Rattle.world_commit.specs.attempts.Turning.{one-or_another, prepare-to}
 use Rattle.world_base.specs.declared.letter.Letter.{Letter}
 use Rattle.world_base.specs.declared.target.TargetState.{TargetState}
 use Rattle.world_base.specs.declared.world.World.{World}

@@ -30,7 +30,7 @@ use Rattle.world_commit.specs.attempts.Asked.{IsCommitNew}
 use Rattle.world_commit.specs.attempts.Attempts.{IsBorn, IsFromLeader, IsHeld, IsItsEntry, IsOther, entry_at, entry_in, leader_of}
 use Rattle.world_commit.specs.attempts.Counting.{has-taken}
 use Rattle.world_commit.specs.attempts.History.{Aborted, History}
-use Rattle.world_commit.specs.attempts.MarkTurns.{led-found, target-is}
+use Rattle.world_commit.specs.attempts.Stored.{led-found, target-is}
 use Rattle.world_commit.specs.attempts.MemberBits.{other-no_leader, others-same}
 use Rattle.world_base.specs.declared.did.Did.{Did}
 use Rattle.world_base.specs.declared.letter.Letter.{Letter}

@@ -10,6 +10,10 @@ use Rattle.dtx_base.specs.declared.leading.Undecided.{Undecided}
 use Rattle.dtx_base.specs.Leading.{LeaderOf, LeaderStep, ack_heard, answer_heard, answer_if_awaited, counted_at, decided, ended, entry_led, ok_heard, quietly, refusal_heard, undecided_of, with_undecided}
 use Rattle.dtx_base.specs.Members.{are_all_counted, has_target, is_other_member, other_members, with_target}
 use Rattle.world_base.specs.Acks.{is_awaited, is_awaited_of, is_refusing}
+use Rattle.base_messages.specs.declared.actor.ActorId.{ActorId}
+use Rattle.base_types.specs.declared.epoch.Epoch.{Epoch}
+use Rattle.base_messages.specs.declared.message.Post.{Post}
+use Rattle.base_messages.specs.declared.message.Message.TheVariants as message
 
 -- an attempt has an entry and a row at a leader
 pub record IsAwaited (a : AttemptId) (l : LeaderOf) (e : Entry) (u : Undecided) : Type 0 where
@@ -53,3 +57,10 @@ module _ (t : ℕ) (a : AttemptId) (inc : ℕ) (l : LeaderOf) (own : (inc == l.i
       by (Some e) led (Some u) row =
           subst (λ (b : Bool). AckIs t a inc refusal l (if b then answer_heard t a refusal e u l else quietly l)) (sym (other e led))
           (answer-is refusal e u (record { led = led; row = row }) (test (Some e) (Some u) led row ∙ ap (λ (b : Bool). (true && b) && is_some refusal) (other e led)))
+
+-- a message that tells of an attempt's end
+abbrev pub ended_post : ActorId → AttemptId → Option Epoch → Outcome → Post
+ended_post to x own how = record { to = to; message = message.Ended x own how }
+
+abbrev pub marking : AttemptId → Bool → AttemptId × Bool
+marking x c = (x, c)

@@ -1,5 +1,5 @@
 -- The facts of one attempt between its leader, each other member and the letters between them.
-use Rattle.std.specs.Prelude.{ℕ, ◌≡◌, ◌≢◌, ◌⊎◌, ◌+◌, ◌≤◌, Bool, true, false, ◌&&◌, ◌||◌, ◌==◌, not, List, [], ◌∷◌, slice_get, Option, Some, None}
+use Rattle.std.specs.Prelude.{ℕ, ◌≡◌, ◌≢◌, ◌⊎◌, ◌+◌, Bool, true, false, ◌&&◌, ◌==◌, not, List, [], ◌∷◌, slice_get, Option, Some, None}
 use Rattle.base_types.specs.declared.entry.Entry.{Entry}
 use Rattle.base_types.specs.declared.entry.Verdict.{Verdict}
 use Rattle.base_types.specs.declared.entry.Verdict.TheVariants as verdict
@@ -20,7 +20,7 @@ use Rattle.daos_model.specs.Ordered.{is_rising}
 use Rattle.daos_model.specs.Transactions.{attempt_ops}
 use Rattle.dtx_base.specs.declared.leading.Undecided.{Undecided}
 use Rattle.dtx_base.specs.Leading.{undecided_attempt}
-use Rattle.dtx_base.specs.Members.{has_target, other_members, writes_at}
+use Rattle.dtx_base.specs.Members.{has_target, other_members}
 use Rattle.dtx_base.specs.Rows.{is_among, itself, row_key, row_of}
 use Rattle.world_commit.specs.attempts.History.{Aborted, Decided, History}
 use Rattle.world_base.specs.declared.letter.Letter.{Letter}
@@ -123,68 +123,20 @@ pub record IsToLeader (r : Rules) (x : AttemptId) (from to : ActorId) : Type 0 w
   pub sender : from ≡ target member
   pub receiver : to ≡ target (leader_of r x)
 
--- a Prepare carries the entry as the leader stored it, at an epoch that was issued, and the writes of the member's groups
-pub record IsPrepareRight (r : Rules) (h : History) (w : World) (from to : ActorId) (e : Entry) (ws : List MinorWrite) (inc : ℕ) : Type 0 where
-  pub way : IsFromLeader r e.attempt from to
-  pub entry : e ≡ first_entry r e.attempt e.epoch
-  pub issued : Has (e.attempt, e.epoch) w.issued
-  pub writes : ws ≡ writes_at r.script.targets way.member (writes_of r e.attempt)
-  pub incarnation : inc ≡ inc_at w (leader_of r e.attempt)
-  pub born : IsBorn r h w e.attempt
-
 -- one who says Ok holds the attempt, unless it is aborted; one who refuses tells of no commit
 abbrev pub IsOkRight : History → World → AttemptId → ℕ → Option Outcome → Type 0
 IsOkRight h w x m None = IsHeld w m x ⊎ Aborted h x
 IsOkRight h w x m (Some how) = how ≢ Committed
-
-pub record IsAckRight (r : Rules) (h : History) (w : World) (from to : ActorId) (x : AttemptId) (inc : ℕ) (refusal : Option Outcome) : Type 0 where
-  pub way : IsToLeader r x from to
-  pub incarnation : inc ≡ inc_at w (leader_of r x)
-  pub born : IsBorn r h w x
-  pub held : IsOkRight h w x way.member refusal
 
 -- what is said to be committed is decided; what is said to be aborted is aborted
 abbrev pub IsMarkTrue : History → AttemptId → Bool → Type 0
 IsMarkTrue h x true = (e : Epoch) × Decided h x e
 IsMarkTrue h x false = Aborted h x
 
-pub record IsMarkRight (r : Rules) (h : History) (w : World) (from to : ActorId) (x : AttemptId) (inc : ℕ) (committed : Bool) : Type 0 where
-  pub way : IsFromLeader r x from to
-  pub incarnation : inc ≡ inc_at w (leader_of r x)
-  pub fate : IsMarkTrue h x committed
-
--- a member that has settled an attempt has committed it, or the attempt is aborted
-pub record IsMarkedRight (r : Rules) (h : History) (w : World) (from to : ActorId) (x : AttemptId) (inc : ℕ) : Type 0 where
-  pub way : IsToLeader r x from to
-  pub incarnation : inc ≡ inc_at w (leader_of r x)
-  pub settled : IsSettled w way.member x ⊎ Aborted h x
-
-pub record IsQueryRight (r : Rules) (h : History) (w : World) (from to : ActorId) (x : AttemptId) : Type 0 where
-  pub way : IsToLeader r x from to
-  pub born : IsBorn r h w x
-
 abbrev pub IsVerdictTrue : History → AttemptId → Verdict → Type 0
 IsVerdictTrue h x verdict.Committed = (e : Epoch) × Decided h x e
 IsVerdictTrue h x verdict.Aborted = Aborted h x
 IsVerdictTrue h x verdict.Undecided = Unit {0}
-
-pub record IsVerdictRight (r : Rules) (h : History) (w : World) (from to : ActorId) (x : AttemptId) (v : Verdict) : Type 0 where
-  pub way : IsFromLeader r x from to
-  pub born : IsBorn r h w x
-  pub fate : IsVerdictTrue h x v
-
--- what a letter between targets says is so; letters of clients are other crates' matter
-abbrev pub IsTrueOf : Rules → History → World → ActorId → ActorId → Message → Type 0
-IsTrueOf r h w from to (message.Prepare e first ws inc) = IsPrepareRight r h w from to e ws inc
-IsTrueOf r h w from to (message.Ack x inc refusal) = IsAckRight r h w from to x inc refusal
-IsTrueOf r h w from to (message.Mark inc marks) = (x : AttemptId) (committed : Bool) → Has (x, committed) marks → IsMarkRight r h w from to x inc committed
-IsTrueOf r h w from to (message.Marked inc ids) = (x : AttemptId) → Has x ids → IsMarkedRight r h w from to x inc
-IsTrueOf r h w from to (message.Query x ask) = IsQueryRight r h w from to x
-IsTrueOf r h w from to (message.Verdict x ask inc v) = IsVerdictRight r h w from to x v
-IsTrueOf r h w from to m = Unit {0}
-
-abbrev pub AreTrue : Rules → History → World → Type 0
-AreTrue r h w = (l : Letter) → Has l w.messages → IsTrueOf r h w l.from l.to l.message
 
 -- ---- who is asked
 
@@ -196,17 +148,8 @@ abbrev pub is_asked_by : AttemptId → ℕ → ActorId → Message → Bool
 is_asked_by x m to (message.Prepare e first ws inc) = same_attempt e.attempt x && is_target m to
 is_asked_by x m to n = false
 
--- a member answers that
-abbrev pub is_answered_by : AttemptId → ℕ → ActorId → Message → Bool
-is_answered_by x m from (message.Ack a inc refusal) = same_attempt a x && is_target m from
-is_answered_by x m from n = false
-
 unfoldable pub is_prepare_to : AttemptId → ℕ → Letter → Bool
 is_prepare_to x m l = is_asked_by x m l.to l.message
-
--- a Prepare to a member, or its answer
-unfoldable pub is_asking : AttemptId → ℕ → Letter → Bool
-is_asking x m l = is_asked_by x m l.to l.message || is_answered_by x m l.from l.message
 
 abbrev pub one_if : Bool → ℕ
 one_if true = 1
@@ -216,9 +159,6 @@ one_if false = 0
 abbrev pub count : {T : Type 0} → (T → Bool) → List T → ℕ
 count p [] = 0
 count p (x ∷ xs) = one_if (p x) + count p xs
-
-abbrev pub asking : AttemptId → ℕ → World → ℕ
-asking x m w = count (is_asking x m) w.messages
 
 -- ---- the facts of one attempt
 
@@ -259,55 +199,18 @@ pub record IsOpenAt (r : Rules) (w : World) (x : AttemptId) (t : ℕ) : Type 0 w
   pub found : entry_at w t x ≡ Some entry
   pub prepared : entry.committed ≡ false
 
--- a row of an attempt: it isn't decided, and a client waits for its end
-pub record IsUndecided (r : Rules) (h : History) (w : World) (x : AttemptId) (t : ℕ) (u : Undecided) : Type 0 where
-  pub here : IsOpenAt r w x t
-  pub undecided : (e : Epoch) → Decided h x e → ⊥
-  pub client : ActorId
-  pub waits : u.client ≡ Some client
-
 -- an attempt that is known as decided: it is, at the epoch of its entry
 pub record IsUnsettled (r : Rules) (h : History) (w : World) (x : AttemptId) (t : ℕ) : Type 0 where
   pub here : IsOpenAt r w x t
   pub decided : Decided h x here.entry.epoch
 
--- what its leader remembers of an attempt
-pub record Rows (r : Rules) (h : History) (w : World) (x : AttemptId) : Type 0 where
-  -- rows are of entries that the leader hasn't committed
-  pub undecided : (t : ℕ) (u : Undecided) → row_at w t x ≡ Some u → IsUndecided r h w x t u
-  pub unsettled : (t : ℕ) → is_known_at w t x ≡ true → IsUnsettled r h w x t
-  -- and each such entry has one; none has two, since one says that the attempt is decided, and the other that it isn't
-  pub either : (e : Entry) → entry_at w (leader_of r x) x ≡ Some e → e.committed ≡ false
-      → (is_known_at w (leader_of r x) x ≡ true) ⊎ ((u : Undecided) × (row_at w (leader_of r x) x ≡ Some u))
-
--- who is asked to prepare an attempt, has answered, and is counted
-pub record Awaited (r : Rules) (h : History) (w : World) (x : AttemptId) : Type 0 where
-  -- of each other member of an undecided attempt just one: a Prepare to it is in flight, or its answer, or it is counted
-  pub once : (m : ℕ) (u : Undecided) → IsOther r x m → row_at w (leader_of r x) x ≡ Some u → asking x m w + one_if (has_target u.counted m) ≡ 1
-  -- of a decided one none
-  pub none : (m : ℕ) (e : Epoch) → IsOther r x m → Decided h x e → asking x m w ≡ 0
-  -- of one that is aborted at most one
-  pub few : (m : ℕ) → IsOther r x m → asking x m w ≤ 1
-  -- while a Prepare is in flight, the member holds nothing of the attempt
-  pub before : (m : ℕ) (l : Letter) → Has l w.messages → is_prepare_to x m l ≡ true → entry_at w m x ≡ None
-  -- a member that is counted holds the attempt
-  pub counted : (m : ℕ) (u : Undecided) → IsOther r x m → row_at w (leader_of r x) x ≡ Some u → has_target u.counted m ≡ true → IsHeld w m x
-
 -- ---- all together
-
--- the facts of one attempt
-pub record Attempt (r : Rules) (h : History) (w : World) (x : AttemptId) : Type 0 where
-  pub entries : Entries r h w x
-  pub rows : Rows r h w x
-  pub awaited : Awaited r h w x
 
 -- what a target keeps and remembers stands in the order of attempts, so none stands twice
 pub record IsOrdered (s : TargetState) : Type 0 where
   pub entries : is_rising entry_key s.durable.entries ≡ true
   pub decided : is_rising (row_key itself) s.memory.leader.decided ≡ true
 
--- the facts of all attempts, and what letters between targets say
-pub record Attempts (r : Rules) (h : History) (w : World) : Type 0 where
-  pub each : (x : AttemptId) → Attempt r h w x
-  pub letters : AreTrue r h w
-  pub ordered : (t : ℕ) (s : TargetState) → slice_get w.targets t ≡ Some s → IsOrdered s
+-- an attempt's leader, or another member of it
+abbrev pub IsMember : Rules → AttemptId → ℕ → Type 0
+IsMember r x t = (t ≡ leader_of r x) ⊎ IsOther r x t

@@ -37,12 +37,6 @@ is_decided h x = list_any (is_issue_of x) h.decided
 abbrev pub decides : History → AttemptId → Epoch → History
 decides h x e = record h { decided = (x, e) ∷ h.decided }
 
-abbrev pub aborts : History → AttemptId → History
-aborts h x = record h { aborted = x ∷ h.aborted }
-
-abbrev pub serves : History → Served → History
-serves h q = record h { served = q ∷ h.served }
-
 -- an attempt was decided at an epoch, or was aborted
 abbrev pub Decided : History → AttemptId → Epoch → Type 0
 Decided h x e = Has (x, e) h.decided

@@ -1,5 +1,5 @@
 -- Members as bits, and those that aren't the leader.
-use Rattle.std.specs.Prelude.{ℕ, ◌≡◌, ◌^◌, ◌<◌, true, false, ◌&&◌, ◌==◌, not, refl}
+use Rattle.std.specs.Prelude.{ℕ, ◌≡◌, ◌^◌, ◌<◌, true, false, ◌&&◌, ◌==◌, not, refl, Bool, if◌then◌else◌}
 use Rattle.std.specs.Int.{bit_at}
 use Rattle.std.proofs.Common.{sym, subst, arith, max}
 use Rattle.std.proofs.lemmas.Bool.Decides.{nat_tests}
@@ -11,6 +11,9 @@ use Rattle.daos_model.specs.BoolLaws.{and_right, clash, not_true}
 use Rattle.dtx_base.specs.Members.{all_targets, has_target, is_other_member, other_members, with_target}
 use Rattle.world_commit.specs.attempts.Attempts.{IsOther, first_entry, leader_of, members_of, others_of}
 use Rattle.world_base.specs.Events.{Rules}
+use Rattle.dtx_base.specs.declared.leading.Undecided.{Undecided}
+use Rattle.dtx_base.specs.Leading.{counted_at, undecided_attempt}
+use Rattle.daos_model.specs.Durables.{same_attempt}
 
 -- an entry's other members are those of its attempt
 pub others-same : (r : Rules) (x : AttemptId) (e : Entry) → e.leader ≡ leader_of r x → e.members ≡ members_of r x → other_members e ≡ others_of r x
@@ -55,3 +58,10 @@ has-with_other set t m other =
 pub has-none : (m : ℕ) → has_target 0 m ≡ false
 unfolding has_target
 has-none m = rw (bit_at-zero m) refl
+
+pub counted-same : (a : AttemptId) (t : ℕ) (u : Undecided) → undecided_attempt (counted_at a t u) ≡ undecided_attempt u
+counted-same a t u = by (same_attempt u.attempt a)
+  where
+    by : (s : Bool) → undecided_attempt (if s then record u { counted = with_target u.counted t } else u) ≡ undecided_attempt u
+    by true = refl
+    by false = refl

@@ -1,28 +1,33 @@
 -- What a target finds among its entries and rows after a change.
-use Rattle.std.specs.Prelude.{ℕ, ◌≡◌, ◌≢◌, Bool, true, false, ◌||◌, not, bit_or, ◌^◌, map, List, [], ◌∷◌, Option, Some, None, refl, if◌then◌else◌}
+use Rattle.std.specs.Prelude.{ℕ, ◌≡◌, ◌≢◌, Bool, true, false, ◌||◌, not, bit_or, ◌^◌, map, List, [], ◌∷◌, Option, Some, None, refl, if◌then◌else◌, filter, find, ◌==◌}
 use Rattle.std.specs.Option.{option_map}
-use Rattle.std.proofs.Common.{sym, ◌∙◌, ap, subst, inl, inr}
+use Rattle.std.proofs.Common.{sym, ◌∙◌, ap, subst, inl, inr, arith}
 use Rattle.base_types.specs.declared.entry.Entry.{Entry}
 use Rattle.base_types.specs.declared.entry.Settle.TheVariants.{Commit, Abort, Confirm}
 use Rattle.base_types.specs.declared.id.AttemptId.{AttemptId}
 use Rattle.base_types.specs.declared.operation.MinorWrite.{MinorWrite}
 use Rattle.model_laws.specs.DecidedLaws.{all-from_has}
-use Rattle.model_laws.specs.EntryLaws.{key-is}
-use Rattle.model_laws.specs.Members.{Has, any-has, has-any}
+use Rattle.model_laws.specs.EntryLaws.{key-is, found-has}
+use Rattle.model_laws.specs.Members.{Has, any-has, has-any, has-filter, has-from_filter}
 use Rattle.model_laws.specs.RisingLaws.{after-has}
 use Rattle.daos_model.specs.declared.durable.Durable.{Durable}
 use Rattle.daos_model.specs.Answers.{is_before}
 use Rattle.daos_model.specs.BoolLaws.{and_left, and_right, clash, false_of, or_from_right}
 use Rattle.daos_model.specs.Changes.{committed_at, confirmed_at, is_other, leased, prepared, settled}
-use Rattle.daos_model.specs.Durables.{attempt_key, entry_key, entry_of, same_attempt}
+use Rattle.daos_model.specs.Durables.{attempt_key, entry_key, entry_of, same_attempt, is_entry_of}
 use Rattle.daos_model.specs.EntryLaws.{same_attempt-itself}
 use Rattle.daos_model.specs.Ordered.{all_after, is_rising}
 use Rattle.daos_model.specs.OrderLaws.{before-itself, rising-filter, rising-map, rising-put}
 use Rattle.dtx_base.specs.LeaderLaws.{same-is}
-use Rattle.dtx_base.specs.Leading.{entry_attempt}
+use Rattle.dtx_base.specs.Leading.{entry_attempt, entry_led, is_led}
 use Rattle.dtx_base.specs.RowLaws.{other-is_not, row-is, row-map}
 use Rattle.dtx_base.specs.Rows.{is_among, is_attempt, itself, row_key, row_of, with_row, without_row}
 use Rattle.world_base.specs.EntryLaws.{same-committed, same-confirmed}
+use Rattle.world_base.specs.Roles.{is_open_entry, is_prepared, leader_at, other_leader, other_leader_of}
+use Rattle.world_base.specs.declared.target.TargetMemory.{TargetMemory}
+use Rattle.world_base.specs.declared.target.TargetPlan.{TargetPlan}
+use Rattle.std.proofs.lemmas.Bool.Decides.{nat_tests}
+use Rattle.world_base.specs.Letters.{target}
 
 -- ---- rows of any kind
 
@@ -182,3 +187,68 @@ rising-confirmed a t d rises = rising-map entry_key (confirmed_at a t) (λ e. ap
 pub rising-aborted : (a : AttemptId) (d : Durable) → is_rising entry_key d.entries ≡ true → is_rising entry_key (settled a Abort d).entries ≡ true
 unfolding settled
 rising-aborted a d rises = rising-filter entry_key (is_other a) d.entries rises
+
+-- what is prepared has an entry that isn't committed
+pub prepared-entry : (a : AttemptId) (d : Durable) → is_prepared a d ≡ true → (e : Entry) × (entry_of d a ≡ Some e) × (e.committed ≡ false)
+unfolding is_prepared
+prepared-entry a d is = by (entry_of d a) refl is
+  where
+    by : (o : Option Entry) → entry_of d a ≡ o → is_open_entry o ≡ true → (e : Entry) × (entry_of d a ≡ Some e) × (e.committed ≡ false)
+    by None at is = let no : ⊥ = cc in absurd no
+    by (Some e) at is = (e, at, off e.committed is)
+      where
+        off : (b : Bool) → not b ≡ true → b ≡ false
+        off true is = let no : ⊥ = cc in absurd no
+        off false is = refl
+
+pub found-attempt : (d : Durable) (a : AttemptId) (e : Entry) → entry_of d a ≡ Some e → e.attempt ≡ a
+unfolding entry_of
+found-attempt d a e found = same-is e.attempt a (row-is entry_attempt a d.entries e found)
+
+-- what stands among the entries is found
+pub found-here : (d : Durable) (e : Entry) → is_rising entry_key d.entries ≡ true → Has e d.entries → entry_of d e.attempt ≡ Some e
+unfolding entry_of
+found-here d e rises i = row-found entry_attempt d.entries e rises i
+
+-- what a leader finds is found among all entries, and it leads it
+pub led-found : (p : TargetPlan) (m : TargetMemory) (d : Durable) (a : AttemptId) (e : Entry) → is_rising entry_key d.entries ≡ true → entry_led a (leader_at p m d) ≡ Some e → (entry_of d a ≡ Some e) × (e.leader ≡ p.me)
+led-found p m d a e rises at =
+    let is = has-from_filter (is_led p.me) d.entries e (found-has (is_entry_of a) (filter (is_led p.me) d.entries) e at) in
+    let own : e.attempt ≡ a = same-is e.attempt a (row-is entry_attempt a (filter (is_led p.me) d.entries) e at) in
+    let leads : (e.leader == p.me) ≡ true = is.1 in
+    (subst (λ x. entry_of d x ≡ Some e) own (found-here d e rises is.0), grind (arith, nat_tests))
+
+-- and what is found that it leads, a leader finds
+pub found-led : (p : TargetPlan) (m : TargetMemory) (d : Durable) (a : AttemptId) (e : Entry) → is_rising entry_key d.entries ≡ true → entry_of d a ≡ Some e → e.leader ≡ p.me → entry_led a (leader_at p m d) ≡ Some e
+unfolding entry_of
+found-led p m d a e rises at leads =
+    let own : e.attempt ≡ a = found-attempt d a e at in
+    let leads-test : is_led p.me e ≡ true = grind (arith, nat_tests) in
+    subst (λ x. find (is_entry_of x) (filter (is_led p.me) d.entries) ≡ Some e) own
+    (row-found entry_attempt (filter (is_led p.me) d.entries) e (rising-filter entry_key (is_led p.me) d.entries rises)
+    (has-filter (is_led p.me) d.entries e (found-has (is_entry_of a) d.entries e at) leads-test))
+
+pub target-is : (t u : ℕ) → target t ≡ target u → t ≡ u
+target-is t u same = ap (λ a. a.number) same
+
+-- the other target that leads an attempt with an entry here
+pub other-entry : (p : TargetPlan) (a : AttemptId) (d : Durable) (leader : ℕ) → other_leader p a d ≡ Some leader → (e : Entry) × (entry_of d a ≡ Some e) × (e.leader ≡ leader) × (e.leader ≡ p.me → ⊥)
+unfolding other_leader
+other-entry p a d leader is = by (entry_of d a) refl is
+  where
+    by : (o : Option Entry) → entry_of d a ≡ o → other_leader_of p.me o ≡ Some leader → (e : Entry) × (entry_of d a ≡ Some e) × (e.leader ≡ leader) × (e.leader ≡ p.me → ⊥)
+    by None at is = let no : ⊥ = cc in absurd no
+    by (Some e) at is = led (e.leader == p.me) refl is
+      where
+        led : (b : Bool) → (e.leader == p.me) ≡ b → (if b then None else Some e.leader) ≡ Some leader → (e : Entry) × (entry_of d a ≡ Some e) × (e.leader ≡ leader) × (e.leader ≡ p.me → ⊥)
+        led true own is = let no : ⊥ = cc in absurd no
+        led false own is = (e, at, (let same : e.leader ≡ leader = cc in same), λ same. (let no : ⊥ = grind (arith, nat_tests) in no))
+
+-- an attempt that isn't among others is no row of theirs
+pub not-among : (a : AttemptId) (ids : List AttemptId) → is_among a ids ≡ false → row_of itself a ids ≡ None
+not-among a [] off = refl
+not-among a (x ∷ ids) off = by (not-among a ids) (same_attempt x a) off
+  where
+    by : (is_among a ids ≡ false → row_of itself a ids ≡ None) → (b : Bool) → (b || is_among a ids) ≡ false → (if b then Some x else row_of itself a ids) ≡ None
+    by rest true e = let no : ⊥ = cc in absurd no
+    by rest false e = rest e

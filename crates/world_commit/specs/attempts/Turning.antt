@@ -1,5 +1,5 @@
 -- What one target's change leaves of what all targets know.
-use Rattle.std.specs.Prelude.{ℕ, ◌≡◌, ◌⊎◌, Bool, true, false, ◌==◌, slice_get, Some, refl}
+use Rattle.std.specs.Prelude.{ℕ, ◌≡◌, ◌⊎◌, Bool, true, false, ◌==◌, slice_get, Some, refl, List, ◌++◌, Option}
 use Rattle.std.proofs.Common.{sym, ◌∙◌, ap, subst, arith, inl, inr}
 use Rattle.std.proofs.Math.ListN.{set}
 use Rattle.std.proofs.lemmas.Bool.Decides.{nat_tests}
@@ -11,10 +11,22 @@ use Rattle.daos_model.specs.EntryLaws.{same_attempt-itself}
 use Rattle.dtx_base.specs.LeaderLaws.{same-is}
 use Rattle.dtx_base.specs.Leading.{undecided_attempt}
 use Rattle.dtx_base.specs.Rows.{is_among, row_of}
-use Rattle.world_commit.specs.attempts.Attempts.{IsOrdered, entry_at, entry_in, inc_at, inc_in, is_known_at, is_known_in, row_at, row_in}
+use Rattle.world_commit.specs.attempts.Attempts.{IsOrdered, entry_at, entry_in, inc_at, inc_in, is_known_at, is_known_in, row_at, row_in, is_asked_by, is_prepare_to, is_target}
 use Rattle.world_base.specs.declared.target.TargetState.{TargetState}
 use Rattle.world_base.specs.declared.world.World.{World}
 use Rattle.world_base.specs.StepLaws.{set-here, set-there}
+use Rattle.world_base.specs.Reads.{Asked, FetchStage, Known, Reading}
+use Rattle.world_base.specs.declared.target.TargetMemory.{TargetMemory}
+use Rattle.world_base.specs.Roles.{with_unsettled}
+use Rattle.base_messages.specs.declared.message.Post.{Post}
+use Rattle.world_base.specs.Letters.{letters_of, target}
+use Rattle.base_messages.specs.declared.actor.ActorId.{ActorId}
+use Rattle.base_types.specs.declared.entry.Entry.{Entry}
+use Rattle.world_base.specs.declared.letter.Letter.{Letter}
+use Rattle.base_types.specs.declared.operation.MinorWrite.{MinorWrite}
+use Rattle.base_types.specs.declared.outcome.Outcome.{Outcome}
+use Rattle.daos_model.specs.BoolLaws.{both}
+use Rattle.base_messages.specs.declared.message.Message.TheVariants as message
 
 -- two attempts are one, or they aren't
 pub one-or_other : (x a : AttemptId) → (x ≡ a) ⊎ (x ≡ a → ⊥)
@@ -109,3 +121,31 @@ module _ (w v : World) (t : ℕ) (s z : TargetState) (k : Turned w v t s z) wher
     | inl here ↦ let found : Some z ≡ Some q = sym now ∙ subst (λ n. slice_get v.targets n ≡ Some q) here at in subst IsOrdered (let one : z ≡ q = cc in one) own
     | inr other ↦ all u q (sym (elsewhere u other) ∙ at)
   ]
+
+-- what a target knows at a stage of a Fetch
+abbrev pub fetch_memory : TargetMemory → FetchStage → TargetMemory
+fetch_memory n Asked = n
+fetch_memory n (Known e) = n
+fetch_memory n (Reading e decided) = with_unsettled decided n
+
+abbrev pub issue : AttemptId → Epoch → AttemptId × Epoch
+issue x e = (x, e)
+
+-- the world while a target is in the middle of a turn, in this state and with these messages sent
+abbrev pub at_work : World → ℕ → TargetState → List Post → World
+at_work w t z posts = record w { targets = set w.targets t z; messages = w.messages ++ letters_of (target t) posts }
+
+-- a Prepare to a target asks it for its attempt
+pub prepare-to : (l : Letter) (t : ℕ) (e : Entry) (first : Option Epoch) (ws : List MinorWrite) (inc : ℕ) → l.message ≡ message.Prepare e first ws inc → l.to ≡ target t → is_prepare_to e.attempt t l ≡ true
+unfolding is_prepare_to
+prepare-to l t e first ws inc is to =
+    ap (is_asked_by e.attempt t l.to) is
+    ∙ both (same_attempt e.attempt e.attempt) (is_target t l.to) (same_attempt-itself e.attempt) (ap (is_target t) to ∙ own t)
+  where
+    own : (t : ℕ) → is_target t (target t) ≡ true
+    own t = grind (arith, nat_tests)
+
+-- an Ack isn't a Prepare
+pub ack-no_prepare : (x : AttemptId) (m : ℕ) (from to : ActorId) (a : AttemptId) (inc : ℕ) (refusal : Option Outcome) → is_prepare_to x m (record { from = from; to = to; message = message.Ack a inc refusal }) ≡ true → ⊥
+unfolding is_prepare_to
+ack-no_prepare x m from to a inc refusal is = let no : ⊥ = cc in no

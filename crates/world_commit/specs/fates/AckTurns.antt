@@ -26,20 +26,17 @@ use Rattle.dtx_base.specs.Leading.{LeaderOf, LeaderStep, abort_to, ack_heard, an
 use Rattle.dtx_base.specs.Members.{has_target, other_members, with_target}
 use Rattle.dtx_base.specs.RowLaws.{row-is, row-map, row-without}
 use Rattle.dtx_base.specs.Rows.{is_among, itself, row_key, row_of, with_row, without_row}
-use Rattle.world_commit.specs.attempts.AckTurns.{counted-same, ended_post, marking, not-among}
-use Rattle.world_commit.specs.attempts.AckViews.{AckIs, Counted, Decides, Ignored, IsAwaited, Refuses, ack-is}
+use Rattle.world_commit.specs.attempts.AckViews.{AckIs, Counted, Decides, Ignored, IsAwaited, Refuses, ack-is, ended_post, marking}
 use Rattle.world_commit.specs.attempts.Attempts.{IsHeld, IsItsEntry, IsOkRight, IsOrdered, IsOther, count, entry_at, entry_in, inc_at, inc_in, is_known_at, is_known_in, is_prepare_to, is_target, leader_of, one_if, row_at, row_in}
 use Rattle.world_commit.specs.attempts.Counting.{count-none, count-some, has-taken}
 use Rattle.world_commit.specs.attempts.Frames.{SameFate, same-untold}
 use Rattle.world_commit.specs.attempts.History.{Aborted, Decided, GrowsBy, History, Tells}
-use Rattle.world_commit.specs.attempts.MarkTurns.{found-led, led-found, target-is}
-use Rattle.world_commit.specs.attempts.MemberBits.{is-other_same, others-same}
-use Rattle.world_commit.specs.attempts.Stored.{among-more, among-new, rising-aborted, row-gone, row-other, rows-rising}
-use Rattle.world_commit.specs.attempts.Turning.{Stays, entry-elsewhere, entry-now, entry-stays, inc-stays, known-elsewhere, known-now, known-stays, one-or_another, row-elsewhere, row-now, row-stays}
-use Rattle.world_commit.specs.attempts.Working.{at_work}
+use Rattle.world_commit.specs.attempts.MemberBits.{is-other_same, others-same, counted-same}
+use Rattle.world_commit.specs.attempts.Stored.{among-more, among-new, rising-aborted, row-gone, row-other, rows-rising, found-led, led-found, target-is, not-among}
+use Rattle.world_commit.specs.attempts.Turning.{Stays, entry-elsewhere, entry-now, entry-stays, inc-stays, known-elsewhere, known-now, known-stays, one-or_another, row-elsewhere, row-now, row-stays, at_work}
 use Rattle.world_commit.specs.fates.Answers.{IsAnswer}
 use Rattle.world_commit.specs.fates.Answering.{AnswerTaken, answer-aborts, answer-counted, answer-decides, answer-ignored}
-use Rattle.world_commit.specs.fates.Concerns.{AreDull, IsDull, concerns, is_dull, kind-dull, no-prepare, no-refusal, no-talk, no-try}
+use Rattle.world_commit.specs.fates.Concerns.{AreDull, IsDull, is_dull, kind-dull, no-prepare, no-refusal, no-talk, no-try}
 use Rattle.world_commit.specs.fates.Facts.{IsAckRight, IsMarkRight, IsRow, IsSaidSo, Ongoing, is_talk, is_try, refuses_for, talking}
 use Rattle.world_commit.specs.fates.Frames.{AskedComes, LettersCome, SameLives, SameMail}
 use Rattle.world_commit.specs.fates.Overs.{Over, over-asked, over-counts, over-letters, over-mail, over-works}

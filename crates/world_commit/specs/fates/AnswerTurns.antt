@@ -17,8 +17,8 @@ use Rattle.dtx_base.specs.Members.{has_target}
 use Rattle.dtx_base.specs.Rows.{is_among}
 use Rattle.world_commit.specs.attempts.Attempts.{IsHeld, IsSettled, IsVerdictTrue, entry_in, is_known_in, leader_of}
 use Rattle.world_commit.specs.attempts.History.{Aborted, History}
-use Rattle.world_commit.specs.attempts.MarkTurns.{found-led, led-found, target-is}
-use Rattle.world_commit.specs.attempts.Working.{at_work}
+use Rattle.world_commit.specs.attempts.Stored.{found-led, led-found, target-is}
+use Rattle.world_commit.specs.attempts.Turning.{at_work}
 use Rattle.world_commit.specs.fates.Facts.{IsMarkedRight, IsQueryRight, IsSaidSo, IsVerdictRight, Ongoing}
 use Rattle.world_commit.specs.fates.FetchTurns.{TurnAnswers, TurnLeft, answered, left-is, work-keeps}
 use Rattle.world_commit.specs.fates.Small.{Midway, own-confirms}

@@ -1,25 +1,12 @@
 -- What is without an answer once letters were sent.
-use Rattle.std.specs.Prelude.{ℕ, suc, ◌≡◌, ◌⊎◌, ◌+◌, Bool, true, false, List, [], ◌∷◌, ◌++◌, drop, take, refl, if◌then◌else◌}
-use Rattle.std.specs.List.{position_or_len}
-use Rattle.std.proofs.Common.{◌∙◌, ap, subst, arith, inl, inr}
+use Rattle.std.specs.Prelude.{◌≡◌, ◌⊎◌, ◌+◌, Bool, true, false, List, [], ◌∷◌, ◌++◌, refl, if◌then◌else◌}
+use Rattle.std.proofs.Common.{◌∙◌, ap, subst, inl, inr}
 use Rattle.model_laws.specs.Members.{Has, has-cases}
 use Rattle.world_commit.specs.fates.Frames.{AskedComes}
 use Rattle.world_base.specs.declared.letter.Letter.{Letter}
 use Rattle.world_base.specs.declared.world.World.{World}
 use Rattle.world_base.specs.Letters.{asked_after, asked_with, is_answer_to, is_answerable, without_first}
-
--- the first that passes goes, and all others stay
-pub without-yes : {T : Type 0} (p : T → Bool) (y : T) (ys : List T) → p y ≡ true → without_first p (y ∷ ys) ≡ ys
-without-yes p y ys is = rw is refl
-
-pub without-no : {T : Type 0} (p : T → Bool) (y : T) (ys : List T) → p y ≡ false → without_first p (y ∷ ys) ≡ y ∷ without_first p ys
-without-no p y ys off = rw off (shift y ys (position_or_len p ys))
-  where
-    shift : {T : Type 0} (y : T) (ys : List T) (n : ℕ) → take (1 + n) (y ∷ ys) ++ drop ((1 + n) + 1) (y ∷ ys) ≡ y ∷ (take n ys ++ drop (n + 1) ys)
-    shift y ys n =
-        let one : 1 + n ≡ suc n = omega arith in
-        let two : (1 + n) + 1 ≡ suc (n + 1) = omega arith in
-        ap (λ m. take m (y ∷ ys) ++ drop ((1 + n) + 1) (y ∷ ys)) one ∙ ap (λ m. take (suc n) (y ∷ ys) ++ drop m (y ∷ ys)) two
+use Rattle.world_letters.specs.waits.ClientLaws.{without-yes, without-no}
 
 -- one that is left was there
 pub left-was : {T : Type 0} (p : T → Bool) (xs : List T) (x : T) → Has x (without_first p xs) → Has x xs

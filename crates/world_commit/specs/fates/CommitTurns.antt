@@ -25,17 +25,15 @@ use Rattle.dtx_base.specs.Leading.{LeaderStep, begun, begun_alone, begun_with_ot
 use Rattle.dtx_base.specs.Members.{other_members, writes_at}
 use Rattle.dtx_base.specs.RowLaws.{row-with}
 use Rattle.dtx_base.specs.Rows.{is_among, is_empty, itself, row_key, row_of, with_row}
-use Rattle.world_commit.specs.attempts.AckTurns.{ended_post, not-among}
+use Rattle.world_commit.specs.attempts.AckViews.{ended_post}
 use Rattle.world_commit.specs.attempts.Asked.{IsCommitNew}
 use Rattle.world_commit.specs.attempts.Attempts.{IsBorn, IsOrdered, IsOther, count, entry_at, entry_in, first_entry, inc_at, inc_in, is_known_at, is_known_in, is_prepare_to, is_target, leader_of, one_if, row_at, row_in}
 use Rattle.world_commit.specs.attempts.Frames.{SameFate, same-untold}
 use Rattle.world_commit.specs.attempts.History.{Aborted, Decided, GrowsBy, History, Tells}
-use Rattle.world_commit.specs.attempts.MarkTurns.{target-is}
 use Rattle.world_commit.specs.attempts.MemberBits.{other-no_leader, others-same}
-use Rattle.world_commit.specs.attempts.OtherLaws.{is_same, other-once}
-use Rattle.world_commit.specs.attempts.Stored.{among-more, among-new, rising-prepared, row-new, rows-rising}
-use Rattle.world_commit.specs.attempts.Turning.{Stays, entry-elsewhere, entry-now, entry-stays, inc-stays, known-elsewhere, known-now, known-stays, row-elsewhere, row-now, row-stays}
-use Rattle.world_commit.specs.attempts.Working.{at_work}
+use Rattle.world_commit.specs.attempts.Counting.{is_same, other-once}
+use Rattle.world_commit.specs.attempts.Stored.{among-more, among-new, rising-prepared, row-new, rows-rising, target-is, not-among}
+use Rattle.world_commit.specs.attempts.Turning.{Stays, entry-elsewhere, entry-now, entry-stays, inc-stays, known-elsewhere, known-now, known-stays, row-elsewhere, row-now, row-stays, at_work}
 use Rattle.world_commit.specs.fates.Beginning.{AreAskedFirst, IsFirst, begins-alone, begins-refused, begins-with_others, unborn, unborn-entry, unborn-row, unborn-undecided, unborn-unknown}
 use Rattle.world_commit.specs.fates.Concerns.{Spare, concerns, no-prepare, no-refusal, no-talk, no-try}
 use Rattle.world_commit.specs.fates.Facts.{IsPrepareRight, IsSaidSo, Ongoing, is_talk, is_try, preparing, talking}

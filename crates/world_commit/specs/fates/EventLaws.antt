@@ -9,11 +9,10 @@ use Rattle.base_messages.specs.declared.actor.ActorId.{ActorId}
 use Rattle.base_messages.specs.declared.message.Message.{Message}
 use Rattle.base_messages.specs.declared.message.Message.TheVariants as message
 use Rattle.world_commit.specs.attempts.Asked.{IsCommitNew}
-use Rattle.world_commit.specs.attempts.CommitTurns.{issue}
+use Rattle.world_commit.specs.attempts.Turning.{issue, at_work}
 use Rattle.world_commit.specs.attempts.Counting.{has-taken}
 use Rattle.world_commit.specs.attempts.Frames.{same-untold}
 use Rattle.world_commit.specs.attempts.History.{GrowsBy, History}
-use Rattle.world_commit.specs.attempts.Working.{at_work}
 use Rattle.world_commit.specs.fates.AckTurns as ack
 use Rattle.world_commit.specs.fates.Answers.{ack-answers}
 use Rattle.world_commit.specs.fates.Asked.{AskedRight}

@@ -10,7 +10,7 @@ use Rattle.dtx_base.specs.Leading.{attempts_of, query_answer}
 use Rattle.world_commit.specs.attempts.Attempts.{IsOther}
 use Rattle.world_commit.specs.attempts.Counting.{has-taken}
 use Rattle.world_commit.specs.attempts.History.{History}
-use Rattle.world_commit.specs.attempts.MarkTurns.{target-is}
+use Rattle.world_commit.specs.attempts.Stored.{target-is}
 use Rattle.world_commit.specs.fates.AckTurns as ack
 use Rattle.world_commit.specs.fates.Answers.{ack-answers}
 use Rattle.world_commit.specs.fates.Alike.{back-answers, mark-alike, mark-replies, prepare-alike, prepare-replies, query-alike, query-replies}

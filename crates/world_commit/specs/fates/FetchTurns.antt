@@ -19,10 +19,9 @@ use Rattle.dtx_base.specs.declared.leading.LeaderMemory.{LeaderMemory}
 use Rattle.dtx_base.specs.Leading.{undecided_attempt}
 use Rattle.dtx_base.specs.Rows.{is_among, itself, row_key, row_of, without_row}
 use Rattle.world_commit.specs.attempts.Attempts.{IsItsEntry, IsOrdered, entry_in}
-use Rattle.world_commit.specs.attempts.FetchTurns.{fetch_memory, other-entry}
+use Rattle.world_commit.specs.attempts.Turning.{fetch_memory, at_work}
 use Rattle.world_commit.specs.attempts.History.{History}
-use Rattle.world_commit.specs.attempts.Stored.{among-has, inc-leased}
-use Rattle.world_commit.specs.attempts.Working.{at_work}
+use Rattle.world_commit.specs.attempts.Stored.{among-has, inc-leased, other-entry}
 use Rattle.world_commit.specs.fates.Facts.{IsSaidSo, Ongoing}
 use Rattle.world_commit.specs.fates.Small.{own-settles, small-quiet}
 use Rattle.world_commit.specs.fates.Working.{AreMild, ArePlain, PostsSo, Step, is_mild, is_plain, work-mid, work-sends}

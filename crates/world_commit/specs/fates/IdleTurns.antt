@@ -22,9 +22,9 @@ use Rattle.dtx_base.specs.Members.{all_targets, has_target, is_other_member}
 use Rattle.dtx_base.specs.Rows.{is_empty, itself, row_key, without_row}
 use Rattle.world_commit.specs.attempts.Attempts.{IsItsEntry, entry_in, inc_in, leader_of}
 use Rattle.world_commit.specs.attempts.History.{History}
-use Rattle.world_commit.specs.attempts.MarkTurns.{found-here}
+use Rattle.world_commit.specs.attempts.Stored.{found-here}
 use Rattle.world_commit.specs.attempts.MemberBits.{other-from_test}
-use Rattle.world_commit.specs.attempts.Working.{at_work}
+use Rattle.world_commit.specs.attempts.Turning.{at_work}
 use Rattle.world_commit.specs.fates.Facts.{IsMarkRight, IsSaidSo, Ongoing}
 use Rattle.world_commit.specs.fates.FetchTurns.{TurnLeft, query-right, work-keeps, work-settles}
 use Rattle.world_commit.specs.fates.Working.{ArePlain, PostsSo, is_plain, plain-mild, work-sends}

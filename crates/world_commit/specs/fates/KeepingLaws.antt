@@ -11,7 +11,7 @@ use Rattle.dtx_base.specs.declared.leading.Undecided.{Undecided}
 use Rattle.dtx_base.specs.Leading.{undecided_attempt}
 use Rattle.dtx_base.specs.Rows.{is_among, itself, row_key, row_of}
 use Rattle.world_commit.specs.attempts.Attempts.{count, entry_at, entry_in, is_known_at, is_known_in, leader_of, row_at, row_in}
-use Rattle.world_commit.specs.attempts.CommitTurns.{issue}
+use Rattle.world_commit.specs.attempts.Turning.{issue}
 use Rattle.world_commit.specs.attempts.History.{Aborted, Decided}
 use Rattle.world_commit.specs.fates.EventLaws.{ongoing-kept}
 use Rattle.world_commit.specs.fates.EventPrompts.{prompts-kept}

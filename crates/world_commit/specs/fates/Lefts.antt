@@ -10,7 +10,7 @@ use Rattle.base_messages.specs.declared.message.Message.TheVariants as message
 use Rattle.dtx_base.specs.Leading.{attempts_of}
 use Rattle.world_commit.specs.attempts.Counting.{has-taken}
 use Rattle.world_commit.specs.attempts.History.{History}
-use Rattle.world_commit.specs.attempts.Working.{at_work}
+use Rattle.world_commit.specs.attempts.Turning.{at_work}
 use Rattle.world_commit.specs.fates.AnswerTurns as answer
 use Rattle.world_commit.specs.fates.Facts.{Ongoing}
 use Rattle.world_commit.specs.fates.FetchTurns.{AtFetch, TurnAnswers, TurnLeft, fetch-ends, fetch-step}

@@ -11,12 +11,9 @@ use Rattle.daos_model.specs.Durables.{entry_of}
 use Rattle.dtx_base.specs.Leading.{attempts_of, marked_attempt}
 use Rattle.world_commit.specs.attempts.Attempts.{HoldsAt, IsOther, IsSettled, entry_in}
 use Rattle.world_commit.specs.attempts.History.{Aborted, History}
-use Rattle.world_commit.specs.attempts.MarkTurns.{target-is}
 use Rattle.world_commit.specs.attempts.MemberBits.{other-no_leader}
-use Rattle.world_commit.specs.attempts.Small.{prepared-entry}
-use Rattle.world_commit.specs.attempts.Stored.{entry-committed, entry-committed_own}
-use Rattle.world_commit.specs.attempts.Turning.{one-or_other}
-use Rattle.world_commit.specs.attempts.Working.{at_work}
+use Rattle.world_commit.specs.attempts.Stored.{entry-committed, entry-committed_own, prepared-entry, target-is}
+use Rattle.world_commit.specs.attempts.Turning.{one-or_other, at_work}
 use Rattle.world_commit.specs.fates.Facts.{IsMarkRight, IsMarkedRight, IsSaidSo, Ongoing}
 use Rattle.world_commit.specs.fates.FetchTurns.{TurnAnswers, answered}
 use Rattle.world_commit.specs.fates.Small.{Midway, other-aborts, other-commits}

@@ -8,7 +8,7 @@ use Rattle.model_laws.specs.Members.{Has, has-cases, has-left, has-right}
 use Rattle.world_commit.specs.attempts.Attempts.{count, one_if}
 use Rattle.world_commit.specs.attempts.Counting.{count-append, count-none, count-taken, has-left_over}
 use Rattle.world_commit.specs.attempts.History.{History}
-use Rattle.world_commit.specs.attempts.Working.{at_work}
+use Rattle.world_commit.specs.attempts.Turning.{at_work}
 use Rattle.world_commit.specs.fates.Asking.{asked-comes}
 use Rattle.world_commit.specs.fates.Concerns.{Spare, concerns, no-prepare, no-refusal, no-talk, no-try}
 use Rattle.world_commit.specs.fates.Facts.{is_talk, is_try}

@@ -22,12 +22,9 @@ use Rattle.world_commit.specs.attempts.Attempts.{IsBorn, IsOkRight, IsOrdered, I
 use Rattle.world_commit.specs.attempts.Counting.{count-some, has-taken}
 use Rattle.world_commit.specs.attempts.Frames.{SameFate, same-untold}
 use Rattle.world_commit.specs.attempts.History.{Decided, GrowsBy, History, Tells}
-use Rattle.world_commit.specs.attempts.MarkTurns.{target-is}
 use Rattle.world_commit.specs.attempts.MemberBits.{other-no_leader}
-use Rattle.world_commit.specs.attempts.Overs.{ack-no_prepare, prepare-to}
-use Rattle.world_commit.specs.attempts.Stored.{rising-prepared}
-use Rattle.world_commit.specs.attempts.Turning.{Stays, entry-elsewhere, entry-now, entry-stays, inc-stays, known-stays, row-stays}
-use Rattle.world_commit.specs.attempts.Working.{at_work}
+use Rattle.world_commit.specs.attempts.Stored.{rising-prepared, target-is}
+use Rattle.world_commit.specs.attempts.Turning.{Stays, entry-elsewhere, entry-now, entry-stays, inc-stays, known-stays, row-stays, at_work, ack-no_prepare, prepare-to}
 use Rattle.world_commit.specs.fates.Answering.{IsStored, PrepareTaken, member-stores, stored-held, stored-settled}
 use Rattle.world_commit.specs.fates.Facts.{IsAckRight, IsPrepareRight, IsSaidSo, Ongoing, is_talk, is_try, refuses_for}
 use Rattle.world_commit.specs.fates.FetchTurns.{work-leases}

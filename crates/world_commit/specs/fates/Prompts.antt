@@ -10,7 +10,7 @@ use Rattle.base_messages.specs.declared.message.Post.{Post}
 use Rattle.daos_model.specs.BoolLaws.{and_left, and_right, both, clash, false_of}
 use Rattle.world_commit.specs.attempts.Attempts.{count, one_if}
 use Rattle.world_commit.specs.attempts.Counting.{count-append, count-some, count-taken, has-taken}
-use Rattle.world_commit.specs.fates.Asking.{without-no, without-yes}
+use Rattle.world_letters.specs.waits.ClientLaws.{without-no, without-yes}
 use Rattle.world_commit.specs.fates.Facts.{PromptsFly, is_prompt, is_prompt_kind}
 use Rattle.world_base.specs.declared.letter.Letter.{Letter}
 use Rattle.world_base.specs.declared.world.World.{World}

@@ -105,15 +105,6 @@ module _ (r : Rules) (h later : History) (w v : World) (x : AttemptId) (t : ℕ)
     aborted = λ a. none-on (leader_of r x) (k.aborted (g.fate.only_aborted a));
   }
 
-  open-on : (u : ℕ) → f.committed ≡ e.committed → IsOpenAt r w x u → IsOpenAt r v x u
-  open-on u same k = elim (one-or_another u t) [
-    | inl here ↦
-        let one : Some k.entry ≡ Some e = sym k.found ∙ ap (λ n. entry_at w n x) here ∙ g.found in
-        let is : k.entry ≡ e = cc in
-        record { leads = k.leads; entry = f; found = ap (λ n. entry_at v n x) here ∙ g.now; prepared = same ∙ sym (ap (λ i. i.committed) is) ∙ k.prepared }
-    | inr other ↦ record { leads = k.leads; entry = k.entry; found = g.elsewhere u other ∙ k.found; prepared = k.prepared }
-  ]
-
 -- ---- a member settles, or the leader confirms
 
 -- rows stay where the leader's entry does, or is committed before and after

@@ -17,12 +17,11 @@ use Rattle.dtx_base.specs.Rows.{is_among, is_other_row, itself, row_key, row_of,
 use Rattle.world_commit.specs.attempts.Attempts.{IsOrdered, IsOther, IsSettled, IsUnsettled, count, entry_at, is_known_at, leader_of}
 use Rattle.world_commit.specs.attempts.Frames.{same-itself}
 use Rattle.world_commit.specs.attempts.History.{Aborted, Decided, History}
-use Rattle.world_commit.specs.attempts.Small.{prepared-entry}
 use Rattle.world_commit.specs.fates.Facts.{Ongoing, is_talk, is_try}
 use Rattle.world_commit.specs.fates.Frames.{AskedComes, LettersCome, SameMail}
 use Rattle.world_commit.specs.fates.Settling.{GoesOn, RowsStay, held-on, leader-confirms, leader-settles, member-aborts, member-goes_on, settled-on}
 use Rattle.world_commit.specs.fates.Stepping.{Goes, Spared, attempts-quiet, attempts-step}
-use Rattle.world_commit.specs.attempts.Stored.{among-gone, among-other, entry-committed, entry-committed_own, entry-confirmed, entry-confirmed_own, rising-aborted, rising-committed, rising-confirmed}
+use Rattle.world_commit.specs.attempts.Stored.{among-gone, among-other, entry-committed, entry-committed_own, entry-confirmed, entry-confirmed_own, rising-aborted, rising-committed, rising-confirmed, prepared-entry}
 use Rattle.world_commit.specs.fates.Turning.{Works, lives-stay}
 use Rattle.world_commit.specs.attempts.Turning.{Stays, entry-before, entry-elsewhere, entry-now, known-before, known-elsewhere, known-now, known-stays, one-or_another, row-stays}
 use Rattle.world_base.specs.declared.target.TargetState.{TargetState}

@@ -15,9 +15,9 @@ use Rattle.dtx_base.specs.declared.member.Parked.{Parked}
 use Rattle.dtx_base.specs.Joining.{MemberOf, MemberStep, all_unresolved_told, is_waiting, unresolved, unresolved_told, verdict_heard}
 use Rattle.world_commit.specs.attempts.Attempts.{IsOther}
 use Rattle.world_commit.specs.attempts.History.{History}
-use Rattle.world_commit.specs.attempts.MarkTurns.{target-is}
+use Rattle.world_commit.specs.attempts.Stored.{target-is}
 use Rattle.world_commit.specs.attempts.MemberBits.{other-no_leader}
-use Rattle.world_commit.specs.attempts.Working.{at_work}
+use Rattle.world_commit.specs.attempts.Turning.{at_work}
 use Rattle.world_commit.specs.fates.Facts.{IsSaidSo, IsVerdictRight, Ongoing}
 use Rattle.world_commit.specs.fates.FetchTurns.{AtFetch, TurnLeft, fetch-ends, fetch-step, work-keeps}
 use Rattle.world_commit.specs.fates.Small.{other-aborts, other-commits}

@@ -14,7 +14,7 @@ use Rattle.world_commit.specs.attempts.Attempts.{IsBorn, count, entry_in, inc_in
 use Rattle.world_commit.specs.attempts.Counting.{has-left_over}
 use Rattle.world_commit.specs.attempts.Frames.{SameFate, same-itself}
 use Rattle.world_commit.specs.attempts.History.{GrowsBy, History, Tells}
-use Rattle.world_commit.specs.attempts.Working.{at_work}
+use Rattle.world_commit.specs.attempts.Turning.{at_work}
 use Rattle.world_commit.specs.fates.Concerns.{AreDull, IsDull, is_dull, kind-dull, mail-sent, mail-taken}
 use Rattle.world_commit.specs.fates.Facts.{IsSaidSo, Ongoing, down_in, is_talk, is_try}
 use Rattle.world_commit.specs.fates.Frames.{AskedComes, Grows, LettersCome, SameLives, SameMail, asked-still, letters-on, said-on, untouched}

@@ -22,7 +22,7 @@ use Rattle.world_commit.specs.asks.Knowing.{CommitsAreNew, TellsOf}
 use Rattle.world_commit.specs.attempts.Attempts.{IsBorn, IsOther, entry_at, entry_in, leader_of}
 use Rattle.world_commit.specs.attempts.Counting.{has-taken}
 use Rattle.world_commit.specs.attempts.History.{Aborted, GrowsBy, History}
-use Rattle.world_commit.specs.attempts.MarkTurns.{target-is}
+use Rattle.world_commit.specs.attempts.Stored.{target-is}
 use Rattle.world_commit.specs.attempts.MemberBits.{other-no_leader}
 use Rattle.world_commit.specs.attempts.Turning.{one-or_another, one-or_other}
 use Rattle.world_commit.specs.fates.Facts.{Attempts, IsAckRight, IsSaidSo}

@@ -9,12 +9,12 @@ use Rattle.base_messages.specs.declared.actor.ActorId.{ActorId}
 use Rattle.base_messages.specs.declared.message.Message.{Message, more_of-Message}
 use Rattle.base_messages.specs.declared.message.Message.TheVariants as message
 use Rattle.dtx_base.specs.declared.leading.Naming.{Naming}
-use Rattle.world_commit.specs.asks.Asks.{Flies, IsMark, IsMarked, IsNamingOf, IsQuery, IsQueryOf, IsVerdict, NamedAreSent, ParkedAreAsked}
+use Rattle.world_commit.specs.asks.Asks.{IsMark, IsMarked, IsNamingOf, IsQuery, IsQueryOf, IsVerdict}
 use Rattle.world_commit.specs.asks.Moving.{ClientMoves, TargetMoves, all-stay, goes-moves, heard-moves, hears-moves, idle-moves}
 use Rattle.world_commit.specs.asks.NamedLaws.{IsUnanswered, client-named, flies-on, hears-names, idles-names, marks-answered, newly-flies, target-named, untouched-named}
 use Rattle.world_commit.specs.asks.ParkedLaws.{IsOpenStill, IsWaitingStill, asked-on, client-asked, hears-parks, idles-parks, queries-answered, target-parked, untouched-parked}
 use Rattle.world_commit.specs.attempts.History.{History}
-use Rattle.world_commit.specs.attempts.MarkTurns.{target-is}
+use Rattle.world_commit.specs.attempts.Stored.{target-is}
 use Rattle.world_commit.specs.fates.Facts.{Attempts}
 use Rattle.world_commit.specs.fates.Rightly.{events-are-right}
 use Rattle.world_commit.specs.questions.Facts.{IsAsked, IsMarkFor, IsNamed, IsNamingReset, IsOnNaming, IsOnQuery, IsQueryReset, IsResetBy, NamingsFly, WaitingAreAsked}
@@ -207,20 +207,3 @@ namings-swept r h w A k = loss-namings w (swept w) A.prompt (sweeping_loss w A.o
 
 pub waiting-swept : (r : Rules) (h : History) (w : World) → Attempts r h w → WaitingAreAsked w → WaitingAreAsked (swept w)
 waiting-swept r h w A k = loss-waiting w (swept w) A.prompt (sweeping_loss w A.on.quiet) k
-
--- ---- where nothing stopped
-
--- where no Reset is in flight, the Mark or its answer is
-pub named-are-sent : (w : World) → ((l : Letter) (by : ℕ) (Asked : Message → Type 0) → Has l w.messages → IsResetBy by Asked l.message → ⊥) → NamingsFly w → NamedAreSent w
-named-are-sent w none k t s n here i = by (k t s n here i)
-  where
-    by : IsOnNaming w t n → Flies w (IsNamingOf t n)
-    by (IsNamed f) = f
-    by (fact.IsReset (l, j, q)) = absurd (none l n.member (IsMarkFor n) j q.tells)
-
-pub parked-are-asked : (w : World) → ((l : Letter) (by : ℕ) (Asked : Message → Type 0) → Has l w.messages → IsResetBy by Asked l.message → ⊥) → WaitingAreAsked w → ParkedAreAsked w
-parked-are-asked w none k m s p here i = let a = k m s p here i in record { of = a.of; fetch = a.fetch; asked = by p.on (Some a.of) a.asked }
-  where
-    by : (x : AttemptId) (ask : Option AttemptId) → IsOnQuery w m x ask → Flies w (IsQueryOf m x ask)
-    by x ask (IsAsked f) = f
-    by x ask (fact.IsReset (l, j, q)) = absurd (none l q.leader (λ y. y ≡ message.Query x ask) j q.tells)

@@ -23,7 +23,7 @@ use Rattle.world_commit.specs.asks.Told.{IsPrepareOf, IsRefused, LeavesTold, bor
 use Rattle.world_commit.specs.attempts.Attempts.{IsBorn, IsItsEntry, IsOther, entry_in, leader_of}
 use Rattle.world_commit.specs.attempts.Counting.{has-taken}
 use Rattle.world_commit.specs.attempts.History.{Aborted, History}
-use Rattle.world_commit.specs.attempts.MarkTurns.{led-found, target-is}
+use Rattle.world_commit.specs.attempts.Stored.{led-found, target-is}
 use Rattle.world_commit.specs.attempts.MemberBits.{other-no_leader, others-same}
 use Rattle.world_commit.specs.attempts.Turning.{one-or_another}
 use Rattle.world_commit.specs.fates.Facts.{Attempts, IsAskedSo, IsQueryRight, IsSaidSo, IsStateRight, down_in, knows_down}

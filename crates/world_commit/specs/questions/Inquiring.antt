@@ -19,7 +19,7 @@ use Rattle.world_commit.specs.asks.Told.{IsPrepareOf, LeavesTold, client-leaves,
 use Rattle.world_commit.specs.asks.ToldTurns.{hears-leaves, idles-leave}
 use Rattle.world_commit.specs.attempts.Attempts.{IsBorn, IsOther, entry_at, leader_of}
 use Rattle.world_commit.specs.attempts.History.{Aborted, History}
-use Rattle.world_commit.specs.attempts.MarkTurns.{target-is}
+use Rattle.world_commit.specs.attempts.Stored.{target-is}
 use Rattle.world_commit.specs.attempts.MemberBits.{has-none}
 use Rattle.world_commit.specs.fates.Facts.{PromptsFly, down_in, knows_down}
 use Rattle.world_commit.specs.questions.Facts.{HasStopped, InquiriesHold, IsAsked, IsKnownDown, IsOnInquiry, IsTold, IsToldOrStopped, LeaderStopped}

@@ -1,11 +1,6 @@
 -- The laws of questions between targets, as statements.
 use Rattle.std.specs.Prelude.{ℕ, ◌≡◌, [], slice_get, Some}
 use Rattle.base_types.specs.declared.id.AttemptId.{AttemptId}
-use Rattle.base_types.specs.declared.report.Line.TheVariants as line
-use Rattle.model_laws.specs.Members.{Has}
-use Rattle.base_messages.specs.declared.message.Message.{Message}
-use Rattle.base_messages.specs.declared.message.Message.TheVariants as message
-use Rattle.world_commit.specs.asks.Asks.{Asks}
 use Rattle.world_commit.specs.attempts.History.{Aborted, GrowsBy, History}
 use Rattle.world_commit.specs.fates.Asked.{AskedRight}
 use Rattle.world_commit.specs.fates.Facts.{Attempts}
@@ -13,7 +8,6 @@ use Rattle.world_commit.specs.questions.Facts.{Questions}
 use Rattle.world_commit.specs.questions.Flying.{IsWithoutCollections}
 use Rattle.world_commit.specs.questions.Losing.{WaitsForNone}
 use Rattle.world_commit.specs.stops.CutEvents.{IsWithoutSnapshots, cut_told}
-use Rattle.world_base.specs.declared.letter.Letter.{Letter}
 use Rattle.world_base.specs.declared.target.TargetState.{TargetState}
 use Rattle.world_base.specs.declared.world.World.{World}
 use Rattle.world_base.specs.Events.{Rules}
@@ -47,18 +41,3 @@ HappeningsKeepQuestions =
 -- and so does the loss of what goes to targets that are given up
 abbrev pub SweepingKeepsQuestions : Type 0
 SweepingKeepsQuestions = (r : Rules) (h : History) (w : World) → Attempts r h w → Attempts r h (swept w) → Questions r h w → Questions r h (swept w)
-
--- a message that isn't a Reset
-abbrev pub IsNoReset : Message → Type 0
-IsNoReset (message.Reset' t down place asked) = ⊥
-IsNoReset m = Unit {0}
-
--- nothing stopped: no Reset is in flight, no line tells of a stop, and no target knows another one to be down
-pub record HasNotStopped (w : World) : Type 0 where
-  pub resets : (l : Letter) → Has l w.messages → IsNoReset l.message
-  pub stops : (n t : ℕ) → Has (line.Stop n t) w.lines → ⊥
-  pub up : (t : ℕ) (s : TargetState) → slice_get w.targets t ≡ Some s → s.memory.leader.down ≡ 0
-
--- then it is as in a run without stops
-abbrev pub QuestionsAreAsks : Type 0
-QuestionsAreAsks = (r : Rules) (h : History) (w : World) → HasNotStopped w → Questions r h w → Asks r h w

@@ -29,8 +29,7 @@ use Rattle.model_laws.specs.Members.{Has}
 use Rattle.world_commit.specs.attempts.Attempts.{entry_at, entry_in, is_known_at, is_known_in, leader_of, row_at, row_in}
 use Rattle.world_commit.specs.attempts.Counting.{has-taken}
 use Rattle.world_commit.specs.attempts.History.{History}
-use Rattle.world_commit.specs.attempts.MarkTurns.{led-found}
-use Rattle.world_commit.specs.attempts.Stored.{rows-rising}
+use Rattle.world_commit.specs.attempts.Stored.{rows-rising, led-found}
 use Rattle.world_base.specs.declared.did.Did.{Did}
 use Rattle.world_base.specs.declared.letter.Letter.{Letter}
 use Rattle.world_base.specs.declared.request.CommitRequest.{CommitRequest}
@@ -61,7 +60,7 @@ use Rattle.world_base.specs.Turns.{Whole}
 use Rattle.world_commit.specs.fates.Asked.{AskedRight}
 use Rattle.world_commit.specs.fates.Facts.{Attempts, RunsAt}
 use Rattle.world_commit.specs.fates.Rightly.{events-are-right, letters-tell}
-use Rattle.world_letters.specs.talks.Carriers as carrier
+use Rattle.world_letters.specs.talks.Conversation as carrier
 use Rattle.world_letters.specs.talks.LeaveLaws as leave
 use Rattle.world_letters.specs.talks.LeaveLaws.{AckIs, CommitLeaves, ack-is, commit-leaves}
 use Rattle.world_letters.specs.waits.CollectionTurns.{CollectLeaves, Collects, IsEnded, aggregate-leaves, snap-leaves}

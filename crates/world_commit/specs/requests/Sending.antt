@@ -27,6 +27,7 @@ use Rattle.dtx_base.specs.Leading.{LeaderOf, LeaderStep, abort_to, ack_heard, an
 use Rattle.dtx_base.specs.Leading as leading
 use Rattle.dtx_base.specs.Members.{all_targets, are_all_counted, is_other_member, other_members, with_target}
 use Rattle.dtx_base.specs.Rows.{is_empty, is_other_row, row_key}
+use Rattle.model_laws.specs.EntryLaws.{has-put}
 use Rattle.model_laws.specs.Members.{Has, has-cases, has-from_filter, has-from_map, has-map}
 use Rattle.world_base.specs.declared.did.Did.{Did}
 use Rattle.world_base.specs.declared.request.CommitRequest.{CommitRequest}
@@ -47,8 +48,7 @@ use Rattle.world_base.specs.Roles.{is_prepared, leader_at, member_at, told_by, t
 use Rattle.world_base.specs.TargetTurns.{Hears, IdlesWhole, commit_request, fetch_request, prepare_request}
 use Rattle.world_base.specs.Turns.{Whole}
 use Rattle.world_base.specs.Verdicts as verdict
-use Rattle.world_letters.specs.talks.CarrierLaws.{has-put}
-use Rattle.world_letters.specs.talks.Carriers as carrier
+use Rattle.world_letters.specs.talks.Conversation as carrier
 use Rattle.world_letters.specs.talks.LeaveLaws as leave
 use Rattle.world_letters.specs.talks.LeaveLaws.{CommitLeaves, FetchLeaves, HasOwn, IsKept, IsReplied, commit-leaves, fetch-leaves, marked-is, own-goes}
 use Rattle.world_letters.specs.waits.LeaderTurns.{row-found}
@@ -168,7 +168,7 @@ commit-sent t opening m reading q from s k left is (commit.HasBegun k2 e left2 s
 commit-rows : (q : CommitRequest) (from : ActorId) (m : TargetMemory) (left : TargetMemory × Did) → from.client ≡ true → CommitLeaves q from m left → RowsOfClients m.leader.undecided → RowsOfClients left.0.leader.undecided
 commit-rows q from m left is (leave.IsEnded own how posts same) of = rows-by-open m.leader.undecided left.0.leader.undecided (same.undecided 0) of
 commit-rows q from m left is (leave.HasBegun to parked undecided) of =
-    λ u c i same. elim (has-put (row_key undecided_attempt) (new_undecided q.attempt (Some from)) u m.leader.undecided (subst (Has u) undecided i)) [
+    λ u c i same. elim (has-put (row_key undecided_attempt) (new_undecided q.attempt (Some from)) m.leader.undecided u (subst (Has u) undecided i)) [
       | inl new ↦ (let e : Some from ≡ Some c = sym (ap (λ y. y.client) new) ∙ same in let it : from ≡ c = cc in ap (λ y. y.client) (sym it) ∙ is)
       | inr old ↦ of u c old same
     ]

@@ -20,7 +20,7 @@ use Rattle.dtx_base.specs.Leading.{LeaderOf, LeaderStep, ended, knowing, prepare
 use Rattle.dtx_base.specs.Members.{has_target}
 use Rattle.world_commit.specs.attempts.Attempts.{inc_at, inc_in, is_target, leader_of, row_in}
 use Rattle.world_commit.specs.attempts.History.{History}
-use Rattle.world_commit.specs.attempts.MarkTurns.{target-is}
+use Rattle.world_commit.specs.attempts.Stored.{target-is}
 use Rattle.world_commit.specs.fates.Concerns.{IsDull}
 use Rattle.world_commit.specs.fates.Facts.{IsSaidSo, IsStatusRight, Ongoing, down_in, asks_for, is_talk, knows_down}
 use Rattle.world_commit.specs.fates.Prompts.{AreSpoken}

@@ -11,7 +11,7 @@ use Rattle.world_commit.specs.attempts.Asked.{IsCommitNew}
 use Rattle.world_commit.specs.attempts.Attempts.{IsOrdered}
 use Rattle.world_commit.specs.attempts.Frames.{SameFate, same-untold}
 use Rattle.world_commit.specs.attempts.History.{GrowsBy, History}
-use Rattle.world_commit.specs.attempts.Working.{at_work}
+use Rattle.world_commit.specs.attempts.Turning.{at_work}
 use Rattle.world_commit.specs.fates.Asked.{AskedRight}
 use Rattle.world_commit.specs.fates.CommitTurns as commit
 use Rattle.world_commit.specs.fates.Concerns.{concerns}
@@ -26,7 +26,6 @@ use Rattle.world_commit.specs.statuses.Fates.{tells_fate}
 use Rattle.world_commit.specs.statuses.Turns.{hears-flies, hears-over, hears-spoken}
 use Rattle.world_base.specs.declared.did.Did.{Did}
 use Rattle.world_base.specs.declared.letter.Letter.{Letter}
-use Rattle.world_base.specs.declared.request.CommitRequest.{CommitRequest}
 use Rattle.world_base.specs.declared.target.TargetMemory.{TargetMemory}
 use Rattle.world_base.specs.declared.world.World.{World}
 use Rattle.world_base.specs.Changes.{Kept}
@@ -42,9 +41,6 @@ use Rattle.world_base.specs.TargetTurns.{commit_request}
 module _ (number : ℕ) (r : Rules) (h later : History) (w v : World) (right : AskedRight r h w) (k : Ongoing r h w) (g : TargetHearsBy (further.HearsFurther number) r w v) (x : AttemptId) (ep first : Option Epoch) (tracker : Epoch) (ws : List MinorWrite)
     (is : g.l.message ≡ message.Commit x ep first tracker ws)
     (turn : further.HearsFurther number (target_plan r g.t) g.s.opening g.s.memory g.reading g.l.from (message.Commit x ep first tracker ws) (kept g.s) g.new (g.memory, g.did)) where
-  abbrev q : CommitRequest
-  q = commit_request x ep first tracker ws
-
   sender : g.l.from ≡ client x.client
   sender = right.senders g.l x ep first tracker ws (hears-flies number r w v g) is
 

@@ -19,8 +19,7 @@ use Rattle.dtx_base.specs.Rows.{is_among, itself, row_key, row_of}
 use Rattle.world_commit.specs.attempts.Attempts.{IsOrdered, count, inc_at, is_known_at, is_prepare_to, leader_of, one_if, row_at}
 use Rattle.world_commit.specs.attempts.Counting.{count-none}
 use Rattle.world_commit.specs.attempts.History.{Decided, History}
-use Rattle.world_commit.specs.attempts.Turning.{Turned, elsewhere, entry-stays, inc-stays, known-stays, now, one-or_another, row-before, row-elsewhere, row-now}
-use Rattle.world_commit.specs.attempts.Working.{at_work}
+use Rattle.world_commit.specs.attempts.Turning.{Turned, elsewhere, entry-stays, inc-stays, known-stays, now, one-or_another, row-before, row-elsewhere, row-now, at_work}
 use Rattle.world_commit.specs.fates.Concerns.{Spare, no-prepare, no-refusal, no-talk, no-try}
 use Rattle.world_commit.specs.fates.Facts.{Awaited, IsOneUnless, IsQuiet, IsSaidSo, Ongoing, Rows, RunsAt, down_in, is_talk, is_try, knows_down, preparing, refuses_for, talking}
 use Rattle.world_commit.specs.fates.Frames.{AskedComes, LettersCome, asked-still, letters-on}

@@ -19,7 +19,7 @@ use Rattle.dtx_base.specs.Members.{has_target}
 use Rattle.dtx_base.specs.Rows.{row_of}
 use Rattle.world_commit.specs.attempts.Attempts.{IsOther, entry_at, inc_at, is_target, leader_of}
 use Rattle.world_commit.specs.attempts.History.{Decided, History}
-use Rattle.world_commit.specs.attempts.MarkTurns.{target-is}
+use Rattle.world_commit.specs.attempts.Stored.{target-is}
 use Rattle.world_commit.specs.attempts.Turning.{Turned, entry-before, entry-now, inc-stays}
 use Rattle.world_commit.specs.fates.Alike.{answered-same, back-answers}
 use Rattle.world_commit.specs.fates.Answers.{state-answers}

@@ -4,7 +4,7 @@ use Rattle.std.proofs.Common.{◌∙◌, ap, subst, sym}
 use Rattle.base_types.specs.declared.epoch.Epoch.{Epoch}
 use Rattle.base_types.specs.declared.id.AttemptId.{AttemptId}
 use Rattle.model_laws.specs.Members.{Has, has-left}
-use Rattle.world_commit.specs.attempts.CommitTurns.{issue}
+use Rattle.world_commit.specs.attempts.Turning.{issue}
 use Rattle.world_commit.specs.attempts.Counting.{has-taken}
 use Rattle.world_commit.specs.fates.Facts.{PromptsFly, is_prompt_kind}
 use Rattle.world_commit.specs.fates.Overs.{Over}

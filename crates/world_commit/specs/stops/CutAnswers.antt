@@ -26,13 +26,12 @@ use Rattle.world_commit.specs.attempts.Attempts.{IsOkRight, IsOther, count, inc_
 use Rattle.world_commit.specs.attempts.Counting.{count-append, has-taken}
 use Rattle.world_commit.specs.attempts.Frames.{same-itself}
 use Rattle.world_commit.specs.attempts.History.{Decided, GrowsBy, History}
-use Rattle.world_commit.specs.attempts.MarkTurns.{led-found, target-is}
-use Rattle.world_commit.specs.attempts.Working.{at_work}
+use Rattle.world_commit.specs.attempts.Stored.{led-found, target-is}
 use Rattle.world_commit.specs.fates.AckTurns as ack
 use Rattle.world_commit.specs.fates.Answers.{IsAnswer}
 use Rattle.world_commit.specs.fates.Concerns.{AreDull, IsDull, mail-sent}
 use Rattle.world_commit.specs.fates.Facts.{Attempts, IsAckRight, IsSaidSo, IsVerdictRight, Ongoing, is_try, refuses_for}
-use Rattle.world_commit.specs.attempts.FetchTurns.{fetch_memory}
+use Rattle.world_commit.specs.attempts.Turning.{fetch_memory, at_work}
 use Rattle.world_commit.specs.fates.Frames.{SameMail}
 use Rattle.world_commit.specs.fates.Rightly.{letters-tell}
 use Rattle.world_commit.specs.fates.Talks.{number-itself}

@@ -16,10 +16,9 @@ use Rattle.world_commit.specs.attempts.Attempts.{IsBorn, IsOther, entry_at, entr
 use Rattle.world_commit.specs.attempts.Counting.{has-taken}
 use Rattle.world_commit.specs.attempts.Frames.{same-untold}
 use Rattle.world_commit.specs.attempts.History.{GrowsBy, History}
-use Rattle.world_commit.specs.attempts.MarkTurns.{target-is}
+use Rattle.world_commit.specs.attempts.Stored.{target-is}
 use Rattle.world_commit.specs.attempts.MemberBits.{other-no_leader}
-use Rattle.world_commit.specs.attempts.Overs.{prepare-to}
-use Rattle.world_commit.specs.attempts.Working.{at_work}
+use Rattle.world_commit.specs.attempts.Turning.{at_work, prepare-to}
 use Rattle.world_commit.specs.fates.AnswerTurns as answer
 use Rattle.world_commit.specs.fates.Asked.{AskedRight}
 use Rattle.world_commit.specs.fates.CommitTurns as commit

@@ -7,7 +7,7 @@ use Rattle.base_types.specs.declared.report.Line.{Line}
 use Rattle.daos_model.specs.declared.durable.Durable.{Durable}
 use Rattle.world_commit.specs.attempts.Attempts.{count}
 use Rattle.world_commit.specs.attempts.History.{History}
-use Rattle.world_commit.specs.attempts.Working.{at_work}
+use Rattle.world_commit.specs.attempts.Turning.{at_work}
 use Rattle.world_commit.specs.fates.Facts.{Attempts, Ongoing}
 use Rattle.world_commit.specs.stops.Lately.{Finds}
 use Rattle.world_commit.specs.stops.Stops.{stop-keeps}

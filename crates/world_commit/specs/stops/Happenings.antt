@@ -16,8 +16,7 @@ use Rattle.world_commit.specs.stops.Failing.{failing-keeps}
 use Rattle.world_commit.specs.stops.Openings.{opening-keeps, opening_told}
 use Rattle.world_commit.specs.stops.Stops.{giving-up-keeps, sweeping-keeps}
 use Rattle.world_base.specs.declared.world.World.{World}
-use Rattle.world_base.specs.Events.{ByClient, ByTarget, Event, Rules, TargetHears, TargetHearsRightly, ToClient, ToTarget, kept, target_after, target_plan}
-use Rattle.world_base.specs.RightTurns.{TellsOfOthers, hears-rightly}
+use Rattle.world_base.specs.Events.{ByClient, ByTarget, Event, Rules, ToClient, ToTarget, target_after, rightly}
 use Rattle.world_base.specs.Stops.{Draws, Fails, Further, GivenUp, Happening, IsCut, Opens, Plainly, WorldEvent}
 
 -- by what is told in an event as without stops attempts are decided and aborted
@@ -42,25 +41,6 @@ abbrev pub IsOfAttempts : {r : Rules} {w v : World} → Happening r w v → Type
 IsOfAttempts (Further g) = ⊥
 IsOfAttempts (IsCut g) = IsWithoutSnapshots g.work
 IsOfAttempts e = Unit {0}
-
--- a turn in which what is heard tells of others' attempts alone, as a right one
-abbrev pub rightly : (r : Rules) (w v : World) (g : TargetHears r w v) → TellsOfOthers g.t g.s.memory.leader g.s.durable g.l.message → TargetHearsRightly r w v
-rightly r w v g told = record {
-  t = g.t;
-  s = g.s;
-  new = g.new;
-  memory = g.memory;
-  did = g.did;
-  reading = g.reading;
-  l = g.l;
-  rest = g.rest;
-  here = g.here;
-  runs = g.runs;
-  takes = g.takes;
-  to_it = g.to_it;
-  turn = hears-rightly (target_plan r g.t) g.s.opening g.s.memory g.reading g.l.from g.l.message (kept g.s) g.new (g.memory, g.did) told g.turn;
-  after = g.after;
-}
 
 module _ (r : Rules) (h later : History) (w v : World) (right : AskedRight r h w) (k : Attempts r h w) where
   pub happening-keeps : (e : Happening r w v) → IsOfAttempts e → GrowsBy h (told_in e) later → Attempts r later v

@@ -15,7 +15,7 @@ use Rattle.daos_model.specs.Ordered.{is_rising}
 use Rattle.dtx_base.specs.declared.leading.Undecided.{Undecided}
 use Rattle.dtx_base.specs.Leading.{undecided_attempt}
 use Rattle.dtx_base.specs.Rows.{itself, row_key, row_of}
-use Rattle.world_commit.specs.attempts.AckTurns.{ended_post}
+use Rattle.world_commit.specs.attempts.AckViews.{ended_post}
 use Rattle.world_commit.specs.attempts.Attempts.{entry_at, is_known_at, leader_of, row_at, row_in}
 use Rattle.world_commit.specs.attempts.Frames.{SameFate, same-untold}
 use Rattle.world_commit.specs.attempts.History.{Aborted, Decided, GrowsBy, History, Tells}

@@ -25,10 +25,9 @@ use Rattle.dtx_base.specs.Members.{has_target, other_members}
 use Rattle.dtx_base.specs.RowLaws.{row-is}
 use Rattle.dtx_base.specs.Rows.{is_among, is_empty, itself, row_key, row_of}
 use Rattle.world_commit.specs.attempts.Attempts.{Entries, HoldsAt, IsBorn, IsOpenAt, IsOrdered, IsOther, IsSettled, count, entry_at, entry_in, inc_at, inc_in, is_known_at, is_known_in, is_prepare_to, leader_of, one_if, others_of, row_at, row_in}
-use Rattle.world_commit.specs.attempts.Counting.{count-append, count-none}
+use Rattle.world_commit.specs.attempts.Counting.{count-append, count-none, count-map, is_same, other-once}
 use Rattle.world_commit.specs.attempts.History.{Aborted, Decided, GrowsBy, History, Tells}
 use Rattle.world_commit.specs.attempts.MemberBits.{has-none, others-same}
-use Rattle.world_commit.specs.attempts.OtherLaws.{count-map, is_same, other-once}
 use Rattle.world_commit.specs.attempts.Stored.{among-has, among-is, row-found}
 use Rattle.world_commit.specs.attempts.Turning.{one-or_another}
 use Rattle.world_commit.specs.fates.Facts.{Attempts, Awaited, IsAskedSo, IsQuiet, IsSaidSo, Rows, answers_for, asks_for, down_in, prepares_in_vain, prepares_it, is_talk, is_try, preparing, refuses_for, talking}

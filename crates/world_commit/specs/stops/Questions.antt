@@ -21,8 +21,7 @@ use Rattle.dtx_base.specs.Leading.{entry_attempt, first_leader, is_led, is_open,
 use Rattle.dtx_base.specs.Members.{other_members}
 use Rattle.dtx_base.specs.Rows.{row_of}
 use Rattle.world_commit.specs.attempts.Attempts.{count}
-use Rattle.world_commit.specs.attempts.Counting.{count-append, count-none, count-same}
-use Rattle.world_commit.specs.attempts.OtherLaws.{count-map, is_same}
+use Rattle.world_commit.specs.attempts.Counting.{count-append, count-none, count-same, count-map, is_same}
 use Rattle.world_commit.specs.fates.Facts.{answers_for, asks_for, is_between}
 use Rattle.world_base.specs.declared.letter.Letter.{Letter}
 use Rattle.world_base.specs.Events.{Rules, target_plan}

@@ -13,9 +13,8 @@ use Rattle.dtx_base.specs.declared.leading.Undecided.{Undecided}
 use Rattle.dtx_base.specs.Leading.{undecided_attempt}
 use Rattle.dtx_base.specs.Rows.{is_among, itself, row_key, row_of}
 use Rattle.world_commit.specs.attempts.Attempts.{IsOrdered, count, entry_at, entry_in, inc_at, inc_in, is_known_at, is_known_in, row_at, row_in}
-use Rattle.world_commit.specs.attempts.Counting.{count-append}
+use Rattle.world_commit.specs.attempts.Counting.{count-append, count-map}
 use Rattle.world_commit.specs.attempts.History.{History}
-use Rattle.world_commit.specs.attempts.OtherLaws.{count-map}
 use Rattle.world_commit.specs.attempts.Turning.{one-or_another}
 use Rattle.world_commit.specs.fates.Facts.{Attempts, IsQuiet, RunsAt, down_in}
 use Rattle.world_commit.specs.stops.Counts.{count-filtered}

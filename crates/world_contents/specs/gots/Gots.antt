@@ -112,3 +112,7 @@ pub record Gots (r : Rules) (h : History) (w : World) : Type 0 where
   pub lines : All (IsLineServed r h) (tries w.lines)
   pub flying : (n : ℕ) (c : ClientState) (a : Present) (l : Letter) (x : AttemptId) (op group : ℕ) (own : Option Epoch) (b : Answer) → slice_get w.clients n ≡ Some c → c.present ≡ Some a
       → Contains w.messages l → l.to ≡ client n → l.message ≡ Fetched x op group own (reply.Answer b) → IsServedAnswer (client_plan r n) h c a own b
+
+-- all that was served is
+abbrev pub Remembers : History → History → Type 0
+Remembers h k = (q : Served) → Has q h.served → Has q k.served

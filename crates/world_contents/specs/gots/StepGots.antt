@@ -1,5 +1,5 @@
 -- Every turn of a client keeps that clients were told what was served.
-use Rattle.std.specs.Prelude.{ℕ, ◌≡◌, ◌<◌, ◌++◌, Bool, true, false, List, [], map, slice_get, All, Contains, Option, Some, None, refl}
+use Rattle.std.specs.Prelude.{ℕ, ◌≡◌, ◌++◌, Bool, true, false, List, [], map, slice_get, All, Contains, Option, Some, None, refl}
 use Rattle.std.proofs.Common.{◌⊎◌, append-nil, sym, ◌∙◌, ap, subst, inl, inr}
 use Rattle.std.proofs.Math.ListN.{set}
 use Rattle.std.proofs.lemmas.Bool.{cases_eq, true≢false}
@@ -25,23 +25,19 @@ use Rattle.world_base.specs.declared.letter.Letter.{Letter}
 use Rattle.world_base.specs.declared.world.World.{World}
 use Rattle.world_base.specs.ClientTurns.{Move, attempt_id, listed, moved, waits}
 use Rattle.world_letters.specs.clients.Answered.{ops_here, ops_numbered}
-use Rattle.world_letters.specs.clients.MoveLaws.{moved-keeps}
 use Rattle.world_letters.specs.clients.Standing.{HasTold}
 use Rattle.world_base.specs.Events.{Rules, client_plan, with_epoch}
 use Rattle.world_base.specs.Letters.{client, is_tell, letter_of, letters_of, talk_of}
 use Rattle.world_base.specs.StepLaws.{set-here, set-there}
-use Rattle.world_base.specs.Steps.{KeptByMoves, after_move}
+use Rattle.world_base.specs.Steps.{after_move}
 use Rattle.world_contents.specs.gots.Gots.{AreServed, Gots, IsLineServed, IsServedAnswer, IsServedSoFar}
 use Rattle.world_contents.specs.gots.GotLaws.{IsServedHere, IsToldServed, KeepsGots, moved-gots}
 use Rattle.world_contents.specs.gots.MoreLaws.{all-mapped, served-more, stays-issued}
-use Rattle.world_contents.specs.gots.Remembering.{Standing, ToldServed}
 use Rattle.world_letters.specs.lines.FilledLaws.{tries-filled}
 use Rattle.world_letters.specs.lines.Lines.{filled}
 use Rattle.world_commit.specs.attempts.History.{History}
 use Rattle.world_letters.specs.talks.AskLaws.{move-is, waiting-rests}
 use Rattle.world_letters.specs.talks.Asked.{ARead, ASnapshot, AnAggregation, Asked, Asking, IsMove, ItsWrites, Silent, Telling}
-use Rattle.world_letters.specs.talks.ConversationLaws.{move-keeps}
-use Rattle.world_letters.specs.talks.InFlight.{none-in-flight}
 use Rattle.world_letters.specs.talks.TalkLaws.{got-is-talk, none-among}
 
 -- ---- which letters reply to reads
@@ -116,19 +112,6 @@ lines-served r h n issued lines more all told =
 
 -- ---- one client goes on
 
-pub standing-turned : (r : Rules) (w v : World) (n : ℕ) (c d : ClientState) → slice_get w.clients n ≡ Some c → v.clients ≡ set w.clients n d → Standing r w
-    → (attempts : List Attempt) × HasTold (client_plan r n) d attempts → Standing r v
-standing-turned r w v n c d here clients k own m e at = by (cases_eq m n)
-  where
-    own_state : slice_get v.clients n ≡ Some d
-    own_state = ap (λ cs. slice_get cs n) clients ∙ set-here w.clients n c d here
-
-    by : (m ≡ n) ⊎ ((m ≡ n) → ⊥) → (attempts : List Attempt) × HasTold (client_plan r m) e attempts
-    by (inl same) =
-        let it : d ≡ e = cc (own_state) in
-        subst (λ j. (attempts : List Attempt) × HasTold (client_plan r j) e attempts) (sym same) (subst (λ s. (attempts : List Attempt) × HasTold (client_plan r n) s attempts) it own)
-    by (inr apart) = k m e (sym (ap (λ cs. slice_get cs m) clients ∙ set-there w.clients n m d apart) ∙ at)
-
 -- the answers on their way to a client in this state were served to it
 abbrev pub AreFlying : History → ClientPlan → ℕ → ClientState → List Letter → Type 0
 AreFlying h p n c letters =
@@ -199,12 +182,3 @@ gots-moved r h w n c attempts here silent told k = turned r h w (after_move w n 
 
     flies : AreFlying h p n m.state (after_move w n m).messages
     flies = by (waits c) refl
-
-pub gots-move : (r : Rules) (h : History) → 0 < r.attempts → KeptByMoves r (ToldServed r h)
-gots-move r h some w n c here k =
-    let s = k.standing n c here in
-    record {
-      conversation = move-keeps r w n c here k.conversation;
-      standing = standing-turned r w (after_move w n (moved (client_plan r n) c)) n c (moved (client_plan r n) c).state here refl k.standing (_, moved-keeps (client_plan r n) c s.0 some s.1);
-      gots = gots-moved r h w n c s.0 here (none-in-flight r w n c k.conversation here) s.1 k.gots;
-    }

@@ -1,7 +1,6 @@
 -- What a target answers is of what the client that waits for it asks, at the epoch that its attempt then has.
 use Rattle.std.specs.Prelude.{ℕ, ◌≡◌, ◌++◌, List, [], ◌∷◌, map, slice_get, All, Contains, Option, Some, None, refl}
-use Rattle.std.proofs.Common.{◌⊎◌, append-nil, sym, ◌∙◌, ap, subst, inl, inr}
-use Rattle.std.proofs.lemmas.List.Elements.{All-nil}
+use Rattle.std.proofs.Common.{◌⊎◌, sym, ◌∙◌, ap, subst, inl, inr}
 use Rattle.base_types.specs.declared.answer.Answer.{Answer}
 use Rattle.base_types.specs.declared.epoch.Epoch.{Epoch}
 use Rattle.base_types.specs.declared.id.AttemptId.{AttemptId}
@@ -20,39 +19,26 @@ use Rattle.world_base.specs.declared.request.FetchRequest.{FetchRequest}
 use Rattle.world_base.specs.declared.target.TargetMemory.{TargetMemory}
 use Rattle.world_base.specs.declared.target.TargetPlan.{TargetPlan}
 use Rattle.world_base.specs.declared.world.World.{World}
-use Rattle.world_base.specs.ClientTurns.{attempt_id, is_waiting, knows_epoch}
-use Rattle.std.proofs.Common.{true≢false}
+use Rattle.world_base.specs.ClientTurns.{attempt_id, knows_epoch}
 use Rattle.std.specs.Prelude.{Bool, true, false, if◌then◌else◌}
 use Rattle.base_types.specs.declared.entry.Entry.{Entry}
 use Rattle.model_laws.specs.Members.{Has, contains-from_has, has-cases, has-from_contains, has-from_map}
-use Rattle.model_laws.specs.TargetLaws.{same_number}
 use Rattle.daos_model.specs.declared.durable.Durable.{Durable}
 use Rattle.dtx_base.specs.declared.leading.Naming.{Naming}
-use Rattle.dtx_base.specs.declared.member.Parked.{Parked}
 use Rattle.dtx_base.specs.Joining.{inquired, inquiry_for, to_inquire}
 use Rattle.dtx_base.specs.Leading.{LeaderOf, batched, commit_mark, mark_with, marks_for, owed, to_target}
 use Rattle.dtx_base.specs.Members.{all_targets}
 use Rattle.dtx_base.specs.Rows.{is_empty}
-use Rattle.world_contents.specs.reads.Adds.{Heard, IsAnswered, IsAskedIn, Waited, served_at}
-use Rattle.world_letters.specs.talks.Carriers.{is_fetch_of}
+use Rattle.world_contents.specs.reads.Adds.{served_at}
 use Rattle.world_base.specs.Idle.{AllSettled, IdleEnds, batch_of, inquiry_of}
-use Rattle.world_base.specs.MemoryLaws.{hears-follows, idles-follows}
 use Rattle.world_base.specs.Roles.{leader_at, member_at, with_unsettled}
-use Rattle.world_letters.specs.clients.MoveLaws.{clients-begin}
-use Rattle.world_base.specs.Events.{ByClient, ByTarget, Rules, TargetHearsRightly, TargetIdles, ToClient, ToTarget, client_plan, kept, target_plan, with_epoch}
-use Rattle.world_base.specs.Letters.{client, letter_of, letters_of, target}
-use Rattle.world_contents.specs.gots.Gots.{Gots, IsLineServed, IsServedAnswer}
+use Rattle.world_base.specs.Events.{Rules, client_plan}
+use Rattle.world_base.specs.Letters.{client, letter_of, letters_of}
+use Rattle.world_contents.specs.gots.Gots.{Gots, IsLineServed, IsServedAnswer, Remembers}
 use Rattle.world_contents.specs.gots.MoreLaws.{all-more, remembered-more, served-more, stays-remembered}
-use Rattle.world_contents.specs.gots.Remembering.{AreRemembered, NothingIsTold, Remembers, ServedIsTold, Standing, ToldServed}
-use Rattle.world_contents.specs.gots.TurnGots.{client-goes-told, client-hears-told}
 use Rattle.world_commit.specs.attempts.History.{History}
 use Rattle.world_contents.specs.gots.StepGots.{is_fetched}
-use Rattle.world_letters.specs.talks.AskLaws.{asked-read}
 use Rattle.world_letters.specs.talks.Asked.{AsksRead}
-use Rattle.world_letters.specs.talks.Conversation.{is_request}
-use Rattle.world_letters.specs.talks.ConversationLaws.{conversations-begin, conversations-kept}
-use Rattle.world_letters.specs.talks.InFlight.{hears-request, parked-is}
-use Rattle.world_letters.specs.talks.TalkLaws.{left-is-among}
 use Rattle.world_base.specs.Changes.{Kept}
 use Rattle.world_base.specs.Requests.{fetch_message}
 
@@ -122,12 +108,6 @@ pub gots-remembered : (r : Rules) (h k : History) (w : World) → Remembers h k 
 gots-remembered r h k w more g =
     same-clients r h k w w more refl refl g (λ n c a l x op group own b at here in' to it. answer-remembered (client_plan r n) h k c a own b more (g.flying n c a l x op group own b at here in' to it))
 
-told-remembered : (r : Rules) (h k : History) (w : World) → Remembers h k → ToldServed r h w → ToldServed r k w
-told-remembered r h k w more t = record { conversation = t.conversation; standing = t.standing; gots = gots-remembered r h k w more t.gots }
-
-same-standing : (r : Rules) (w v : World) → v.clients ≡ w.clients → Standing r w → Standing r v
-same-standing r w v clients k n c at = k n c (ap (λ cs. slice_get cs n) (sym clients) ∙ at)
-
 -- ---- a target hears a message
 
 pub same-request : (q f : FetchRequest) → fetch_message q ≡ fetch_message f → (q.attempt ≡ f.attempt) × (q.op ≡ f.op) × (q.group ≡ f.group) × (q.ep ≡ f.ep) × (q.read ≡ f.read)
@@ -158,92 +138,12 @@ client-served r k w t n c a q epoch b y number here present =
     attempt : y.a ≡ a
     attempt = let at : c.present ≡ Some y.a = subst (λ s. s.present ≡ Some y.a) state y.present in cc (at, present)
 
-module _ (r : Rules) (h k : History) (w v : World) (t : ToldServed r h w) (g : TargetHearsRightly r w v) where
-  heard-asked : (q : FetchRequest) (epoch : Epoch) (b : Answer) → fetch_message q ≡ g.l.message → ((f : Epoch) → q.ep ≡ Some f → f ≡ epoch) → Has (served_at g.t q epoch b) k.served → AnswersClient r k w g.t q epoch b
-  heard-asked q epoch b it own among =
-      let i = hears-request r w g.l g.rest t.conversation g.takes (ap is_request (sym it)) in
-      let says : i.q.message ≡ fetch_message q = sym (ap (λ z. z.message) i.it) ∙ sym it in
-      record {
-        n = i.n;
-        c = i.c;
-        a = i.a;
-        here = i.here;
-        present = i.present;
-        k0 = i.k;
-        is = record { f = q; asks = asked-read (client_plan r i.n) i.k i.c i.a i.q q i.asked says; agrees = own; attempt = refl; op = refl; group = refl; read = refl; among = among };
-      }
-
-  waited-asked : (q : FetchRequest) (epoch : Epoch) (b : Answer) (p : Parked) → Has p g.s.memory.member.parked → fetch_message q ≡ p.ask → ((f : Epoch) → q.ep ≡ Some f → f ≡ epoch) → Has (served_at g.t q epoch b) k.served
-      → AnswersClient r k w g.t q epoch b
-  waited-asked q epoch b p i it own among =
-      let z = parked-is r w g.t g.s p q.attempt.client t.conversation g.here i (ap (is_fetch_of q.attempt.client) (sym it) ∙ same_number q.attempt.client) in
-      let same = same-request q (record z.f { ep = Some z.e }) (it ∙ z.it) in
-      record {
-        n = z.n;
-        c = z.c;
-        a = z.a;
-        here = z.here;
-        present = z.present;
-        k0 = z.k;
-        is = record {
-          f = z.f;
-          asks = z.asked;
-          agrees = λ o is. z.own o is ∙ own z.e same.3;
-          attempt = same.0;
-          op = same.1;
-          group = same.2;
-          read = same.4;
-          among = among;
-        };
-      }
-
-  asked-by : (q : FetchRequest) (epoch : Epoch) (b : Answer) → IsAskedIn g.l.message g.s.memory.member.parked (fetch_message q) → ((f : Epoch) → q.ep ≡ Some f → f ≡ epoch) → Has (served_at g.t q epoch b) k.served → AnswersClient r k w g.t q epoch b
-  asked-by q epoch b (Heard it) own among = heard-asked q epoch b it own among
-  asked-by q epoch b (Waited p i it) own among = waited-asked q epoch b p i it own among
-
-  -- an answer that is sent to a client is of what it asks
-  sent-answer : AreRemembered r w v k g → (n : ℕ) (c : ClientState) (a : Present) (p : Post) (x : AttemptId) (op group : ℕ) (own : Option Epoch) (b : Answer) → slice_get w.clients n ≡ Some c → c.present ≡ Some a
-      → Has p g.did.posts → p.to ≡ client n → p.message ≡ message.Fetched x op group own (reply.Answer b) → IsServedAnswer (client_plan r n) k c a own b
-  sent-answer has n c a p x op group own b here present i to it = subst (λ e. IsServedAnswer (client_plan r n) k c a e b) (sym z.told) (client-served r k w g.t n c a z.q z.epoch b y number here present)
-    where
-      z : IsAnswered k.served g.t g.l.message g.s.memory.member.parked x op group own b
-      z = has.answered p x op group own b i it
-
-      y : AnswersClient r k w g.t z.q z.epoch b
-      y = asked-by z.q z.epoch b z.asked z.own z.among
-
-      number : y.n ≡ n
-      number =
-          let of_it : x.client ≡ y.n = ap (λ u. u.client) (z.attempt ∙ y.is.attempt ∙ y.is.asks.attempt) in
-          let home : client n ≡ client x.client = sym to ∙ has.home p x op group own b i it in
-          sym of_it ∙ sym (ap (λ u. u.number) home)
-
 -- what is in flight once a target did something: what was left, and what it sends
 pub sent-or_left : (rest : List Letter) (from : ActorId) (posts : List Post) (l : Letter) → Contains (rest ++ letters_of from posts) l → Contains rest l ⊎ ((p : Post) × Has p posts × (letter_of from p ≡ l))
 sent-or_left rest from posts l i = elim (has-cases rest (letters_of from posts) l (has-from_contains (rest ++ letters_of from posts) l i)) [
   | inl j ↦ inl (contains-from_has rest l j)
   | inr j ↦ inr (has-from_map (letter_of from) posts l j)
 ]
-
-target-hears-told : (r : Rules) (h k : History) (w v : World) → Remembers h k → ToldServed r h w → (g : TargetHearsRightly r w v) → AreRemembered r w v k g → ToldServed r k v
-target-hears-told r h k w v more t g has = record {
-  conversation = conversations-kept r w v t.conversation (ToTarget g);
-  standing = same-standing r w v (ap (λ x. x.clients) g.after) t.standing;
-  gots = same-clients r h k w v more (ap (λ x. x.clients) g.after) lines t.gots flies;
-}
-  where
-    lines : v.lines ≡ w.lines
-    lines =
-        ap (λ x. x.lines) g.after
-        ∙ ap (λ ls. w.lines ++ map (with_epoch w.issued) ls) (hears-follows (target_plan r g.t) g.s.opening g.s.memory g.reading g.l.from g.l.message (kept g.s) g.new (g.memory, g.did) g.turn).lines ∙ append-nil w.lines
-
-    flies : (n : ℕ) (c : ClientState) (a : Present) (l : Letter) (x : AttemptId) (op group : ℕ) (own : Option Epoch) (b : Answer) → slice_get w.clients n ≡ Some c → c.present ≡ Some a → Contains v.messages l
-        → l.to ≡ client n → l.message ≡ message.Fetched x op group own (reply.Answer b) → IsServedAnswer (client_plan r n) k c a own b
-    flies n c a l x op group own b here present among to it = by (sent-or_left g.rest (target g.t) g.did.posts l (subst (λ ls. Contains ls l) (ap (λ z. z.messages) g.after) among))
-      where
-        by : Contains g.rest l ⊎ ((p : Post) × Has p g.did.posts × (letter_of (target g.t) p ≡ l)) → IsServedAnswer (client_plan r n) k c a own b
-        by (inl before) = answer-remembered (client_plan r n) h k c a own b more (t.gots.flying n c a l x op group own b here present (left-is-among w.messages g.l g.rest l g.takes before) to it)
-        by (inr p) = sent-answer r h k w v t g has n c a p.0 x op group own b here present p.1 (ap (λ z. z.to) p.2 ∙ to) (ap (λ z. z.message) p.2 ∙ it)
 
 -- ---- a target does its idle work, and answers no read
 
@@ -277,45 +177,3 @@ inquiries-none true t m d = λ p i. let e = has-from_map inquiry_for (to_inquire
 pub ends-none : (settling : Bool) (t : TargetPlan) (m : TargetMemory) (s : List AttemptId) (k : Kept) (left : TargetMemory × Did) → IdleEnds settling t m s k left → AnswerNone left.1.posts
 ends-none settling t m s k left (AllSettled j left2 is) =
     subst (λ z. AnswerNone z.1.posts) (sym is) (both-none (batch_of t m k.durable).posts (inquiry_of settling t m k.durable).freed.posts (batch-none (leader_at t (with_unsettled [] m) k.durable)) (inquiries-none settling t m k.durable))
-
-target-idles-told : (r : Rules) (h k : History) (w v : World) → Remembers h k → ToldServed r h w → TargetIdles r w v → ToldServed r k v
-target-idles-told r h k w v more t g = record {
-  conversation = conversations-kept r w v t.conversation (ByTarget g);
-  standing = same-standing r w v (ap (λ x. x.clients) g.after) t.standing;
-  gots = same-clients r h k w v more (ap (λ x. x.clients) g.after) lines t.gots flies;
-}
-  where
-    lines : v.lines ≡ w.lines
-    lines =
-        ap (λ x. x.lines) g.after ∙ ap (λ ls. w.lines ++ map (with_epoch w.issued) ls) (idles-follows g.settling (target_plan r g.t) g.s.memory (kept g.s) g.new (g.memory, g.did) g.turn).lines ∙ append-nil w.lines
-
-    flies : (n : ℕ) (c : ClientState) (a : Present) (l : Letter) (x : AttemptId) (op group : ℕ) (own : Option Epoch) (b : Answer) → slice_get w.clients n ≡ Some c → c.present ≡ Some a → Contains v.messages l
-        → l.to ≡ client n → l.message ≡ message.Fetched x op group own (reply.Answer b) → IsServedAnswer (client_plan r n) k c a own b
-    flies n c a l x op group own b here present among to it = by (sent-or_left w.messages (target g.t) g.did.posts l (subst (λ ls. Contains ls l) (ap (λ z. z.messages) g.after) among))
-      where
-        by : Contains w.messages l ⊎ ((p : Post) × Has p g.did.posts × (letter_of (target g.t) p ≡ l)) → IsServedAnswer (client_plan r n) k c a own b
-        by (inl before) = answer-remembered (client_plan r n) h k c a own b more (t.gots.flying n c a l x op group own b here present before to it)
-        by (inr p) =
-            let none : is_fetched p.0.message ≡ false = ends-none g.settling (target_plan r g.t) g.s.memory g.turn.last g.new (g.memory, g.did) g.turn.ends p.0 p.1 in
-            let some : is_fetched p.0.message ≡ true = ap is_fetched (ap (λ z. z.message) p.2 ∙ it) in
-            absurd (true≢false (sym some ∙ none))
-
--- ---- the laws
-
-pub served-is-told : ServedIsTold
-served-is-told r h k w v some more t (ByClient g) has = client-goes-told r k w v some (told-remembered r h k w more t) g
-served-is-told r h k w v some more t (ToClient g) has = client-hears-told r k w v some (told-remembered r h k w more t) g
-served-is-told r h k w v some more t (ToTarget g) has = target-hears-told r h k w v more t g has
-served-is-told r h k w v some more t (ByTarget g) has = target-idles-told r h k w v more t g
-
-pub nothing-is-told : NothingIsTold
-unfolding tries
-nothing-is-told r h w none no_lines held free = record {
-  conversation = conversations-begin r w none held (λ n c at. ap is_waiting (free n c at).present);
-  standing = λ n c at. let f = free n c at in ([], clients-begin (client_plan r n) c f.place f.command f.present);
-  gots = record {
-    present = λ n c a at here. let no : ⊥ = cc ((free n c at).present, here) in absurd no;
-    lines = subst (λ ls. All (IsLineServed r h) (tries ls)) (sym no_lines) (All-nil (IsLineServed r h));
-    flying = λ n c a l x op group own b at here in' to it. let no : ⊥ = cc ((free n c at).present, here) in absurd no;
-  };
-}

@@ -1,6 +1,6 @@
 -- The form of messages: what clients ask of targets, what targets tell each other, and what clients are told.
 use Rattle.std.specs.Prelude.{ℕ, ◌≡◌, ◌<◌, ◌^◌, ◌⊎◌, Bool, true, false, IfSome, All, length, List, Option, Some, None, is_some}
-use Rattle.std.proofs.Common.{sym, subst}
+use Rattle.std.proofs.Common.{subst}
 use Rattle.base_types.specs.declared.entry.Entry.{Entry}
 use Rattle.base_types.specs.declared.epoch.Epoch.{Epoch}
 use Rattle.base_types.specs.declared.operation.MinorWrite.{MinorWrite}
@@ -201,9 +201,3 @@ pub leaders-post : (targets : ℕ) (old new : TargetMemory) (posts : List Post) 
 leaders-post targets old new posts same k waits =
     let f = k waits.attempts in
     record { form = f.form; waiting = record { attempts = f.waiting; collections = λ n i. waits.collections n (subst (Has n) same i) } }
-
--- and a turn in which nothing that a leader remembers changes
-pub makers-post : (targets : ℕ) (old new : TargetMemory) (posts : List Post) → new.leader ≡ old.leader → (ClientsCollect old.collecting → TargetPosts targets posts × ClientsCollect new.collecting) → TurnsPostInForm targets old new posts
-makers-post targets old new posts same k waits =
-    let f = k waits.collections in
-    record { form = f.0; waiting = record { attempts = subst ClientsWait (sym same) waits.attempts; collections = f.1 } }

@@ -35,7 +35,7 @@ use Rattle.dtx_base.specs.Leading.{LeaderOf, LeaderStep, abort_to, ack_heard, an
 use Rattle.dtx_base.specs.Members.{all_targets, are_all_counted, has_target, is_other_member, is_written_at, other_members, with_target, writes_at}
 use Rattle.dtx_base.specs.Rows.{is_empty, is_other_row, is_row_of, row_key, with_row, without_row}
 use Rattle.world_base.specs.declared.target.TargetPlan.{TargetPlan}
-use Rattle.world_letters.specs.addresses.TurnAddresses.{bit-of, writes-within}
+use Rattle.world_contents.specs.posts.Members.{bit-of, writes-within}
 use Rattle.world_contents.specs.reads.ListLaws.{some-in_form}
 use Rattle.world_base.specs.Commits as commit
 use Rattle.world_contents.specs.posts.Forms.{ClientsWait, Follows, IsBetween, IsOfTarget, PostsInForm, TargetPosts, is_told}

@@ -31,7 +31,7 @@ use Rattle.world_contents.specs.reads.AsOfLaws.{as_of-more}
 use Rattle.world_contents.specs.reads.ChangeLaws.{entry-among}
 use Rattle.world_contents.specs.reads.DecideLaws.{Elsewhere, Held, IsHeldOrElsewhere, MayBeDecided, is-added, stays-apart}
 use Rattle.model_laws.specs.PlaceLaws.{asked-member, group-own, leads-object}
-use Rattle.world_commit.specs.attempts.MarkTurns.{found-attempt}
+use Rattle.world_commit.specs.attempts.Stored.{found-attempt}
 use Rattle.world_contents.specs.reads.Reads.{IsAnsweredRight, IsOfAttempt, map_then, map_seen}
 use Rattle.world_contents.specs.reads.Transactions.{decided_of, transactions}
 use Rattle.world_contents.specs.reads.Versions.{IsWriteAt, VersionsStand}

@@ -8,7 +8,7 @@ use Rattle.base_types.specs.declared.epoch.Epoch.{Epoch}
 use Rattle.base_types.specs.declared.id.AttemptId.{AttemptId}
 use Rattle.base_types.specs.declared.operation.MinorWrite.{MinorWrite}
 use Rattle.base_types.specs.Placement.{path_members}
-use Rattle.model_laws.specs.EntryLaws.{found-has, found-passes, pairs-map, same-attempt}
+use Rattle.model_laws.specs.EntryLaws.{found-has, pairs-map, same-attempt}
 use Rattle.model_laws.specs.DecidingLaws.{aborting-keeps, settling-keeps}
 use Rattle.model_laws.specs.Members.{Has, any-has, contains-from_has, has-any, has-filter, has-from_contains, has-from_filter, has-from_map, has-map}
 use Rattle.model_laws.specs.Targets.{ArePlaced}
@@ -24,7 +24,7 @@ use Rattle.daos_model.specs.Opening.{Opening}
 use Rattle.daos_model.specs.OrderLaws.{rising-filter}
 use Rattle.daos_model.specs.Versions.{done_by, is_not_pending, is_pending, version_of, version_path}
 use Rattle.world_commit.specs.attempts.History.{Decided, History, is_decided}
-use Rattle.world_commit.specs.attempts.MarkTurns.{found-attempt}
+use Rattle.world_commit.specs.attempts.Stored.{found-attempt}
 use Rattle.world_base.specs.Events.{Rules, is_issue_of}
 use Rattle.world_base.specs.EntryLaws.{entry-aborted, entry-aborted_other, entry-committed, entry-confirmed}
 use Rattle.world_contents.specs.reads.ListLaws.{pairs-from_rising}
@@ -46,11 +46,6 @@ pub has-decided : (h : History) (x : AttemptId) (e : Epoch) → Decided h x e �
 has-decided h x e i = any-has (is_issue_of x) h.decided (x, e) i (same_attempt-itself x)
 
 -- ---- entries
-
--- an entry found for an attempt is that attempt's
-pub entry-of-it : (d : Durable) (x : AttemptId) (e : Entry) → entry_of d x ≡ Some e → same_attempt e.attempt x ≡ true
-unfolding entry_of
-entry-of-it d x e found = found-passes (is_entry_of x) d.entries e found
 
 pub entry-among : (d : Durable) (x : AttemptId) (k : Entry) → entry_of d x ≡ Some k → Contains d.entries k
 unfolding entry_of

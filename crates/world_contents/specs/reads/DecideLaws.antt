@@ -30,7 +30,7 @@ use Rattle.world_base.specs.Events.{Rules}
 use Rattle.world_contents.specs.reads.ChangeLaws.{WasDecided, entry-among}
 use Rattle.model_laws.specs.EntryLaws.{same-attempt}
 use Rattle.daos_model.specs.EntryLaws.{same_attempt-itself}
-use Rattle.world_commit.specs.attempts.MarkTurns.{found-attempt}
+use Rattle.world_commit.specs.attempts.Stored.{found-attempt}
 use Rattle.world_contents.specs.reads.Given.{FitsTargets}
 use Rattle.world_contents.specs.reads.Transactions.{counts_by, decided_of, transactions}
 use Rattle.world_contents.specs.reads.Versions.{IsPreparedAt, IsVersionOf, IsWriteAt, VersionsStand, is_own_in, mark_of, SnapshotsStand}

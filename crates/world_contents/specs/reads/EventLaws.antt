@@ -24,11 +24,8 @@ use Rattle.dtx_base.specs.declared.leading.Undecided.{Undecided}
 use Rattle.dtx_base.specs.declared.member.Parked.{Parked}
 use Rattle.dtx_base.specs.Leading.{undecided_attempt}
 use Rattle.dtx_base.specs.Rows.{is_attempt, row_of}
-use Rattle.world_commit.specs.attempts.Attempts.{Attempts, Entries, IsOther, entry_at, entry_in, is_known_in, leader_of, row_in}
-use Rattle.world_commit.specs.attempts.Counting.{has-taken}
-use Rattle.world_commit.specs.attempts.EventLaws.{none-is-both}
-use Rattle.world_commit.specs.attempts.History.{GrowsBy, History, Served}
-use Rattle.world_commit.specs.attempts.Keeping.{AttemptsAreKept, NoneIsBoth}
+use Rattle.world_commit.specs.attempts.Attempts.{Entries, IsOther, entry_at, entry_in, is_known_in, leader_of, row_in}
+use Rattle.world_commit.specs.attempts.History.{History, Served}
 use Rattle.world_base.specs.declared.client.ClientState.{ClientState}
 use Rattle.world_base.specs.declared.did.Did.{Did}
 use Rattle.world_base.specs.declared.letter.Letter.{Letter}
@@ -36,25 +33,23 @@ use Rattle.world_base.specs.declared.target.Life.TheVariants.{Running}
 use Rattle.world_base.specs.declared.target.TargetMemory.{TargetMemory}
 use Rattle.world_base.specs.declared.target.TargetState.{TargetState}
 use Rattle.world_base.specs.declared.world.World.{World}
-use Rattle.world_base.specs.Events.{ClientGoes, ClientHears, Rules, TargetHearsRightly, ToTarget, after_turn, kept, listed, target_after, target_plan, with_client, with_target}
+use Rattle.world_base.specs.Events.{ClientGoes, ClientHears, Rules, after_turn, kept, listed, target_after, target_plan, with_client, with_target}
 use Rattle.world_base.specs.Letters.{client, target}
 use Rattle.world_base.specs.StepLaws.{set-here, set-there}
 use Rattle.world_contents.specs.reads.AckLaws.{ack-sound}
-use Rattle.world_contents.specs.reads.Adds.{NoneIs, is_end}
 use Rattle.world_contents.specs.reads.AnswerLaws.{IsBarred}
 use Rattle.world_contents.specs.reads.Beginning.{HasOpenRow, IsUndecidedAt, TurnBegins}
 use Rattle.world_contents.specs.reads.ChangeLaws.{WasDecided}
 use Rattle.world_contents.specs.reads.CommitLaws.{HearsCommit, MayBeStored, commit-sound, prepare-sound}
 use Rattle.world_contents.specs.reads.Given.{Given, IsMessageRight, IsParkedRight}
-use Rattle.world_contents.specs.reads.Growing.{Decides, grown, refused_in}
-use Rattle.world_contents.specs.reads.GrowLaws.{decides-told, grown-grows, none-grows}
+use Rattle.world_contents.specs.reads.Growing.{Decides}
 use Rattle.world_contents.specs.reads.LaterLaws.{grown-answers, grown-apart, grown-issued, grown-stands, grown-written}
-use Rattle.world_contents.specs.reads.Keeping.{Before, ClientsKeepReads, GoOn, HearingKeepsReads, IdlingKeepsReads, OthersKeepReads}
+use Rattle.world_contents.specs.reads.Keeping.{ClientsKeepReads, OthersKeepReads}
 use Rattle.world_contents.specs.reads.MarkLaws.{IdleSound, idle-sound, mark-sound, marked-sound, query-sound}
 use Rattle.world_contents.specs.reads.MemberLaws.{writes-member}
 use Rattle.world_contents.specs.reads.Midway.{IsServedRight, IsStampOf, Sound, TurnLeaves}
 use Rattle.world_contents.specs.reads.Reads.{IsAnsweredRight, IsGuarded, IsOfAttempt, Reads}
-use Rattle.world_contents.specs.reads.Standing.{IsToldSo, IsVerdictSo, Knows, knows-before, undecided-here}
+use Rattle.world_contents.specs.reads.Standing.{IsToldSo, IsVerdictSo, Knows}
 use Rattle.world_contents.specs.reads.VerdictLaws.{IsVerdictRight, fetch-sound, verdict-sound}
 use Rattle.world_contents.specs.reads.Versions.{IsWriteAt, Versions, VersionsStand}
 use Rattle.world_base.specs.Changes.{Kept}
@@ -314,49 +309,6 @@ module _ (r : Rules) (o : Opening) (held : ℕ → List Version) (h : History) (
           (form-now r o held h w b t s new left rest here more right sound q i)
           (right-now r o held h w b t s new left rest here more right sound q i)
 
-module _ (attempts-kept : AttemptsAreKept) (both-not : NoneIsBoth) where
-  -- a target that hears a message, in the world that follows
-  hearing-on : (r : Rules) (o : Opening) (held : ℕ → List Version) (h : History) (w v : World) (b : Before r o held h w) (g : TargetHearsRightly r w v) → GoOn r o held h w v g
-  hearing-on r o held h w v b g = record {
-    later = later;
-    grows = grows;
-    served = λ q i. has-right k.more h.served q i;
-    answered = k.answered;
-    versions = subst (Versions r o held later) (sym g.after) kept'.0;
-    reads = subst (Reads r o later) (sym g.after) kept'.1;
-  }
-    where
-      knows : Knows r o held h w
-      knows = knows-before both-not r o held h w b
-
-      among : Has g.l w.messages
-      among = has-taken w.messages g.l g.rest g.takes
-
-      plain : (m : Message) → IsAckPlain r o held h w knows g.t g.s g.here g.runs g.reading g.l among g.to_it m
-      plain (message.Ack x inc refusal) = undecided-here both-not r h w b.attempts g.l g.t g.s among g.to_it g.here x
-      plain m = tt
-
-      k : TurnLeaves r o (held g.t) h w g.s.opening g.t g.l.message g.s.memory.member.parked g.new (g.memory, g.did)
-      k = hears-sound r o held h w knows g.t g.s g.here g.runs g.reading g.l among g.to_it g.new (g.memory, g.did) g.l.message refl (plain g.l.message) g.turn
-
-      later : History
-      later = grown h k.told g.did.posts k.more
-
-      issued : List (AttemptId × Epoch)
-      issued = w.issued ++ listed g.did.issued
-
-      grows : GrowsBy h g.did.posts later
-      grows = grown-grows h k.told g.did.posts k.more (decides-told r o h issued g.did.posts k.told k.decides)
-
-      attempts : Attempts r later (After w g.t g.s g.new (g.memory, g.did) g.rest)
-      attempts = subst (Attempts r later) g.after (attempts-kept r h later w v b.right b.attempts (ToTarget g) grows)
-
-      kept' : Versions r o held later (After w g.t g.s g.new (g.memory, g.did) g.rest) × Reads r o later (After w g.t g.s g.new (g.memory, g.did) g.rest)
-      kept' = turn-keeps r o held h w knows g.t g.s g.new (g.memory, g.did) g.rest g.here k.more k.right k.sound g.did.posts k.told k.decides (refused_in g.did.posts ++ h.aborted) (λ x. (attempts.each x).entries)
-
-  pub hearing-keeps : HearingKeepsReads
-  hearing-keeps = hearing-on
-
 -- a target that does its idle work decides and serves nothing
 module _ (r : Rules) (o : Opening) (held : ℕ → List Version) (h : History) (w : World) (b : Knows r o held h w) (settling : Bool) (t : ℕ) (s : TargetState) (new : Kept) (left : TargetMemory × Did) (here : slice_get w.targets t ≡ Some s) (runs : s.life ≡ Running)
     (turn : IdlesWhole settling (target_plan r t) s.memory (kept s) new left) where
@@ -376,18 +328,6 @@ module _ (r : Rules) (o : Opening) (held : ℕ → List Version) (h : History) (
     },
     reads-now r o held h w b t s new left w.messages here [] none idle-leaves.sound h refl b.reads.answers,
   )
-
-pub idling-keeps : IdlingKeepsReads
-idling-keeps r o held h w v b g = (none-grows h g.did.posts endless, subst (Versions r o held h) (sym g.after) k.0, subst (Reads r o h) (sym g.after) k.1)
-  where
-    knows : Knows r o held h w
-    knows = knows-before none-is-both r o held h w b
-
-    endless : NoneIs is_end g.did.posts
-    endless = (idle-leaves r o held h w knows g.settling g.t g.s g.new (g.memory, g.did) g.here g.runs g.turn).endless
-
-    k : Versions r o held h (After w g.t g.s g.new (g.memory, g.did) w.messages) × Reads r o h (After w g.t g.s g.new (g.memory, g.did) w.messages)
-    k = idle-keeps r o held h w knows g.settling g.t g.s g.new (g.memory, g.did) g.here g.runs g.turn
 
 -- ---- where no target changes
 

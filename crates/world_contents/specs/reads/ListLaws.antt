@@ -88,15 +88,6 @@ some-in_form p ws f = record {
 
 -- ---- what is found
 
--- none is found where none passes
-pub find-none : {T : Type 0} (p : T → Bool) (xs : List T) → ((x : T) → Has x xs → p x ≡ true → ⊥) → find p xs ≡ None
-find-none p [] none = refl
-find-none p (x ∷ xs) none = by (find-none p xs (λ y i e. none y (inr i) e)) (p x) refl
-  where
-    by : find p xs ≡ None → (b : Bool) → p x ≡ b → (if b then Some x else find p xs) ≡ None
-    by rest true e = absurd (none x (inl refl) e)
-    by rest false e = rest
-
 -- none passes where none is found
 pub none-found : {T : Type 0} (p : T → Bool) (xs : List T) (x : T) → find p xs ≡ None → Has x xs → p x ≡ false
 none-found p [] x h i = absurd i

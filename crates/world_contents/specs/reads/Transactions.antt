@@ -1,5 +1,5 @@
 -- The decided attempts as transactions, and which versions count.
-use Rattle.std.specs.Prelude.{Bool, ◌||◌, List, ◌++◌, map}
+use Rattle.std.specs.Prelude.{Bool, ◌||◌, List, map}
 use Rattle.base_types.specs.declared.epoch.Epoch.{Epoch}
 use Rattle.base_types.specs.declared.id.AttemptId.{AttemptId}
 use Rattle.base_types.specs.declared.script.Script.{Script}
@@ -7,7 +7,7 @@ use Rattle.model_laws.specs.Decided.{Decided}
 use Rattle.daos_model.specs.declared.durable.Version.{Version}
 use Rattle.daos_model.specs.Accesses.{minor_writes}
 use Rattle.daos_model.specs.Transactions.{attempt_ops}
-use Rattle.world_commit.specs.attempts.History.{History, Served, is_decided}
+use Rattle.world_commit.specs.attempts.History.{History, is_decided}
 
 -- a decided attempt as a transaction
 abbrev pub decided_of : Script → AttemptId × Epoch → Decided
@@ -20,7 +20,3 @@ transactions s h = map (decided_of s) h.decided
 -- a version counts where it is done, or its attempt is decided
 abbrev pub counts_by : History → Version → Bool
 counts_by h v = v.done || is_decided h v.by
-
--- these reads were served besides
-abbrev pub serves_all : List Served → History → History
-serves_all qs h = record h { served = qs ++ h.served }

@@ -23,13 +23,13 @@ use Rattle.dtx_base.specs.Rows.{row_of}
 use Rattle.model_laws.specs.Lists.{at-within}
 use Rattle.model_laws.specs.Members.{Has, has-filter, has-from_filter, has-left}
 use Rattle.model_laws.specs.TargetLaws.{number_same, same_number}
-use Rattle.world_letters.specs.addresses.Staying.{events-keep-targets}
+use Rattle.world_letters.specs.apart.Staying.{events-keep-targets}
 use Rattle.world_commit.specs.asks.Moving.{TargetMoves, all-stay, goes-moves, heard-moves, hears-moves, idle-moves, same-there}
 use Rattle.world_commit.specs.asks.RowsKept.{IsFresh, IsNewRow, RowsAfter, hears-rows}
 use Rattle.world_commit.specs.attempts.Attempts.{IsOther, entry_at, entry_in, first_entry, inc_at, inc_in, is_target, leader_of, members_of, one_if, row_at, row_in}
 use Rattle.world_commit.specs.attempts.Counting.{count-some, has-taken}
 use Rattle.world_commit.specs.attempts.History.{History}
-use Rattle.world_commit.specs.attempts.MarkTurns.{found-led, led-found}
+use Rattle.world_commit.specs.attempts.Stored.{found-led, led-found}
 use Rattle.world_commit.specs.attempts.MemberBits.{has-none, is-other_same, other-no_leader}
 use Rattle.world_commit.specs.attempts.Turning.{one-or_another}
 use Rattle.world_base.specs.declared.letter.Letter.{Letter}
@@ -39,7 +39,7 @@ use Rattle.world_base.specs.declared.target.TargetState.{TargetState}
 use Rattle.world_base.specs.declared.world.World.{World}
 use Rattle.world_base.specs.ChangeLaws.{incarnation-made}
 use Rattle.world_base.specs.Commits.{bits_of}
-use Rattle.world_base.specs.Events.{ByClient, ByTarget, Event, Rules, TargetHearsBy, TargetHearsRightly, TargetIdles, ToClient, ToTarget, kept, target_after, target_plan}
+use Rattle.world_base.specs.Events.{ByClient, ByTarget, Event, Rules, TargetHearsBy, TargetHearsRightly, TargetIdles, ToClient, ToTarget, kept, target_after, target_plan, rightly}
 use Rattle.world_base.specs.Further.{HearsFurther, KnowsNoneDown, reset_by}
 use Rattle.world_base.specs.Letters.{letter_of, target}
 use Rattle.world_base.specs.MemoryLaws.{idle-leaves}
@@ -60,7 +60,6 @@ use Rattle.world_commit.specs.statuses.Events.{HappensWithoutSnapshots}
 use Rattle.world_commit.specs.statuses.Heard.{is_of_attempts}
 use Rattle.world_commit.specs.statuses.ResetTurns.{is_collecting}
 use Rattle.world_commit.specs.statuses.Senders.{IsSentRightly, SendersAreRight}
-use Rattle.world_commit.specs.stops.Happenings.{rightly}
 use Rattle.world_commit.specs.stops.Parts.{now-here, now-there}
 use Rattle.world_commit.specs.stops.Questions.{opening-down}
 use Rattle.world_legal.specs.closing.Gone.{NoneGoesToGivenUp}

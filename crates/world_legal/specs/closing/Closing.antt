@@ -1,5 +1,5 @@
 -- Where a run in which targets may stop has ended, and what its report and its stores are to be.
-use Rattle.std.specs.Prelude.{ℕ, ◌≡◌, ◌⊎◌, ◌<◌, true, false, List, [], Contains, length, slice_get, Some, None}
+use Rattle.std.specs.Prelude.{ℕ, ◌≡◌, ◌⊎◌, ◌<◌, true, false, List, [], Contains, length, slice_get, Some, None, map}
 use Rattle.base_types.specs.declared.epoch.Epoch.{Epoch}
 use Rattle.base_types.specs.declared.id.AttemptId.{AttemptId}
 use Rattle.base_types.specs.declared.outcome.Outcome.TheVariants.{Committed}
@@ -24,13 +24,19 @@ use Rattle.world_base.specs.declared.world.World.{World}
 use Rattle.world_base.specs.ClientTurns.{is_done, waits}
 use Rattle.world_base.specs.Events.{Rules, client_plan}
 use Rattle.world_base.specs.Letters as letter
-use Rattle.world_plain.specs.ends.Ends.{durables_of}
 use Rattle.world_letters.specs.lines.LastLines.{AreDone, HasClients}
 use Rattle.world_letters.specs.lives.Legal.{NoneIsStopped}
-use Rattle.world_causes.specs.outcomes.Outcomes.{is_failed}
+use Rattle.world_causes.specs.outcomes.Outcomes.{is_failed, HasWrites}
 use Rattle.world_contents.specs.reads.Reads.{Reads}
 use Rattle.world_contents.specs.reads.Versions.{Versions}
-use Rattle.world_contents.specs.verdicts.Verdicts.{HasWrites}
+use Rattle.daos_model.specs.declared.durable.Durable.{Durable}
+
+-- what targets keep, in their order
+abbrev pub durable_of : TargetState → Durable
+durable_of s = s.durable
+
+abbrev pub durables_of : World → List Durable
+durables_of w = map durable_of w.targets
 
 -- ---- a run is over
 

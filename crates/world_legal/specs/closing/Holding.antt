@@ -1,5 +1,5 @@
 -- An attempt is resolved by what the targets keep exactly where its leader and all other members hold it.
-use Rattle.std.specs.Prelude.{ℕ, zero, suc, ◌≡◌, ◌⊎◌, ◌<◌, ◌≤◌, ◌+◌, ◌*◌, ◌^◌, ◌==◌, ◌&&◌, ◌||◌, Bool, true, false, bit_and, is_some, nat_lt, not, List, [], ◌∷◌, length, slice_get, Option, Some, None, refl}
+use Rattle.std.specs.Prelude.{ℕ, zero, suc, ◌≡◌, ◌⊎◌, ◌<◌, ◌≤◌, ◌+◌, ◌*◌, ◌^◌, ◌==◌, ◌&&◌, ◌||◌, Bool, true, false, bit_and, is_some, nat_lt, not, List, [], ◌∷◌, length, slice_get, Option, Some, None, refl, map}
 use Rattle.std.specs.Int.{bit_at}
 use Rattle.std.specs.Option.{option_map}
 use Rattle.std.proofs.Common.{inl, inr, sym, ◌∙◌, ap, subst, arith}
@@ -23,20 +23,36 @@ use Rattle.daos_model.specs.Durables.{entry_of}
 use Rattle.daos_model.specs.Family.{all_hold_from, holds, is_in_field, is_resolved_entry, is_within, resolved}
 use Rattle.daos_model.specs.FormLaws.{length-map}
 use Rattle.dtx_base.specs.Members.{all_targets, has_target, is_other_member, other_members}
-use Rattle.world_letters.specs.addresses.Addresses.{IsPlaced, crowd}
-use Rattle.world_letters.specs.addresses.TurnAddresses.{bit-of, writes-within}
+use Rattle.world_contents.specs.posts.Members.{bit-of, writes-within}
 use Rattle.world_commit.specs.attempts.Attempts.{Entries, IsHeld, IsItsEntry, IsOther, entry_at, entry_in, first_entry, leader_of, members_of, writes_of}
 use Rattle.world_commit.specs.attempts.History.{Decided, History}
 use Rattle.world_commit.specs.attempts.MemberBits.{is-other_same, other-from_test}
 use Rattle.world_base.specs.declared.target.TargetState.{TargetState}
 use Rattle.world_base.specs.declared.world.World.{World}
 use Rattle.world_base.specs.Events.{Rules}
-use Rattle.world_plain.specs.ends.Ends.{durable_of, durables_of}
-use Rattle.world_plain.specs.ends.LastStand.{from-durables}
-use Rattle.world_plain.specs.whole.BeginLaws.{get-map}
-use Rattle.world_plain.specs.whole.ScriptForm.{of-end}
-use Rattle.world_plain.specs.whole.Sharing.{members-below}
-use Rattle.world_legal.specs.closing.Closing.{IsResolved}
+use Rattle.world_legal.specs.closing.Kept.{get-map}
+use Rattle.world_contents.specs.posts.ScriptForm.{of-end}
+use Rattle.world_legal.specs.closing.Sharing.{members-below}
+use Rattle.world_legal.specs.closing.Closing.{IsResolved, durable_of, durables_of}
+use Rattle.base_types.specs.declared.script.Script.{Script}
+
+-- how many clients and how many targets there are
+pub record Crowd : Type 0 where
+  pub clients : ℕ
+  pub targets : ℕ
+
+-- the leader and the members that an entry names are there
+pub record IsPlaced (n : Crowd) (e : Entry) : Type 0 where
+  pub leader : e.leader < n.targets
+  pub members : (t : ℕ) → has_target e.members t ≡ true → t < n.targets
+
+abbrev pub crowd : Script → Crowd
+crowd s = record { clients = length s.clients; targets = s.targets }
+
+pub from-durables : (ss : List TargetState) (t : ℕ) (d : Durable) → slice_get (map durable_of ss) t ≡ Some d → (s : TargetState) × (slice_get ss t ≡ Some s) × (s.durable ≡ d)
+from-durables [] t d at = let no : ⊥ = cc in absurd no
+from-durables (s ∷ ss) zero d at = (s, refl, let same : s.durable ≡ d = cc in same)
+from-durables (s ∷ ss) (suc t) d at = from-durables ss t d at
 
 -- ---- who is there
 

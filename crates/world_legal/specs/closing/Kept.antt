@@ -1,5 +1,5 @@
 -- What every event leaves: how many targets and clients there are; and what plain changes leave, where nothing is heard of snapshots.
-use Rattle.std.specs.Prelude.{ℕ, ◌≡◌, true, length, Option, Some, None, refl}
+use Rattle.std.specs.Prelude.{ℕ, ◌≡◌, true, length, Option, refl, List, [], map, slice_get, suc, zero, ◌∷◌}
 use Rattle.std.proofs.Common.{inl, inr, ◌∙◌, ap}
 use Rattle.std.proofs.lemmas.List.{length-set}
 use Rattle.base_types.specs.declared.epoch.Epoch.{Epoch}
@@ -12,7 +12,7 @@ use Rattle.world_base.specs.declared.did.Did.{Did}
 use Rattle.world_base.specs.declared.target.TargetMemory.{TargetMemory}
 use Rattle.world_base.specs.declared.target.TargetPlan.{TargetPlan}
 use Rattle.world_base.specs.declared.world.World.{World}
-use Rattle.world_base.specs.Changes.{Change, Creates, Extends, Freezes, IsPlainly, Kept, Prepares, Prunes, Settles, is_plain, made}
+use Rattle.world_base.specs.Changes.{Change, Kept, is_plain, made}
 use Rattle.world_base.specs.Events.{ByClient, ByTarget, Rules, ToClient, ToTarget}
 use Rattle.world_base.specs.Further.{HearsFurther}
 use Rattle.world_base.specs.PathLaws.{whole-leaves}
@@ -22,10 +22,17 @@ use Rattle.world_base.specs.Statuses.{status_refusal}
 use Rattle.world_base.specs.Stops.{Begins, Draws, Fails, Further, GivenUp, Goes, Happening, IsCut, Opens, Plainly, WorldRun}
 use Rattle.world_base.specs.TargetTurns.{commit_request}
 use Rattle.world_base.specs.Turns.{Whole}
-use Rattle.world_letters.specs.epochs.Sayings.{Known, StepFits}
+use Rattle.world_letters.specs.epochs.Sayings.{Known}
 use Rattle.world_causes.specs.hearing.Storing.{AllFit, ack-fits, commit-fits, look-fits}
 use Rattle.world_letters.specs.lives.Events.{happening-adds}
 use Rattle.world_commit.specs.statuses.Heard.{is_of_attempts}
+use Rattle.std.specs.Option.{option_map}
+use Rattle.world_causes.specs.hearing.Storing.{fits-plain}
+
+pub get-map : {T U : Type 0} (f : T → U) (xs : List T) (n : ℕ) → slice_get (map f xs) n ≡ option_map f (slice_get xs n)
+get-map f [] n = refl
+get-map f (x ∷ xs) zero = refl
+get-map f (x ∷ xs) (suc n) = get-map f xs n
 
 -- ---- how many there are
 
@@ -82,19 +89,10 @@ pub record AreAll (r : Rules) (v : World) : Type 0 where
 abbrev Any : Known
 Any x e = Unit {0}
 
-fits-plain : (k : Kept) (o : Option Change) → StepFits Any k o → IsPlainly o
-fits-plain k None fits = tt
-fits-plain k (Some (Extends ticks)) fits = refl
-fits-plain k (Some (Prepares e ws)) fits = refl
-fits-plain k (Some (Settles a step)) fits = refl
-fits-plain k (Some (Freezes c s)) fits = absurd fits
-fits-plain k (Some (Creates c s)) fits = absurd fits
-fits-plain k (Some (Prunes c upto n)) fits = absurd fits
-
 -- what plain changes leave stays in a turn without snapshots
 module _ {T : Type 0} (part : Durable → T) (leaves : (c : Change) (d : Durable) → is_plain c ≡ true → part (made c d) ≡ part d) where
   whole-part : {S R : Type 0} (Next : S → Kept → Option Change → S → Type 0) (Ends : S → Kept → R → Type 0) → AllFit Any Next → (start : S) (old new : Kept) (left : R) → Whole Next Ends start old new left → part new.durable ≡ part old.durable
-  whole-part Next Ends fits start old new left w = whole-leaves part leaves Next Ends start old new left (λ s k o u next. fits-plain k o (fits s k o u next)) w
+  whole-part Next Ends fits start old new left w = whole-leaves part leaves Next Ends start old new left (λ s k o u next. fits-plain Any k o (fits s k o u next)) w
 
   module _ (t : TargetPlan) (opening : Epoch × FloorWhy) (m : TargetMemory) (reading : ℕ) (from : ActorId) (old : Kept) where
     pub further-part : (number : ℕ) (q : Message) (new : Kept) (left : TargetMemory × Did) → is_of_attempts q ≡ true → HearsFurther number t opening m reading from q old new left → part new.durable ≡ part old.durable

@@ -1,5 +1,5 @@
 -- Attempts that lines tell of ended as they were answered.
-use Rattle.std.specs.Prelude.{◌≡◌, ◌≢◌, true, is_some, List, [], ◌∷◌, map, slice_get, Option, Some, None, refl}
+use Rattle.std.specs.Prelude.{◌≡◌, ◌≢◌, true, is_some, List, [], ◌∷◌, map, slice_get, Option, Some, None, refl, ℕ}
 use Rattle.std.proofs.Common.{sym, ◌∙◌, ap, subst}
 use Rattle.base_types.specs.declared.epoch.Epoch.{Epoch}
 use Rattle.base_types.specs.declared.operation.MinorWrite.{MinorWrite}
@@ -13,19 +13,30 @@ use Rattle.model_laws.specs.TargetLaws.{same_number}
 use Rattle.daos_model.specs.Accesses.{minor_writes}
 use Rattle.daos_model.specs.Attempts.{is_of_client, tries, tries_of}
 use Rattle.daos_model.specs.Conditions.{EndsRight}
-use Rattle.daos_model.specs.Transactions.{attempt_ops}
+use Rattle.daos_model.specs.Transactions.{attempt_ops, read_numbers}
 use Rattle.world_commit.specs.attempts.History.{History}
 use Rattle.world_base.specs.declared.client.ClientState.{ClientState}
 use Rattle.world_base.specs.declared.world.World.{World}
 use Rattle.world_base.specs.Events.{Rules, client_plan}
 use Rattle.world_letters.specs.clients.Answered.{EndsAsAnswered, EndsWell, IsAnsweredWhole}
-use Rattle.world_plain.specs.ends.FormLaws.{no-ops}
 use Rattle.world_contents.specs.gots.Gots.{AreServed, IsLineServed}
 use Rattle.world_contents.specs.gots.StepGots.{ops-of-attempt}
 use Rattle.world_contents.specs.gots.ToldLaws.{nothing-told}
 use Rattle.world_letters.specs.lines.LastLines.{lines-answered}
 use Rattle.world_letters.specs.lines.Lines.{Lines}
-use Rattle.world_contents.specs.verdicts.Verdicts.{HasWrites}
+use Rattle.world_causes.specs.outcomes.Outcomes.{HasWrites}
+use Rattle.base_types.specs.declared.operation.Act.{Act}
+use Rattle.base_types.specs.declared.operation.Act.TheVariants.{Change, Fetch}
+
+-- operations of which none writes and none reads are none
+pub no-ops : (n m : ℕ) (ops : List Op) → minor_writes n ops ≡ [] → read_numbers m ops ≡ [] → ops ≡ []
+unfolding minor_writes read_numbers
+no-ops n m [] writes reads = refl
+no-ops n m (op ∷ ops) writes reads = by op.act refl
+  where
+    by : (act : Act) → op.act ≡ act → op ∷ ops ≡ []
+    by (Fetch r) e = let no : ⊥ = cc (reads, e) in absurd no
+    by (Change w) e = let no : ⊥ = cc (writes, e) in absurd no
 
 -- ---- conditions
 

@@ -22,8 +22,7 @@ use Rattle.dtx_base.specs.Leading.{LeaderOf, ack_heard, answer_heard, answer_if_
 use Rattle.dtx_base.specs.Members.{all_targets, are_all_counted, has_target, is_other_member, with_target}
 use Rattle.dtx_base.specs.RowLaws.{row-is, row-map, row-without}
 use Rattle.dtx_base.specs.Rows.{is_among, row_of, without_row}
-use Rattle.world_commit.specs.attempts.AckTurns.{counted-same}
-use Rattle.world_commit.specs.attempts.MemberBits.{has-with, has-with_other}
+use Rattle.world_commit.specs.attempts.MemberBits.{has-with, has-with_other, counted-same}
 use Rattle.world_commit.specs.attempts.Stored.{row-gone}
 use Rattle.world_commit.specs.attempts.Turning.{one-or_another, one-or_other}
 use Rattle.world_base.specs.declared.did.Did.{Did}

@@ -1,16 +1,15 @@
 -- Of an attempt for whose end a client waits each other member that isn't counted is asked, or is about to answer: so a leader that knows a
 -- member to be down lets no client wait for it.
 use Rattle.std.specs.Prelude.{ℕ, ◌≡◌, ◌≤◌, ◌+◌, ◌==◌, ◌&&◌, ◌||◌, ◌++◌, not, Bool, true, false, List, [], ◌∷◌, filter, map, slice_get, Option, Some, None, refl}
-use Rattle.std.proofs.Common.{sym, ◌∙◌, ap, subst, arith, inl, inr}
+use Rattle.std.proofs.Common.{sym, ◌∙◌, ap, arith, inl, inr}
 use Rattle.base_types.specs.declared.id.AttemptId.{AttemptId}
-use Rattle.base_types.specs.declared.report.Line.{Line}
 use Rattle.base_types.specs.declared.report.Line.TheVariants as line
 use Rattle.base_messages.specs.declared.actor.ActorId.{ActorId}
 use Rattle.base_messages.specs.declared.message.Message.{Message}
 use Rattle.base_messages.specs.declared.message.Message.TheVariants as message
 use Rattle.daos_model.specs.BoolLaws.{and_left, and_right, both, clash, false_of, or_from_right}
 use Rattle.daos_model.specs.Stops as told
-use Rattle.daos_model.specs.Stops.{Standing, after, after_all, is_at, lines_at}
+use Rattle.daos_model.specs.Stops.{is_at, lines_at}
 use Rattle.dtx_base.specs.declared.leading.Undecided.{Undecided}
 use Rattle.dtx_base.specs.Members.{has_target}
 use Rattle.model_laws.specs.Members.{Has, has-filter, has-left, has-map, has-right}
@@ -30,6 +29,7 @@ use Rattle.world_commit.specs.fates.Facts.{Attempts, answers_for, asks_for, is_b
 use Rattle.world_letters.specs.lives.Lives.{Lives, standing_of}
 use Rattle.world_commit.specs.stops.Losses.{asked-by}
 use Rattle.world_legal.specs.closing.Gone.{down-there}
+use Rattle.world_letters.specs.lives.Legal.{down-last}
 
 -- ---- the fact
 
@@ -82,22 +82,6 @@ pub own-target : (t : ℕ) → is_target t (target t) ≡ true
 own-target t = same_number t
 
 -- ---- what is given up
-
--- nothing comes after the line that tells so
-down-last : (x : Standing) (ls : List Line) (t : ℕ) (z : Standing) → Has (line.Down t) ls → after_all (Some x) ls ≡ Some z → z ≡ told.Down
-down-last x [] t z i e = absurd i
-down-last x (l ∷ ls) t z (inl same) e = ends x ls (subst (λ m. after_all (after x m) ls ≡ Some z) (sym same) e)
-  where
-    ends : (x : Standing) (ls : List Line) → after_all (after x (line.Down t)) ls ≡ Some z → z ≡ told.Down
-    ends told.Running ls e = let no : ⊥ = cc in absurd no
-    ends told.Stopped [] e = let is : told.Down ≡ z = cc in sym is
-    ends told.Stopped (m ∷ ls) e = let no : ⊥ = cc in absurd no
-    ends told.Down ls e = let no : ⊥ = cc in absurd no
-down-last x (l ∷ ls) t z (inr i) e = on (λ y ends. down-last y ls t z i ends) (after x l) e
-  where
-    on : ((y : Standing) → after_all (Some y) ls ≡ Some z → z ≡ told.Down) → (o : Option Standing) → after_all o ls ≡ Some z → z ≡ told.Down
-    on rest None ends = let no : ⊥ = cc in absurd no
-    on rest (Some y) ends = rest y ends
 
 -- so a target of which a line tells it is down
 pub told-down : (w : World) → Lives w → (t : ℕ) (s : TargetState) → slice_get w.targets t ≡ Some s → Has (line.Down t) w.lines → s.life ≡ life.Down

@@ -47,14 +47,14 @@ use Rattle.world_standing.specs.standing.Clients.{lines-heard}
 use Rattle.world_causes.specs.handing.Fitting.{hears-fitly}
 use Rattle.world_letters.specs.talks.AskLaws.{move-is, waiting-rests}
 use Rattle.world_letters.specs.talks.Asked.{ARead, ASnapshot, AnAggregation, Asked, Asking, IsMove, ItsWrites, Silent, Telling}
-use Rattle.world_contents.specs.verdicts.TellLaws.{AllRead, MoveTells, NoSnap, Nothing, moved-tells}
-use Rattle.world_contents.specs.verdicts.TurnLaws.{move-tells-decided}
-use Rattle.world_contents.specs.verdicts.VerdictLaws.{tried-cases}
-use Rattle.world_contents.specs.verdicts.Verdicts.{HasWrites}
+use Rattle.world_causes.specs.outcomes.TellLaws.{AllRead, MoveTells, NoSnap, Nothing, moved-tells}
+use Rattle.world_causes.specs.outcomes.TurnLaws.{move-tells-decided, tried-cases}
+use Rattle.world_causes.specs.outcomes.Outcomes.{HasWrites}
 use Rattle.world_letters.specs.waits.Waits.{Conversation}
 use Rattle.world_legal.specs.doubts.Doubts.{InFlight, InLines, IsToldCommitted, ItsLeaderStopped}
 use Rattle.world_legal.specs.doubts.Recounting.{tells_back}
 use Rattle.world_legal.specs.doubts.Stopped.{stops-more}
+use Rattle.world_causes.specs.losses.Clients.{line-added}
 
 abbrev pub IsBegun : Rules → World → AttemptId → Type 0
 IsBegun r w x = IsPresent r w x ⊎ IsOver w.clients x
@@ -91,14 +91,7 @@ module _ (r : Rules) (w u : World) (k : Goes r w u) (n : ℕ) (c : ClientState) 
   v = after_move u n m
 
   added : (b : Attempt) → Has b (tries (listed m.line)) → m.line ≡ Some (line.Try b)
-  unfolding tries
-  added b i = by m.line refl i
-    where
-      by : (o : Option Line) → m.line ≡ o → Has b (tries (listed o)) → m.line ≡ Some (line.Try b)
-      by None is j = absurd j
-      by (Some l) is j =
-          let t = s.tries l is in
-          elim (subst (λ y. Has b (tries (y ∷ []))) t.1 j) [ inl same ↦ is ∙ ap (λ y. Some y) (t.1 ∙ ap (λ y. line.Try y) (sym same)) | inr none ↦ absurd none ]
+  added = line-added m.line s.tries
 
   module _ (x : AttemptId) (begun : IsBegun r w x) (stop : ItsLeaderStopped r w x) where
     abbrev its : List ℕ

@@ -13,7 +13,7 @@ use Rattle.world_commit.specs.attempts.Counting.{has-taken}
 use Rattle.world_commit.specs.attempts.History.{GrowsBy, History}
 use Rattle.world_base.specs.declared.target.TargetState.{TargetState}
 use Rattle.world_base.specs.declared.world.World.{World}
-use Rattle.world_base.specs.Events.{ByClient, ByTarget, Rules, ToClient, ToTarget}
+use Rattle.world_base.specs.Events.{ByClient, ByTarget, Rules, ToClient, ToTarget, rightly}
 use Rattle.world_base.specs.Stops.{Draws, Fails, Further, GivenUp, Happening, IsCut, Opens, Plainly}
 use Rattle.world_causes.specs.causes.Lasting.{since-more}
 use Rattle.world_letters.specs.epochs.Epochs.{IsPresent}
@@ -22,10 +22,8 @@ use Rattle.world_commit.specs.fates.Rightly.{letters-tell}
 use Rattle.world_causes.specs.handing.Begun.{handed-where}
 use Rattle.world_causes.specs.hearing.Going.{EntriesWrite}
 use Rattle.world_causes.specs.losses.Clients.{of-others, present-not-over}
-use Rattle.world_causes.specs.outcomes.Outcomes.{Outcomes}
+use Rattle.world_causes.specs.outcomes.Outcomes.{Outcomes, HasWrites}
 use Rattle.world_commit.specs.statuses.Events.{HappensWithoutSnapshots, told_by}
-use Rattle.world_commit.specs.stops.Happenings.{rightly}
-use Rattle.world_contents.specs.verdicts.Verdicts.{HasWrites}
 use Rattle.world_legal.specs.doubts.Clients.{Goes, IsBegun, going-goes, hearing-goes}
 use Rattle.world_legal.specs.doubts.Doubts.{Doubts, InFlight, InLines, IsInDoubt, IsToldCommitted, ItsLeaderStopped}
 use Rattle.world_legal.specs.doubts.Laws.{DoubtsBegin, IsBeside}

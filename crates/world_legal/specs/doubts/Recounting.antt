@@ -22,9 +22,8 @@ use Rattle.world_base.specs.Events.{Rules}
 use Rattle.world_commit.specs.fates.Facts.{Attempts, IsAskedSo, IsQueryRight, IsSaidSo}
 use Rattle.world_causes.specs.hearing.Going.{EntriesWrite}
 use Rattle.world_causes.specs.losses.ClientHears.{TellsLoss}
-use Rattle.world_causes.specs.outcomes.Outcomes.{Outcomes}
+use Rattle.world_causes.specs.outcomes.Outcomes.{Outcomes, HasWrites}
 use Rattle.world_causes.specs.outcomes.Untried.{untried-back}
-use Rattle.world_contents.specs.verdicts.Verdicts.{HasWrites}
 use Rattle.world_legal.specs.doubts.Doubts.{Doubts, InFlight, InLines, IsInDoubt, IsToldCommitted, ItsLeaderStopped, RestsAt}
 use Rattle.world_legal.specs.doubts.Stopped.{stopped-now, stopped-still}
 

@@ -1,5 +1,5 @@
 -- What a leader's turn leaves of the rows of attempts, and which attempts it tells as committed: of these no row is left.
-use Rattle.std.specs.Prelude.{ℕ, ◌≡◌, ◌⊎◌, ◌==◌, ◌||◌, ◌++◌, Bool, true, false, List, [], ◌∷◌, filter, map, Option, Some, None, refl, if◌then◌else◌}
+use Rattle.std.specs.Prelude.{ℕ, ◌≡◌, ◌⊎◌, ◌||◌, ◌++◌, Bool, true, false, List, [], ◌∷◌, map, Option, Some, None, refl, if◌then◌else◌}
 use Rattle.std.specs.Option.{option_map}
 use Rattle.std.proofs.Common.{inl, inr, sym, ◌∙◌, ap, subst}
 use Rattle.base_types.specs.declared.entry.Entry.{Entry}
@@ -16,7 +16,7 @@ use Rattle.dtx_base.specs.declared.leading.Undecided.{Undecided}
 use Rattle.dtx_base.specs.declared.member.Parked.{Parked}
 use Rattle.dtx_base.specs.Asking.{ask_heard, asked_of, asked_open, waits_at}
 use Rattle.dtx_base.specs.Joining as member
-use Rattle.dtx_base.specs.Leading.{LeaderOf, LeaderStep, down_told, ended, entry_led, first_down, mark_reset, new_undecided, prepare_reset, quietly, reset_of, status_asked, to_target, undecided_attempt, undecided_of, unwaited_at}
+use Rattle.dtx_base.specs.Leading.{LeaderOf, LeaderStep, ended, entry_led, first_down, new_undecided, undecided_attempt, unwaited_at}
 use Rattle.dtx_base.specs.RowLaws.{row-map, row-with, row-without}
 use Rattle.dtx_base.specs.Rows.{is_among, row_of, with_row, without_row}
 use Rattle.model_laws.specs.Members.{Has, has-cases}
@@ -28,11 +28,17 @@ use Rattle.world_base.specs.declared.did.Did.{Did}
 use Rattle.world_base.specs.declared.target.TargetMemory.{TargetMemory}
 use Rattle.world_causes.specs.outcomes.Outcomes.{commits}
 use Rattle.world_causes.specs.outcomes.Telling.{end_to, post_to, single}
-use Rattle.world_letters.specs.talks.Carriers as carrier
+use Rattle.world_letters.specs.talks.Conversation as carrier
 use Rattle.world_letters.specs.talks.LeaveLaws as leave
 use Rattle.world_letters.specs.talks.LeaveLaws.{AckIs, CommitLeaves, ToTargets}
 use Rattle.world_letters.specs.waits.Premises.{is_end}
 use Rattle.world_letters.specs.waits.ResetTurns.{EndsWait, ResetIs, Stays}
+use Rattle.world_letters.specs.endings.Answers as follows
+use Rattle.world_letters.specs.endings.Answers.{left-follows}
+use Rattle.world_base.specs.declared.target.TargetPlan.{TargetPlan}
+use Rattle.world_base.specs.Changes.{Kept}
+use Rattle.world_base.specs.Roles.{leader_at}
+use Rattle.world_base.specs.Statuses.{reset_left}
 
 -- ---- what is told
 
@@ -45,9 +51,6 @@ none-sent x own tells = tells.sent
 
 pub one-other : (to : ActorId) (m : Message) → ((x : AttemptId) (own : Option Epoch) → m ≡ message.Ended x own outcome.Committed → ⊥) → NoneCommitted (post_to to m ∷ [])
 one-other to m off x own tells = off x own (single to m x own outcome.Committed tells)
-
-pub none-both : (ps qs : List Post) → NoneCommitted ps → NoneCommitted qs → NoneCommitted (ps ++ qs)
-none-both ps qs k n x own tells = elim (has-cases ps qs (end_to tells.to x own outcome.Committed) tells.sent) [ inl j ↦ k x own (record { to = tells.to; sent = j }) | inr j ↦ n x own (record { to = tells.to; sent = j }) ]
 
 -- whoever is told an end is a client
 abbrev pub EndsGoToClients : List Post → Type 0
@@ -212,54 +215,18 @@ ask-rows Leads q x from l lead unsettled = by (entry_led x l) refl
 
 -- ---- a Reset
 
-ended-unknown : (c : Option ActorId) (a : AttemptId) (e : Epoch) (t : ℕ) → NoneCommitted (ended c a e (outcome.Unknown t))
-ended-unknown None a e t = none-sent
-ended-unknown (Some c) a e t = one-other c (message.Ended a (Some e) (outcome.Unknown t)) (λ x own is. let no : ⊥ = cc in no)
-
-down-untold : (t : ℕ) (a : AttemptId) (o : Option Entry) (u : Option Undecided) (l : LeaderOf) → NoneCommitted (down_told t a o u l).posts
-down-untold t a None u l = none-sent
-down-untold t a (Some e) None l = none-sent
-down-untold t a (Some e) (Some u) l = ended-unknown u.client a e.epoch t
-
-status-untold : (t : ℕ) (a : AttemptId) (inc : ℕ) (l : LeaderOf) → NoneCommitted (status_asked t a inc l).posts
-status-untold t a inc l = by (inc == l.incarnation)
+-- nothing that is sent tells that an attempt is committed
+follows-untold : (l : LeaderOf) (parked : List Parked) (t : ℕ) (posts : List Post) → ((p : Post) → Has p posts → follows.FollowsReset l parked t p.message) → NoneCommitted posts
+follows-untold l parked t posts all x own tells = each (all (end_to tells.to x own outcome.Committed) tells.sent)
   where
-    by : (b : Bool) → NoneCommitted (if b then record { leader = l; posts = to_target t (message.Status a inc) ∷ [] } else quietly l).posts
-    by true = one-other (record { client = false; number = t }) (message.Status a inc) (λ x own is. let no : ⊥ = cc in no)
-    by false = none-sent
+    each : follows.FollowsReset l parked t (message.Ended x own outcome.Committed) → ⊥
+    each (follows.EndsUnknown y e led said) = let no : ⊥ = cc in no
+    each (follows.AsksState y inc said) = let no : ⊥ = cc in no
+    each (follows.MarksAgain inc marks said) = let no : ⊥ = cc in no
+    each (follows.MetUnresolved p y op group ep first tracker r snapshot a among asks said) = let no : ⊥ = cc in no
 
-prepare-untold : (t : ℕ) (down : Bool) (a : AttemptId) (inc : ℕ) (l : LeaderOf) → NoneCommitted (prepare_reset t down a inc l).posts
-unfolding prepare_reset
-prepare-untold t true a inc l = down-untold t a (entry_led a l) (undecided_of a l) l
-prepare-untold t false a inc l = status-untold t a inc l
-
-mark-untold : (t : ℕ) (down : Bool) (inc : ℕ) (marks : List (AttemptId × Bool)) (l : LeaderOf) → NoneCommitted (mark_reset t down inc marks l).posts
-unfolding mark_reset
-mark-untold t true inc marks l = none-sent
-mark-untold t false inc marks l = one-other (record { client = false; number = t }) (message.Mark inc marks) (λ x own is. let no : ⊥ = cc in no)
-
-pub reset-untold : (t : ℕ) (down : Bool) (asked : Message) (l : LeaderOf) → NoneCommitted (reset_of t down asked l).posts
-reset-untold t down (message.Prepare e first ws inc) l = prepare-untold t down e.attempt inc l
-reset-untold t down (message.Status a inc) l = prepare-untold t down a inc l
-reset-untold t down (message.Mark inc marks) l = mark-untold t down inc marks l
-reset-untold t down m l = none-sent
-
-fetch-untold : (a : AttemptId) (m : Message) → NoneCommitted (member.unresolved_told a m)
-fetch-untold a (message.Fetch x op group ep first tracker r snapshot) = one-other _ _ (λ y own is. let no : ⊥ = cc in no)
-fetch-untold a m = none-sent
-
-freed-untold : (a : AttemptId) (ps : List Parked) → NoneCommitted (member.all_unresolved_told a ps)
-freed-untold a [] = none-sent
-freed-untold a (p ∷ ps) = none-both (member.unresolved_told a p.ask) (member.all_unresolved_told a ps) (fetch-untold a p.ask) (freed-untold a ps)
-
-query-untold : (down : Bool) (a : AttemptId) (ask : Option AttemptId) (s : member.MemberOf) → NoneCommitted (member.query_reset down a ask s).freed.posts
-unfolding member.unresolved
-query-untold down a (Some x) s = freed-untold a (filter (member.is_waiting a x) s.memory.parked)
-query-untold down a None s = none-sent
-
-pub joins-untold : (down : Bool) (asked : Message) (s : member.MemberOf) → NoneCommitted (member.reset_heard down asked s).freed.posts
-joins-untold down (message.Query a ask) s = query-untold down a ask s
-joins-untold down m s = none-sent
+pub left-untold : (t : TargetPlan) (m : TargetMemory) (by : ℕ) (down : Bool) (asked : Message) (k : Kept) → NoneCommitted (reset_left t m by down asked k).1.posts
+left-untold t m by down asked k = follows-untold (leader_at t m k.durable) m.member.parked by (reset_left t m by down asked k).1.posts (left-follows t m by down asked k)
 
 pub reset-rows : (x : AttemptId) (l : LeaderOf) (s : LeaderStep) → ResetIs l s → HasRow x s.leader.memory.undecided → HasRow x l.memory.undecided
 reset-rows x l s (Stays between same) at = subst (HasRow x) same at

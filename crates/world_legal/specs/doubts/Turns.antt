@@ -15,14 +15,13 @@ use Rattle.base_messages.specs.declared.message.Post.{Post}
 use Rattle.daos_model.specs.declared.durable.Durable.{Durable}
 use Rattle.daos_model.specs.Durables.{entry_of}
 use Rattle.dtx_base.specs.declared.leading.Undecided.{Undecided}
-use Rattle.dtx_base.specs.Joining as member
 use Rattle.dtx_base.specs.Leading.{LeaderOf, entry_led, knowing, reset_of, undecided_attempt}
 use Rattle.dtx_base.specs.Rows.{is_among, row_of}
 use Rattle.model_laws.specs.Members.{Has, has-cases, has-from_filter, has-map, has-right}
 use Rattle.world_commit.specs.attempts.Attempts.{entry_at, entry_in, is_known_in, leader_of, row_in}
 use Rattle.world_commit.specs.attempts.Counting.{has-taken}
 use Rattle.world_commit.specs.attempts.History.{History, Tells}
-use Rattle.world_commit.specs.attempts.MarkTurns.{led-found, target-is}
+use Rattle.world_commit.specs.attempts.Stored.{led-found, target-is}
 use Rattle.world_base.specs.declared.did.Did.{Did}
 use Rattle.world_base.specs.declared.target.TargetMemory.{TargetMemory}
 use Rattle.world_base.specs.declared.target.TargetPlan.{TargetPlan}
@@ -36,7 +35,7 @@ use Rattle.world_base.specs.Letters.{letter_of, letters_of, target}
 use Rattle.world_base.specs.MemoryLaws as memory
 use Rattle.world_base.specs.PathLaws.{reached-keeps}
 use Rattle.world_base.specs.RightTurns.{HearsRightly}
-use Rattle.world_base.specs.Roles.{is_in_doubt, leader_at, member_at}
+use Rattle.world_base.specs.Roles.{is_in_doubt, leader_at}
 use Rattle.world_base.specs.Statuses.{status_refusal}
 use Rattle.world_base.specs.TargetTurns.{commit_request, fetch_request, prepare_request}
 use Rattle.world_base.specs.Turns.{Whole}
@@ -55,7 +54,7 @@ use Rattle.world_letters.specs.talks.LeaveLaws.{AckIs, ToTargets}
 use Rattle.world_letters.specs.waits.Premises.{RequestsAreOfClients}
 use Rattle.world_letters.specs.waits.ResetTurns.{reset-is}
 use Rattle.world_letters.specs.waits.StopTurns.{nothing-changes}
-use Rattle.world_legal.specs.doubts.Rows.{EndsGoToClients, HasRow, LeavesRows, NoneCommitted, ack-rows, ask-rows, commit-rows, joins-untold, none-both, one-other, reset-rows, reset-untold, rows-same}
+use Rattle.world_legal.specs.doubts.Rows.{EndsGoToClients, HasRow, LeavesRows, NoneCommitted, ack-rows, ask-rows, commit-rows, left-untold, one-other, reset-rows, rows-same}
 
 -- ---- what tells no ends
 
@@ -136,7 +135,7 @@ reset-turn Leads q t m by-it down place asked rest k ours = record {
 }
   where
     untold : NoneCommitted (reset_by t m by-it down asked k).1.posts
-    untold = none-both (reset_of by-it down asked (leader_at t m k.durable)).posts (member.reset_heard down asked (member_at t m)).freed.posts (reset-untold by-it down asked (leader_at t m k.durable)) (joins-untold down asked (member_at t m))
+    untold = left-untold t m by-it down asked k
 
 -- ---- a message is heard
 

@@ -22,7 +22,7 @@ use Rattle.world_base.specs.ClientTurns.{attempt_id}
 use Rattle.world_letters.specs.clients.AnswerLaws.{numbered-here}
 use Rattle.world_letters.specs.clients.Standing.{AreOfPresent, AreTriedAgain, HasTold, has_number, number_of}
 use Rattle.world_letters.specs.epochs.Epochs.{Epochs, IsIssued, IsPresent}
-use Rattle.world_plain.specs.forms.NumberForms.{in_turn-within, number-form}
+use Rattle.world_legal.specs.forming.NumberForms.{in_turn-within, number-form}
 use Rattle.world_letters.specs.lines.Lines.{AreTheSame, IsTheSame, Lines}
 
 -- ---- commands

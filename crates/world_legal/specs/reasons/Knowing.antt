@@ -17,7 +17,7 @@ use Rattle.world_commit.specs.attempts.MemberBits.{has-none}
 use Rattle.world_base.specs.declared.target.Life.TheVariants.{Down}
 use Rattle.world_base.specs.declared.target.TargetState.{TargetState}
 use Rattle.world_base.specs.declared.world.World.{World}
-use Rattle.world_base.specs.Events.{ByClient, ByTarget, Rules, TargetHearsRightly, ToClient, ToTarget, kept, target_after, target_plan}
+use Rattle.world_base.specs.Events.{ByClient, ByTarget, Rules, TargetHearsRightly, ToClient, ToTarget, kept, target_after, target_plan, rightly}
 use Rattle.world_base.specs.MemoryLaws.{idle-leaves}
 use Rattle.world_base.specs.Statuses.{opening_memory}
 use Rattle.world_base.specs.Stops.{Draws, Fails, Further, GivenUp, Happening, HearsMore, IsCut, Opens, Plainly, WorldEvent, opened_at, stopped_at, stops_so_far}
@@ -28,7 +28,6 @@ use Rattle.world_commit.specs.questions.Hearing.{is_of_stops}
 use Rattle.world_commit.specs.questions.Sending.{TellsOfDown, more-down}
 use Rattle.world_contents.specs.reads.EventLaws.{at-or-there}
 use Rattle.world_commit.specs.requests.Rows.{CommitsFindNoRow}
-use Rattle.world_commit.specs.stops.Happenings.{rightly}
 use Rattle.world_commit.specs.stops.Questions.{opening-down}
 use Rattle.world_legal.specs.reasons.Downs.{DownsAreTold, TellsDown}
 

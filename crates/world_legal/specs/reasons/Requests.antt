@@ -8,7 +8,7 @@ use Rattle.world_base.specs.declared.world.World.{World}
 use Rattle.world_base.specs.Events.{Rules, client_plan}
 use Rattle.world_causes.specs.handing.Handing.{IsAskedBy}
 use Rattle.world_letters.specs.talks.AskLaws.{sent-is-asked}
-use Rattle.world_letters.specs.talks.InFlight.{HearsRequest}
+use Rattle.world_letters.specs.talks.Conversation.{HearsRequest}
 use Rattle.world_letters.specs.waits.Waits.{IsQuestion, ItsAsk, ItsRequest}
 
 -- what a client asked is its request, unless it asks what became of its attempt

@@ -1,5 +1,5 @@
 -- An attempt that its leader keeps open, and doesn't know as decided, is open to any other; and so is one whose leader stopped since it began.
-use Rattle.std.specs.Prelude.{ℕ, ◌≡◌, ◌⊎◌, ◌||◌, ◌++◌, Bool, true, false, List, [], ◌∷◌, slice_get, Option, Some, None, refl, if◌then◌else◌}
+use Rattle.std.specs.Prelude.{ℕ, ◌≡◌, ◌⊎◌, ◌||◌, Bool, true, false, List, slice_get, Option, Some, None, refl, if◌then◌else◌}
 use Rattle.std.specs.List.{list_any}
 use Rattle.std.proofs.Common.{inl, inr, sym, ◌∙◌, ap, subst}
 use Rattle.base_types.specs.declared.entry.Entry.{Entry}
@@ -9,7 +9,6 @@ use Rattle.base_types.specs.declared.outcome.Outcome.{Outcome}
 use Rattle.base_types.specs.declared.outcome.Outcome.TheVariants as outcome
 use Rattle.base_types.specs.declared.report.Attempt.{Attempt}
 use Rattle.base_types.specs.declared.report.Line.{Line}
-use Rattle.base_types.specs.declared.report.Line.TheVariants as line
 use Rattle.daos_model.specs.Attempts.{is_unknown, tries}
 use Rattle.daos_model.specs.Durables.{entry_of, same_attempt}
 use Rattle.daos_model.specs.EntryLaws.{same_attempt-itself}
@@ -20,7 +19,7 @@ use Rattle.model_laws.specs.Lists.{any-of}
 use Rattle.model_laws.specs.Members.{Has, any-has, contains-from_has, has-any}
 use Rattle.world_commit.specs.attempts.Attempts.{entry_at, entry_in, is_known_at, is_known_in, leader_of}
 use Rattle.world_commit.specs.attempts.History.{History}
-use Rattle.world_commit.specs.attempts.MarkTurns.{led-found}
+use Rattle.world_commit.specs.attempts.Stored.{led-found}
 use Rattle.world_base.specs.declared.target.TargetState.{TargetState}
 use Rattle.world_base.specs.declared.world.World.{World}
 use Rattle.world_base.specs.Events.{Rules, target_plan}
@@ -32,23 +31,10 @@ use Rattle.world_legal.specs.doubts.Doubts.{Doubts, InLines, IsInDoubt, ItsLeade
 use Rattle.world_legal.specs.doubts.Recounting.{entry-writes}
 use Rattle.world_commit.specs.fates.Facts.{Attempts}
 use Rattle.world_causes.specs.hearing.Going.{EntriesWrite}
-use Rattle.world_causes.specs.outcomes.Outcomes.{Outcomes, is_failed}
-use Rattle.world_contents.specs.verdicts.Verdicts.{HasWrites}
+use Rattle.world_causes.specs.outcomes.Outcomes.{Outcomes, is_failed, HasWrites}
+use Rattle.world_letters.specs.lives.Adding.{try-at}
 
 -- ---- lines
-
--- where an attempt's line stands
-try-at : (ls : List Line) (a : Attempt) → Has a (tries ls) → (before : List Line) × (after : List Line) × (ls ≡ before ++ line.Try a ∷ after)
-unfolding tries
-try-at [] a i = absurd i
-try-at (line.Try b ∷ ls) a (inl same) = ([], ls, ap (λ z. line.Try z ∷ ls) (sym same))
-try-at (line.Try b ∷ ls) a (inr i) = let k = try-at ls a i in (line.Try b ∷ k.0, k.1, ap (λ z. line.Try b ∷ z) k.2)
-try-at (line.Stop n t ∷ ls) a i = let k = try-at ls a i in (line.Stop n t ∷ k.0, k.1, ap (λ z. line.Stop n t ∷ z) k.2)
-try-at (line.Restart n t j f ∷ ls) a i = let k = try-at ls a i in (line.Restart n t j f ∷ k.0, k.1, ap (λ z. line.Restart n t j f ∷ z) k.2)
-try-at (line.Freeze t c e ∷ ls) a i = let k = try-at ls a i in (line.Freeze t c e ∷ k.0, k.1, ap (λ z. line.Freeze t c e ∷ z) k.2)
-try-at (line.Snapshot n c e ∷ ls) a i = let k = try-at ls a i in (line.Snapshot n c e ∷ k.0, k.1, ap (λ z. line.Snapshot n c e ∷ z) k.2)
-try-at (line.Aggregate n t c e ∷ ls) a i = let k = try-at ls a i in (line.Aggregate n t c e ∷ k.0, k.1, ap (λ z. line.Aggregate n t c e ∷ z) k.2)
-try-at (line.Down t ∷ ls) a i = let k = try-at ls a i in (line.Down t ∷ k.0, k.1, ap (λ z. line.Down t ∷ z) k.2)
 
 -- a line tells of an attempt, or none does
 abbrev is_its : AttemptId → Attempt → Bool

@@ -1,69 +1,17 @@
--- A Fetch that waits at a target is as its client asked it, which is at its attempt.
-use Rattle.std.specs.Prelude.{ℕ, ◌≡◌, ◌≤◌, ◌++◌, Bool, true, false, [], ◌∷◌, filter, map, slice_get, Option, Some, None, refl}
-use Rattle.std.proofs.Common.{arith, inl, inr, sym, ◌∙◌, ap, subst}
+-- A read that a client waits for is one that it asked.
+use Rattle.std.specs.Prelude.{ℕ, ◌≡◌, ◌≤◌, Some}
+use Rattle.std.proofs.Common.{sym, ◌∙◌, ap}
 use Rattle.base_types.specs.declared.epoch.Epoch.{Epoch}
-use Rattle.base_messages.specs.declared.message.Message.{Message}
 use Rattle.base_messages.specs.declared.message.Message.TheVariants as message
 use Rattle.base_messages.specs.declared.message.Post.{Post}
-use Rattle.dtx_base.specs.declared.member.Parked.{Parked}
-use Rattle.model_laws.specs.Members.{Has, has-filter, has-left, has-map, has-right}
 use Rattle.world_base.specs.declared.client.ClientState.{ClientState}
 use Rattle.world_base.specs.declared.client.Present.{Present}
 use Rattle.world_base.specs.declared.request.FetchRequest.{FetchRequest}
-use Rattle.world_base.specs.declared.target.TargetState.{TargetState}
-use Rattle.world_base.specs.declared.world.World.{World}
-use Rattle.world_base.specs.ClientTurns.{waits}
 use Rattle.world_base.specs.Events.{Rules, client_plan}
-use Rattle.world_base.specs.Letters.{talk_of}
 use Rattle.world_base.specs.Requests.{fetch_message}
 use Rattle.world_letters.specs.talks.AskLaws.{sent-is-asked}
 use Rattle.world_letters.specs.talks.Asked.{Asked}
-use Rattle.world_letters.specs.waits.ClientLaws.{present-of}
-use Rattle.world_letters.specs.waits.Passing.{held-beside}
-use Rattle.world_letters.specs.waits.Waits.{Conversation, Held, HoldsIt, IsAsked, IsHeld, IsQuestion, IsReplied, ItsAsk, ItsRequest, ParkedAt, TalksSo, collected_at, held_by, held_of, is_collected_of, is_open_of, is_parked_of, asked_of, open_at, parked_at}
-
--- what a client asked that waits at a target
-pub record IsHeldFor (r : Rules) (w : World) (t : ℕ) (ask : Message) : Type 0 where
-  pub n : ℕ
-  pub c : ClientState
-  pub here : slice_get w.clients n ≡ Some c
-  pub a : Present
-  pub at : c.present ≡ Some a
-  pub q : Post
-  pub question : IsQuestion (client_plan r n) c q
-  pub holds : HoldsIt q (ParkedAt t ask)
-
-module _ (r : Rules) (w : World) (t : ℕ) (s : TargetState) (p : Parked) (n : ℕ) (k : Conversation r w) (here : slice_get w.targets t ≡ Some s) (i : Has p s.memory.member.parked) (own : is_parked_of n p ≡ true) where
-  among : Has (ParkedAt t p.ask) (held_of n w)
-  among =
-      let b = held-beside n t 0 t w.targets s here (omega arith) in
-      subst (Has (ParkedAt t p.ask)) (sym b.was)
-      (has-right b.before (held_by n t s.memory ++ b.after) (ParkedAt t p.ask)
-      (has-left (held_by n t s.memory) b.after (ParkedAt t p.ask)
-      (has-left (map (parked_at t) (filter (is_parked_of n) s.memory.member.parked)) (map (open_at t) (filter (is_open_of n) s.memory.leader.undecided) ++ map (collected_at t) (filter (is_collected_of n) s.memory.collecting)) (ParkedAt t p.ask)
-      (has-map (parked_at t) (filter (is_parked_of n) s.memory.member.parked) p (has-filter (is_parked_of n) s.memory.member.parked p i own)))))
-
-  pub held-for : IsHeldFor r w t p.ask
-  held-for = by (slice_get w.clients n) refl
-    where
-      only : (c : ClientState) → slice_get w.clients n ≡ Some c → waits c ≡ true → (q : Post) (x : Held) → IsQuestion (client_plan r n) c q → HoldsIt q x → held_of n w ≡ x ∷ [] → IsHeldFor r w t p.ask
-      only c at now q x question holds one =
-          let z = present-of c now in
-          record { n = n; c = c; here = at; a = z.a; at = z.at; q = q; question = question; holds = first (subst (Has (ParkedAt t p.ask)) one among) }
-        where
-          first : Has (ParkedAt t p.ask) (x ∷ []) → HoldsIt q (ParkedAt t p.ask)
-          first (inl same) = subst (HoldsIt q) (sym same) holds
-          first (inr none) = absurd none
-
-      waiting : (c : ClientState) → slice_get w.clients n ≡ Some c → (b : Bool) → waits c ≡ b → TalksSo (client_plan r n) n c (talk_of n w.messages) (held_of n w) (asked_of n w) b → IsHeldFor r w t p.ask
-      waiting c at false now q = absurd (subst (Has (ParkedAt t p.ask)) q.none_held among)
-      waiting c at true now (IsAsked q question one none free) = absurd (subst (Has (ParkedAt t p.ask)) none among)
-      waiting c at true now (IsHeld q x question holds none one free) = only c at now q x question holds one
-      waiting c at true now (IsReplied q m question got one none free) = absurd (subst (Has (ParkedAt t p.ask)) none among)
-
-      by : (z : Option ClientState) → slice_get w.clients n ≡ z → IsHeldFor r w t p.ask
-      by None e = absurd (subst (Has (ParkedAt t p.ask)) (k.nobody n e).none_held among)
-      by (Some c) e = waiting c e (waits c) refl (k.talks n c e)
+use Rattle.world_letters.specs.waits.Waits.{IsQuestion, ItsAsk, ItsRequest}
 
 -- a read that is asked
 pub read-sent : (r : Rules) (n : ℕ) (c : ClientState) (a : Present) (q : Post) (f : FetchRequest) → c.present ≡ Some a → IsQuestion (client_plan r n) c q → q.message ≡ fetch_message f → (k : Epoch) × (k.0 ≤ c.tracker.0) × Asked (client_plan r n) k c a q

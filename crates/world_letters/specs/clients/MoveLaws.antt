@@ -48,9 +48,6 @@ pub record IsAt (p : ClientPlan) (c : ClientState) (d : Command) (a : Present) (
   pub numbered : is_numbered d ≡ true
   pub told : Stands p c.place c.command (Some a.attempt) attempts
 
-none-told : (p : ClientPlan) (place command : ℕ) (present : Option ℕ) (attempts : List Attempt) → Stands p place command present attempts → Stands p place command present (attempts ++ [])
-none-told p place command present attempts s = subst (λ as'. Stands p place command present as') (sym (append-nil attempts)) s
-
 -- the attempt of which an ending tells
 abbrev pub told_end : ClientPlan → ClientState → Present → Outcome → Attempt
 told_end p c a how = record { id = attempt_id p c a; epoch = a.epoch; conds = a.conds; gots = a.gots; outcome = how }
@@ -178,10 +175,6 @@ moved-keeps p c attempts some s = by (waits c)
     by false = moves-at-keeps p c attempts (command_at p c) c.present some s refl refl
 
 -- ---- hearing
-
--- a state with the same place and numbers has told the same
-same-told : (p : ClientPlan) (c e : ClientState) (attempts : List Attempt) → e.place ≡ c.place → e.command ≡ c.command → number_of e.present ≡ number_of c.present → HasTold p c attempts → HasTold p e attempts
-same-told p c e attempts place command number s = rw (place, command, number) s
 
 condition-keeps : (p : ClientPlan) (c : ClientState) (d : Command) (a : Present) (attempts : List Attempt) (cond : Cond) (there : Bool) → IsAt p c d a attempts
     → Keeps p attempts (condition_told p c a cond there)

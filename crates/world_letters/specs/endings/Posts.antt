@@ -1,7 +1,6 @@
 -- What is sent in the further turns of targets ends attempts as it may.
-use Rattle.std.specs.Prelude.{ℕ, ◌≡◌, ◌==◌, ◌||◌, Bool, true, false, List, [], ◌∷◌, filter, Option, Some, None, Result, Ok, Err, refl, if◌then◌else◌, ◌⊎◌, ◌++◌}
+use Rattle.std.specs.Prelude.{ℕ, ◌≡◌, Bool, true, false, List, [], ◌∷◌, Option, Some, None, Result, Ok, Err, refl, if◌then◌else◌, ◌⊎◌}
 use Rattle.std.proofs.Common.{sym, ap, subst, inl, inr, ◌∙◌}
-use Rattle.base_types.specs.declared.entry.Entry.{Entry}
 use Rattle.base_types.specs.declared.epoch.Epoch.{Epoch}
 use Rattle.base_types.specs.declared.id.AttemptId.{AttemptId}
 use Rattle.base_types.specs.declared.id.ContId.{ContId}
@@ -15,12 +14,8 @@ use Rattle.base_messages.specs.declared.actor.ActorId.{ActorId}
 use Rattle.base_messages.specs.declared.message.Message.{Message, more_of-Message}
 use Rattle.base_messages.specs.declared.message.Message.TheVariants as message
 use Rattle.base_messages.specs.declared.message.Post.{Post}
-use Rattle.model_laws.specs.Members.{has-cases}
-use Rattle.dtx_base.specs.declared.leading.Undecided.{Undecided}
-use Rattle.dtx_base.specs.Asking.{ask_heard, asked_of, asked_open}
 use Rattle.dtx_base.specs.Joining as member
-use Rattle.dtx_base.specs.Leading.{LeaderOf, down_told, entry_led, first_down, mark_reset, prepare_reset, quietly, status_asked, to_target, undecided_of}
-use Rattle.dtx_base.specs.Rows.{is_among}
+use Rattle.dtx_base.specs.Leading.{to_target}
 use Rattle.vos_store.specs.declared.refusal.FreezeNo.{FreezeNo}
 use Rattle.vos_store.specs.declared.refusal.FreezeNo.TheVariants as freeze
 use Rattle.vos_store.specs.Answers.{freezes}
@@ -32,12 +27,14 @@ use Rattle.world_base.specs.declared.target.TargetPlan.{TargetPlan}
 use Rattle.world_base.specs.Changes.{Kept}
 use Rattle.world_base.specs.Commits as commit
 use Rattle.world_base.specs.Further.{CommitDown, HearsFurther, IsSpent, IsUnknown, reset_by}
-use Rattle.world_base.specs.Roles.{leader_at, member_at}
+use Rattle.world_base.specs.Roles.{leader_at}
 use Rattle.world_base.specs.Snapshots as snap
-use Rattle.world_base.specs.Statuses.{AtOnce, EndsAs, IsDone, ask_left, status_refusal}
+use Rattle.world_base.specs.Statuses.{AtOnce, EndsAs, IsDone, ask_left, reset_left, status_refusal}
 use Rattle.world_base.specs.TargetTurns.{commit_request}
-use Rattle.world_letters.specs.lines.EndingLaws.{all-unresolved-end, ended-end, hears-tells, refuses}
+use Rattle.world_letters.specs.lines.EndingLaws.{hears-tells, refuses}
 use Rattle.world_letters.specs.lines.Lines.{MayEnd, TellsEnd, is_member_refusal}
+use Rattle.world_letters.specs.endings.Answers as follows
+use Rattle.world_letters.specs.endings.Answers.{AnswersAsk, SaysCommitted, SaysUnknown, SaysUnresolved, ask-answers, left-follows}
 use Rattle.world_letters.specs.endings.Telling.{AsksAgain, AsksFreezes, AsksPrunes, IsLost, IsSent, PostsAfter, Quietly, TellsAfter, all-after, is_collected}
 
 -- ---- posts together
@@ -48,9 +45,6 @@ none-end q i = absurd i
 single-end : (q : Post) → TellsAfter q.message → PostsAfter (q ∷ [])
 single-end q t s (inl same) = subst (λ x. TellsAfter x.message) (sym same) t
 single-end q t s (inr none) = absurd none
-
-both-end : (ps qs : List Post) → PostsAfter ps → PostsAfter qs → PostsAfter (ps ++ qs)
-both-end ps qs f g q i = elim (has-cases ps qs q i) [ inl j ↦ f q j | inr j ↦ g q j ]
 
 these-end : (ps qs : List Post) → qs ≡ ps → PostsAfter ps → PostsAfter qs
 these-end ps qs same = subst PostsAfter (sym same)
@@ -66,21 +60,13 @@ down-ends t m reading q from s k left (IsUnknown k2 e down left2 is says) = one-
 
 -- ---- an Ask
 
-open-end : (x : AttemptId) (from : ActorId) (e : Entry) (down : Option ℕ) (l : LeaderOf) → PostsAfter (asked_open x from e down l).posts
-open-end x from e None l = none-end
-open-end x from e (Some down) l = single-end _ (inl refl)
-
-asked-end : (x : AttemptId) (from : ActorId) (e : Option Entry) (decided : Bool) (l : LeaderOf) → PostsAfter (asked_of x from e decided l).posts
-asked-end x from None decided l = single-end _ (inl refl)
-asked-end x from (Some e) decided l = by (e.committed || decided)
-  where
-    by : (b : Bool) → PostsAfter (if b then record { leader = l; posts = record { to = from; message = message.Ended x (Some e.epoch) outcome.Committed } ∷ [] } else asked_open x from e (first_down e.members l.memory.down) l).posts
-    by true = single-end _ (inr (record { committed = refl; epoch = e.epoch; at = refl }))
-    by false = open-end x from e (first_down e.members l.memory.down) l
-
 ask-end : (t : TargetPlan) (m : TargetMemory) (from : ActorId) (x : AttemptId) (k : Kept) → PostsAfter (ask_left t m from x k).1.posts
-unfolding ask_heard
-ask-end t m from x k = asked-end x from (entry_led x (leader_at t m k.durable)) (is_among x m.leader.decided) (leader_at t m k.durable)
+ask-end t m from x k q i = by (ask-answers (leader_at t m k.durable) x from q i)
+  where
+    by : AnswersAsk (leader_at t m k.durable) x from q → TellsAfter q.message
+    by (SaysCommitted e led known is) = subst (λ z. TellsAfter z.message) (sym is) (inr (record { committed = refl; epoch = e.epoch; at = refl }))
+    by (SaysUnknown e down led is) = subst (λ z. TellsAfter z.message) (sym is) (inl refl)
+    by (SaysUnresolved none is) = subst (λ z. TellsAfter z.message) (sym is) (inl refl)
 
 at-once : (left_by : Kept → TargetMemory × Did) (s : AtOnce) (k : Kept) (left : TargetMemory × Did) → ((j : Kept) → PostsAfter (left_by j).1.posts) → EndsAs left_by s k left → PostsAfter left.1.posts
 at-once left_by s k left each (IsDone k2 left2 says) = these-end (left_by k2).1.posts left2.1.posts (ap (λ o. o.1.posts) says) (each k2)
@@ -142,32 +128,14 @@ held-end p m from x refusal s k left may (snap.IsCreated k2 c name left2 says) =
 
 -- ---- a Reset
 
-told-down : (t : ℕ) (a : AttemptId) (e : Option Entry) (u : Option Undecided) (l : LeaderOf) → PostsAfter (down_told t a e u l).posts
-told-down t a None u l = none-end
-told-down t a (Some e) None l = none-end
-told-down t a (Some e) (Some u) l = all-after (down_told t a (Some e) (Some u) l).posts (ended-end u.client a e.epoch (outcome.Unknown t) (inl refl))
-
-status-end : (t : ℕ) (a : AttemptId) (inc : ℕ) (l : LeaderOf) → PostsAfter (status_asked t a inc l).posts
-status-end t a inc l = by (inc == l.incarnation)
+left-end : (t : TargetPlan) (m : TargetMemory) (by : ℕ) (down : Bool) (asked : Message) (k : Kept) → PostsAfter (reset_left t m by down asked k).1.posts
+left-end t m by down asked k q i = each (left-follows t m by down asked k q i)
   where
-    by : (b : Bool) → PostsAfter (if b then record { leader = l; posts = to_target t (message.Status a inc) ∷ [] } else quietly l).posts
-    by true = single-end _ tt
-    by false = none-end
-
-prepare-end : (t : ℕ) (down : Bool) (a : AttemptId) (inc : ℕ) (l : LeaderOf) → PostsAfter (prepare_reset t down a inc l).posts
-unfolding prepare_reset
-prepare-end t true a inc l = told-down t a (entry_led a l) (undecided_of a l) l
-prepare-end t false a inc l = status-end t a inc l
-
-mark-end : (t : ℕ) (down : Bool) (inc : ℕ) (marks : List (AttemptId × Bool)) (l : LeaderOf) → PostsAfter (mark_reset t down inc marks l).posts
-unfolding mark_reset
-mark-end t true inc marks l = none-end
-mark-end t false inc marks l = single-end _ tt
-
-query-end : (down : Bool) (a : AttemptId) (ask : Option AttemptId) (s : member.MemberOf) → PostsAfter (member.query_reset down a ask s).freed.posts
-unfolding member.unresolved
-query-end down a None s = none-end
-query-end down a (Some x) s = all-after (member.all_unresolved_told a (filter (member.is_waiting a x) s.memory.parked)) (all-unresolved-end a (filter (member.is_waiting a x) s.memory.parked))
+    each : follows.FollowsReset (leader_at t m k.durable) m.member.parked by q.message → TellsAfter q.message
+    each (follows.EndsUnknown x e led is) = subst TellsAfter (sym is) (inl refl)
+    each (follows.AsksState x inc is) = subst TellsAfter (sym is) tt
+    each (follows.MarksAgain inc marks is) = subst TellsAfter (sym is) tt
+    each (follows.MetUnresolved p x op group ep first tracker r snapshot a among asks is) = subst TellsAfter (sym is) refl
 
 collection-sent : (t : ℕ) (down : Bool) (asked : Message) (x : AttemptId) (o : Option Collection) (m : TargetMemory) → ((snap.collection_reset t down asked x o m).1 ≡ to_target t asked ∷ []) ⊎ PostsAfter (snap.collection_reset t down asked x o m).1
 collection-sent t false asked x o m = inl refl
@@ -182,11 +150,7 @@ reset-sent : (t : TargetPlan) (m : TargetMemory) (by : ℕ) (down : Bool) (asked
 unfolding ResetSends
 reset-sent t m by down (message.Freeze x c s) k = elim (collection-sent by down (message.Freeze x c s) x (snap.collection_of x m) m) [ inl e ↦ inl (e, refl) | inr q ↦ inr q ]
 reset-sent t m by down (message.Prune x c tracker e) k = elim (collection-sent by down (message.Prune x c tracker e) x (snap.collection_of x m) m) [ inl e ↦ inl (e, refl) | inr q ↦ inr q ]
-reset-sent t m by down (message.Prepare e first ws inc) k = inr (both-end (prepare_reset by down e.attempt inc (leader_at t m k.durable)).posts [] (prepare-end by down e.attempt inc (leader_at t m k.durable)) none-end)
-reset-sent t m by down (message.Status a inc) k = inr (both-end (prepare_reset by down a inc (leader_at t m k.durable)).posts [] (prepare-end by down a inc (leader_at t m k.durable)) none-end)
-reset-sent t m by down (message.Mark inc marks) k = inr (both-end (mark_reset by down inc marks (leader_at t m k.durable)).posts [] (mark-end by down inc marks (leader_at t m k.durable)) none-end)
-reset-sent t m by down (message.Query a ask) k = inr (query-end down a ask (member_at t m))
-reset-sent t m by down asked k = inr none-end
+reset-sent t m by down asked k = inr (left-end t m by down asked k)
 
 -- ---- every further message
 

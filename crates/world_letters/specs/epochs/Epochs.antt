@@ -152,13 +152,6 @@ BearsEpoch (message.Ended x (Some own) how) y e = (x ≡ y) × (own ≡ e)
 BearsEpoch (message.Prepare k first ws inc) y e = (k.attempt ≡ y) × (k.epoch ≡ e)
 BearsEpoch m y e = ⊥
 
--- a message bears the epoch that was issued to its attempt
-pub record BearsIssued (issued : List (AttemptId × Epoch)) (m : Message) : Type 0 where
-  pub x : AttemptId
-  pub e : Epoch
-  pub bears : BearsEpoch m x e
-  pub known : Contains issued (x, e)
-
 -- a read is answered at no epoch
 abbrev pub answers_undated : Message → Bool
 answers_undated (message.Fetched x op group None (reply.Answer b)) = true
@@ -168,55 +161,6 @@ answers_undated m = false
 abbrev pub reads_snapshot : Message → Bool
 reads_snapshot (message.Fetch x op group e first tracker r snapshot) = snapshot
 reads_snapshot m = false
-
--- ---- the fact, without snapshots
-
--- of a run whose opening's epochs are all at or below `top`; snapshots are neither made nor read in it
-pub record PlainEpochs (r : Rules) (top : ℕ) (w : World) : Type 0 where
-  -- the number of a target fits into an epoch
-  pub few : length w.targets ≤ 256
-  pub one : (x : AttemptId) (e f : Epoch) → IsIssued w x e → IsIssued w x f → e ≡ f
-  pub apart : (x y : AttemptId) (e : Epoch) → IsIssued w x e → IsIssued w y e → x ≡ y
-  pub above : (x : AttemptId) (e : Epoch) → IsIssued w x e → top < e.0
-  -- the target that issued an epoch is the one that the attempt's command asks first
-  pub issued_by : (x : AttemptId) (e : Epoch) → IsIssued w x e → e.0 % 256 ≡ issuer_of r.script x
-  -- it is there; its lease covers the epoch, and, while it runs, so do its ticks
-  pub issuer : (x : AttemptId) (e : Epoch) → IsIssued w x e → (s : TargetState) × (slice_get w.targets (e.0 % 256) ≡ Some s)
-  pub leased : (x : AttemptId) (e : Epoch) (s : TargetState) → IsIssued w x e → slice_get w.targets (e.0 % 256) ≡ Some s → e.0 / 256 ≤ s.durable.lease
-  pub ticks : (x : AttemptId) (e : Epoch) (s : TargetState) → IsIssued w x e → slice_get w.targets (e.0 % 256) ≡ Some s → s.life ≡ Running → e.0 / 256 ≤ s.memory.ticks
-  -- an attempt with an epoch is present, or has its line
-  pub line : (x : AttemptId) (e : Epoch) → IsIssued w x e → IsPresent r w x ⊎ HasLine w x e
-  -- an attempt for which an epoch is asked has none yet, and the tracker that goes with it covers what its client was told
-  pub fresh : (l : Letter) (x : AttemptId) (k : Epoch) → Contains w.messages l → AsksEpoch l.message x k
-      → IsPresent r w x × IsUnissued w x × (top ≤ k.0) × ((e : ℕ) → IsTold r w x.client e → e ≤ k.0)
-  -- its client asks, and asks the target that its command asks first
-  pub asker : (l : Letter) (x : AttemptId) (k : Epoch) → Contains w.messages l → AsksEpoch l.message x k → l.from ≡ client x.client
-  pub asked : (l : Letter) (x : AttemptId) (k : Epoch) → Contains w.messages l → AsksEpoch l.message x k → l.to ≡ target (issuer_of r.script x)
-  -- an answer without an epoch goes to the client of an attempt that has none, and ends it
-  pub lacking : (l : Letter) (x : AttemptId) → Contains w.messages l → LacksEpoch l.message x → (l.to ≡ client x.client) × IsUnissued w x
-  pub dated : (l : Letter) → Contains w.messages l → answers_undated l.message ≡ false
-  -- epochs that go about, that entries have, or that go with a parked Fetch, are those that were issued
-  pub borne : (l : Letter) (x : AttemptId) (e : Epoch) → Contains w.messages l → BearsEpoch l.message x e → IsIssued w x e
-  pub entered : (t : ℕ) (s : TargetState) (k : Entry) → slice_get w.targets t ≡ Some s → Contains s.durable.entries k → IsIssued w k.attempt k.epoch
-  pub parked : (t : ℕ) (s : TargetState) (p : Parked) → slice_get w.targets t ≡ Some s → Contains s.memory.member.parked p → BearsIssued w.issued p.ask
-  pub plain : (l : Letter) → Contains w.messages l → reads_snapshot l.message ≡ false
-  -- a client's tracker covers the epoch that it knows of its attempt; one of which it knows none, while it waits for nothing, has
-  -- none; and what such an attempt asks is the first that its command asks
-  pub known : (n : ℕ) (c : ClientState) (a : Present) (e : Epoch) → slice_get w.clients n ≡ Some c → c.present ≡ Some a → a.epoch ≡ Some e → IsIssued w (attempt_id (client_plan r n) c a) e
-  pub tracked : (n : ℕ) (c : ClientState) (a : Present) (e : Epoch) → slice_get w.clients n ≡ Some c → c.present ≡ Some a → a.epoch ≡ Some e → e.0 ≤ c.tracker.0
-  pub unknown : (n : ℕ) (c : ClientState) (a : Present) → slice_get w.clients n ≡ Some c → c.present ≡ Some a → a.waits ≡ false → a.epoch ≡ None → IsUnissued w (attempt_id (client_plan r n) c a)
-  pub unasked : (n : ℕ) (c : ClientState) (a : Present) → slice_get w.clients n ≡ Some c → c.present ≡ Some a → a.epoch ≡ None → AsksFirst (attempt_ops r.script (attempt_id (client_plan r n) c a)) a
-  pub trackers : (n : ℕ) (c : ClientState) → slice_get w.clients n ≡ Some c → (top ≤ c.tracker.0) × ((e : ℕ) → IsTold r w n e → e ≤ c.tracker.0)
-  -- the epoch of a present attempt is above all that its client was told before
-  pub rises : (x : AttemptId) (e : Epoch) (f : ℕ) → IsPresent r w x → IsIssued w x e → IsTold r w x.client f → f < e.0
-  -- of two attempts of a command the later has the greater epoch
-  pub same_command : (x y : AttemptId) (e f : Epoch) → IsIssued w x e → IsIssued w y f → x.client ≡ y.client → x.command ≡ y.command → y.attempt < x.attempt → f.0 < e.0
-  -- a client is past the attempts that its lines tell of
-  pub past : (a : Attempt) (c : ClientState) → Contains (tries w.lines) a → slice_get w.clients a.id.client ≡ Some c → IsPast c a.id
-  -- lines show the epochs that were issued; those differ from one another, and those of a client rise
-  pub shown : (a : Attempt) (e : Epoch) → Contains (tries w.lines) a → a.epoch ≡ Some e → IsIssued w a.id e
-  pub distinct : AreIssued r.script top w.lines
-  pub risen : AllRise r.script w.lines
 
 -- ---- the fact
 

@@ -1,6 +1,6 @@
 -- Every right event of a run keeps what is said of epochs, where it keeps what is said of conversations; and it holds at the beginning.
-use Rattle.std.specs.Prelude.{ℕ, ◌≡◌, ◌≤◌, ◌<◌, ◌-◌, ◌++◌, List, [], ◌∷◌, length, Contains, slice_get, Some, None, refl}
-use Rattle.std.proofs.Common.{append-nil, sym, subst, arith}
+use Rattle.std.specs.Prelude.{ℕ, ◌≡◌, ◌≤◌, ◌<◌, ◌-◌, ◌++◌, List, [], ◌∷◌, length, Contains, slice_get, Some, None}
+use Rattle.std.proofs.Common.{sym, subst}
 use Rattle.base_types.specs.declared.report.Attempt.{Attempt}
 use Rattle.base_types.specs.declared.report.Line.{Line}
 use Rattle.base_types.specs.declared.script.Script.{Script}
@@ -9,27 +9,16 @@ use Rattle.daos_model.specs.Order.{AllRise}
 use Rattle.world_base.specs.declared.client.ClientState.{ClientState}
 use Rattle.world_base.specs.declared.target.TargetState.{TargetState}
 use Rattle.world_base.specs.declared.world.World.{World}
-use Rattle.world_base.specs.ClientTurns.{NextTurn, Skipped, Went_on, heard, moved}
+use Rattle.world_base.specs.ClientTurns.{heard, moved}
 use Rattle.world_letters.specs.clients.MoveLaws as clients
 use Rattle.world_letters.specs.clients.Standing.{HasTold, tells}
-use Rattle.world_base.specs.Events.{ByClient, ByTarget, ClientGoes, RightEvent, Rules, ToClient, ToTarget, after_turn, client_plan, with_client}
-use Rattle.world_base.specs.Letters.{client}
-use Rattle.world_base.specs.StepLaws.{by-going, by-hearing, by-next}
+use Rattle.world_base.specs.Events.{ByClient, ByTarget, RightEvent, Rules, ToClient, ToTarget, client_plan}
+use Rattle.world_base.specs.StepLaws.{by-hearing, by-next}
 use Rattle.world_base.specs.Steps.{KeptByCounting, KeptByHearing, KeptByMoves}
-use Rattle.world_letters.specs.epochs.Epochs.{ClientsStand, PlainEpochs, InCause, IsTold, ItsOwn, Unsnapped, Epochs}
-use Rattle.world_letters.specs.epochs.HeardLaws.{heard-keeps}
-use Rattle.world_letters.specs.epochs.HearLaws.{quiet-client}
-use Rattle.world_letters.specs.epochs.IssuedLists.{none-issued}
-use Rattle.world_letters.specs.epochs.Lists.{at-set, contains-none}
-use Rattle.world_letters.specs.epochs.MoveLaws.{moved-keeps, quiet-same}
-use Rattle.world_letters.specs.epochs.Talking.{TalksOnce, silent-unless}
-use Rattle.world_letters.specs.epochs.TargetEvents.{hears-kept, idles-kept}
+use Rattle.world_letters.specs.epochs.Epochs.{ClientsStand, InCause, IsTold, ItsOwn, Epochs}
+use Rattle.world_letters.specs.epochs.Lists.{at-set, contains-none, none-issued}
 
 -- ---- clients stand at their commands
-
--- every right event keeps it
-abbrev pub ClientsStandAreKept : Type 0
-ClientsStandAreKept = (r : Rules) (w v : World) → 0 < r.attempts → ClientsStand r w → RightEvent r w v → ClientsStand r v
 
 module _ (r : Rules) (some : 0 < r.attempts) where
   pub stands-by-moves : KeptByMoves r (ClientsStand r)
@@ -50,9 +39,6 @@ module _ (r : Rules) (some : 0 < r.attempts) where
   clients-stand w v S (ToClient g) = by-hearing r (ClientsStand r) stands-by-moves stands-by-hearing w v S g
   clients-stand w v S (ToTarget g) = subst (ClientsStand r) (sym g.after) S
   clients-stand w v S (ByTarget g) = subst (ClientsStand r) (sym g.after) S
-
-pub clients-stand-kept : ClientsStandAreKept
-clients-stand-kept r w v some S g = clients-stand r some w v S g
 
 -- ---- the beginning
 
@@ -117,34 +103,3 @@ epochs-begin r top w B = record {
     nothing-told : (n e : ℕ) → IsTold r w n e → ⊥
     nothing-told n e (ItsOwn a h client' own has known sure is) = no-tries a h
     nothing-told n e (InCause a h client' among) = no-tries a h
-
--- ---- events
-
--- where moves and hearing keep what is said of conversations, by which each client has at most one letter in flight
-module _ (r : Rules) (top : ℕ) (some : 0 < r.attempts) (U : Unsnapped r) (Talk : World → Type 0) (once : (w : World) → Talk w → TalksOnce w) (moves : KeptByMoves r Talk) (hearing : KeptByHearing r Talk) where
-  abbrev pub All : World → Type 0
-  All w = Talk w × ClientsStand r w × PlainEpochs r top w
-
-  pub moves-keep : KeptByMoves r All
-  moves-keep w n c here p = (moves w n c here p.0, stands-by-moves r some w n c here p.1, moved-keeps r top w n c U p.1 p.2 here (λ idle. silent-unless w n c (once w p.0) here idle))
-
-  pub hearing-keeps : KeptByHearing r All
-  hearing-keeps w n c l rest here awake takes to p =
-      (hearing w n c l rest here awake takes to p.0, stands-by-hearing r some w n c l rest here awake takes to p.1, heard-keeps r top w n c l rest U (once w p.0) p.1 p.2 here takes to)
-
-  -- a turn that is skipped is counted
-  pub counting-keeps : (w : World) (n k : ℕ) (c : ClientState) → slice_get w.clients n ≡ Some c → PlainEpochs r top w → PlainEpochs r top (with_client n (record c { skip = k }) w)
-  counting-keeps w n k c here E = quiet-client r top w n c (record c { skip = k }) E (quiet-same r top w n c (record c { skip = k }) E here (omega arith) refl refl)
-
-  goes-kept : (w v : World) → All w → ClientGoes r w v → PlainEpochs r top v
-  goes-kept w v p g = subst (λ z. PlainEpochs r top z) (sym g.after) (by g.turn)
-    where
-      by : NextTurn (client_plan r g.n) g.c g.did g.d → PlainEpochs r top (with_client g.n g.d (after_turn w (client g.n) g.did w.messages))
-      by (Skipped skips says after) = rw (after, says, append-nil w.messages, append-nil w.issued, append-nil w.lines) (counting-keeps w g.n (g.c.skip - 1) g.c g.here p.2)
-      by (Went_on runs did) = rw (did.issued, append-nil w.issued) (by-going r All moves-keep w g.n g.c g.d g.did.posts g.did.lines g.here p did.goes_on).2
-
-  pub event-kept : (w v : World) → Talk w → ClientsStand r w → PlainEpochs r top w → RightEvent r w v → PlainEpochs r top v
-  event-kept w v talk S E (ByClient g) = goes-kept w v (talk, S, E) g
-  event-kept w v talk S E (ToClient g) = (by-hearing r All moves-keep hearing-keeps w v (talk, S, E) g).2
-  event-kept w v talk S E (ToTarget g) = hears-kept r top w v (once w talk) E g
-  event-kept w v talk S E (ByTarget g) = idles-kept r top w v E g

@@ -1,6 +1,6 @@
 -- What holds of lists of letters, lines and issued epochs.
-use Rattle.std.specs.Prelude.{ℕ, ◌≡◌, ◌≢◌, ◌<◌, ◌++◌, ◌⊎◌, Bool, true, false, List, [], ◌∷◌, filter, find, Contains, All, slice_get, Option, Some, None, refl, if◌then◌else◌}
-use Rattle.std.proofs.Common.{sym, ◌∙◌, ap, subst, inl, inr, ⊎_elim, arith}
+use Rattle.std.specs.Prelude.{ℕ, ◌≡◌, ◌≢◌, ◌<◌, ◌++◌, ◌⊎◌, Bool, true, false, List, [], ◌∷◌, filter, find, Contains, All, slice_get, Option, Some, None, refl, if◌then◌else◌, max, ◌≤◌}
+use Rattle.std.proofs.Common.{sym, ◌∙◌, ap, subst, inl, inr, ⊎_elim, arith, append_assoc}
 use Rattle.std.proofs.Math.ListN.{set}
 use Rattle.std.proofs.lemmas.Bool.Decides.{eqb_tells}
 use Rattle.std.proofs.lemmas.List.Elements.{All-contains_itself, All-weaker, Contains-append_cases, Contains-append_left, Contains-append_right, Contains-push, Contains-push_cases, filter-append}
@@ -10,12 +10,17 @@ use Rattle.base_types.specs.declared.report.Attempt.{Attempt}
 use Rattle.base_types.specs.declared.report.Line.{Line}
 use Rattle.base_types.specs.declared.report.Line.TheVariants as line
 use Rattle.model_laws.specs.EntryLaws.{same-attempt}
-use Rattle.daos_model.specs.Attempts.{EachTry, tries}
+use Rattle.daos_model.specs.Attempts.{EachTry, tries, epoch_or_none, has_own_epoch, own_epochs}
 use Rattle.daos_model.specs.Durables.{same_attempt}
 use Rattle.daos_model.specs.EntryLaws.{same_attempt-itself}
 use Rattle.daos_model.specs.Laws.{tries-append}
 use Rattle.world_base.specs.Events.{epoch_issued, epoch_of_issue, is_issue_of}
 use Rattle.world_base.specs.StepLaws.{set-here, set-there}
+use Rattle.world_base.specs.ClientTurns.{greatest}
+use Rattle.world_letters.specs.talks.HearLaws.{greatest-above}
+use Rattle.daos_model.specs.Order.{AreIssued}
+use Rattle.std.specs.List.{IsDistinct}
+use Rattle.base_types.specs.declared.script.Script.{Script}
 
 -- one value, where there is one
 pub one-value : {T : Type 0} (o : Option T) (x y : T) → o ≡ Some x → o ≡ Some y → x ≡ y
@@ -133,3 +138,24 @@ each-push P lines a each p before b after e = by (push-split lines before after 
     by : ((before ≡ lines) × (line.Try a ≡ line.Try b)) ⊎ ((rest : List Line) × (lines ≡ before ++ line.Try b ∷ rest)) → P before b
     by (inl k) = let same : line.Try a ≡ line.Try b = k.1 in let own : a ≡ b = cc in subst (λ ls. P ls b) (sym k.0) (subst (λ c. P lines c) own p)
     by (inr k) = each before b k.0 k.1
+
+pub greatest-has : (t : ℕ) (es : List ℕ) (e : ℕ) → Contains es e → e ≤ greatest t es
+unfolding greatest
+greatest-has t [] e h = absurd (contains-none e h)
+greatest-has t (f ∷ es) e h = by (greatest-above (max t f) es) (λ k. greatest-has (max t f) es e k) (contains-cons f es e h)
+  where
+    by : max t f ≤ greatest (max t f) es → (Contains es e → e ≤ greatest (max t f) es) → (f ≡ e) ⊎ Contains es e → e ≤ greatest (max t f) es
+    by up ih (inl same) = omega (arith, up, same)
+    by up ih (inr k) = ih k
+
+-- those of attempts, and of attempts after them
+pub own_epochs-append : (s : Script) (before after : List Attempt) → own_epochs s (before ++ after) ≡ own_epochs s before ++ own_epochs s after
+unfolding own_epochs
+own_epochs-append s [] after = refl
+own_epochs-append s (a ∷ before) after =
+    ap (λ es. (if has_own_epoch s a then epoch_or_none a.epoch else []) ++ es) (own_epochs-append s before after)
+    ∙ sym (append_assoc (if has_own_epoch s a then epoch_or_none a.epoch else []) (own_epochs s before) (own_epochs s after))
+
+pub none-issued : (s : Script) (top : ℕ) (lines : List Line) → lines ≡ [] → AreIssued s top lines
+unfolding own_epochs IsDistinct tries
+none-issued s top lines none = subst (λ ls. AreIssued s top ls) (sym none) (record { distinct = tt; above = λ k d low. absurd (omega (arith, low)) })

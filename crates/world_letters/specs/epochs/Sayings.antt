@@ -1,5 +1,5 @@
 -- What targets say of epochs: each that is known of an attempt, and no other.
-use Rattle.std.specs.Prelude.{ℕ, ◌≡◌, ◌≤◌, ◌++◌, ◌^◌, bit_or, Bool, true, false, filter, find, map, List, [], ◌∷◌, Contains, Option, Some, None, refl, if◌then◌else◌}
+use Rattle.std.specs.Prelude.{ℕ, ◌≡◌, ◌≤◌, ◌^◌, bit_or, Bool, true, false, filter, find, map, List, [], ◌∷◌, Contains, Option, Some, None, refl, if◌then◌else◌}
 use Rattle.std.proofs.Common.{sym, ◌∙◌, ap, subst, ⊎_elim, arith}
 use Rattle.std.proofs.lemmas.List.Elements.{Contains-append_left, Contains-append_right, Contains-push}
 use Rattle.base_types.specs.declared.entry.Entry.{Entry}
@@ -9,18 +9,12 @@ use Rattle.base_types.specs.declared.epoch.Epoch.{Epoch}
 use Rattle.base_types.specs.declared.id.AttemptId.{AttemptId}
 use Rattle.model_laws.specs.EntryLaws.{same-attempt}
 use Rattle.base_messages.specs.declared.actor.ActorId.{ActorId}
-use Rattle.base_messages.specs.declared.message.Message.{Message}
-use Rattle.base_messages.specs.declared.message.Post.{Post}
 use Rattle.daos_model.specs.declared.durable.Durable.{Durable}
 use Rattle.daos_model.specs.Answers.{is_before}
 use Rattle.daos_model.specs.Changes.{committed_at, confirmed_at, is_other, leased, prepared, settled}
 use Rattle.daos_model.specs.Durables.{entry_key, is_entry_of, same_attempt}
 use Rattle.daos_model.specs.Ordered.{put}
-use Rattle.dtx_base.specs.declared.member.Parked.{Parked}
-use Rattle.world_base.specs.declared.did.Did.{Did}
-use Rattle.world_base.specs.declared.target.TargetMemory.{TargetMemory}
 use Rattle.world_base.specs.Changes.{Change, Creates, Extends, Freezes, Kept, Prepares, Prunes, Settles, Steps, made}
-use Rattle.world_letters.specs.epochs.Epochs.{AsksEpoch, BearsEpoch, LacksEpoch, answers_undated, reads_snapshot}
 use Rattle.world_letters.specs.epochs.Lists.{contains-cons, contains-none}
 use Rattle.world_base.specs.ChangeLaws.{lease-settled}
 
@@ -31,32 +25,6 @@ Known = AttemptId → Epoch → Type 0
 -- attempts that may be told that no epoch is left, each with whom is told so
 abbrev pub Spent : Type 1
 Spent = AttemptId → ActorId → Type 0
-
--- ---- what is sent
-
--- a message that a target sends: it bears known epochs alone, asks for none, and reads at no snapshot
-pub record Says (P : Known) (L : Spent) (q : Post) : Type 0 where
-  pub bears : (x : AttemptId) (e : Epoch) → BearsEpoch q.message x e → P x e
-  pub lacks : (x : AttemptId) → LacksEpoch q.message x → L x q.to
-  pub asks : (x : AttemptId) (k : Epoch) → AsksEpoch q.message x k → ⊥
-  pub plain : reads_snapshot q.message ≡ false
-  pub dated : answers_undated q.message ≡ false
-
-abbrev pub SaysAll : Known → Spent → List Post → Type 0
-SaysAll P L [] = Unit {0}
-SaysAll P L (q ∷ qs) = Says P L q × SaysAll P L qs
-
-pub says-both : (P : Known) (L : Spent) (ps qs : List Post) → SaysAll P L ps → SaysAll P L qs → SaysAll P L (ps ++ qs)
-says-both P L [] qs h k = k
-says-both P L (p ∷ ps) qs h k = (h.0, says-both P L ps qs h.1 k)
-
-pub says-map : {A : Type 0} (P : Known) (L : Spent) (f : A → Post) → ((a : A) → Says P L (f a)) → (xs : List A) → SaysAll P L (map f xs)
-says-map P L f each [] = tt
-says-map P L f each (x ∷ xs) = (each x, says-map P L f each xs)
-
-pub says-each : (P : Known) (L : Spent) (qs : List Post) (q : Post) → SaysAll P L qs → Contains qs q → Says P L q
-says-each P L [] q h i = absurd (contains-none q i)
-says-each P L (p ∷ ps) q h i = ⊎_elim (λ same. subst (Says P L) same h.0) (λ later. says-each P L ps q h.1 later) (contains-cons p ps q i)
 
 -- ---- entries
 
@@ -169,46 +137,3 @@ made-stays P low (Prunes f z n) k l fits is s = absurd fits
 pub step-stays : (P : Known) (low : ℕ) (o : Option Change) (k l : Kept) → StepFits P k o → Steps o k l → Stays P low k → Stays P low l × (k.durable.lease ≤ l.durable.lease)
 step-stays P low None k l fits same s = (subst (Stays P low) (sym same) s, subst (λ z. k.durable.lease ≤ z.durable.lease) (sym same) (omega arith))
 step-stays P low (Some c) k l fits st s = made-stays P low c k l fits st.0 s
-
--- ---- Fetches that wait
-
--- a Fetch that bears a known epoch of its attempt
-pub record IsKnownAsk (P : Known) (m : Message) : Type 0 where
-  pub x : AttemptId
-  pub e : Epoch
-  pub bears : BearsEpoch m x e
-  pub known : P x e
-
-abbrev pub AreParkedKnown : Known → List Parked → Type 0
-AreParkedKnown P [] = Unit {0}
-AreParkedKnown P (p ∷ ps) = IsKnownAsk P p.ask × AreParkedKnown P ps
-
-pub parked-each : (P : Known) (ps : List Parked) (p : Parked) → AreParkedKnown P ps → Contains ps p → IsKnownAsk P p.ask
-parked-each P [] p h i = absurd (contains-none p i)
-parked-each P (q ∷ ps) p h i = ⊎_elim (λ same. subst (λ z. IsKnownAsk P z.ask) same h.0) (λ later. parked-each P ps p h.1 later) (contains-cons q ps p i)
-
-pub parked-all : (P : Known) (ps : List Parked) → ((p : Parked) → Contains ps p → IsKnownAsk P p.ask) → AreParkedKnown P ps
-parked-all P [] each = tt
-parked-all P (p ∷ ps) each = (each p (Contains-append_left (p ∷ []) ps p (Contains-push [] p)), parked-all P ps (λ q i. each q (Contains-append_right (p ∷ []) ps q i)))
-
-pub parked-push : (P : Known) (ps : List Parked) (p : Parked) → AreParkedKnown P ps → IsKnownAsk P p.ask → AreParkedKnown P (ps ++ p ∷ [])
-parked-push P [] p h k = (k, tt)
-parked-push P (q ∷ ps) p h k = (h.0, parked-push P ps p h.1 k)
-
-pub parked-filter : (P : Known) (t : Parked → Bool) (ps : List Parked) → AreParkedKnown P ps → AreParkedKnown P (filter t ps)
-parked-filter P t [] h = tt
-parked-filter P t (p ∷ ps) h = by (parked-filter P t ps h.1) (t p)
-  where
-    by : AreParkedKnown P (filter t ps) → (b : Bool) → AreParkedKnown P (if b then p ∷ filter t ps else filter t ps)
-    by rest true = (h.0, rest)
-    by rest false = rest
-
--- ---- a turn
-
--- What a turn of a target leaves: it says known epochs alone, keeps none but known ones of Fetches that wait, and its ticks don't go
--- down.
-pub record Leaves (P : Known) (L : Spent) (m : TargetMemory) (left : TargetMemory × Did) : Type 0 where
-  pub says : SaysAll P L left.1.posts
-  pub parked : AreParkedKnown P left.0.member.parked
-  pub ticks : m.ticks ≤ left.0.ticks
-  pub lines : left.1.lines ≡ []

@@ -24,7 +24,7 @@ use Rattle.dtx_base.specs.declared.member.Parked.{Parked}
 use Rattle.dtx_base.specs.Asking.{ask_heard, asked_of, asked_open}
 use Rattle.dtx_base.specs.Joining.{MemberOf, all_unresolved_told, inquired, inquiry_for, is_parked_on, is_waiting, parked_ask, query_for, reset_heard, resolved, to_inquire, unresolved, unresolved_told, verdict_heard}
 use Rattle.dtx_base.specs.Leading as leading
-use Rattle.dtx_base.specs.Leading.{LeaderOf, abort_to, ack_heard, answer_heard, answer_if_awaited, batched, begun, begun_alone, begun_with_others, commit_mark, down_told, ended, entry_led, first_down, mark_reset, mark_with, marks_for, ok_heard, owed, prepare_reset, prepare_to, quietly, refusal_heard, reset_of, status_asked, to_target, undecided_of}
+use Rattle.dtx_base.specs.Leading.{LeaderOf, abort_to, ack_heard, answer_heard, answer_if_awaited, batched, begun, begun_alone, begun_with_others, commit_mark, down_told, ended, entry_led, first_down, mark_reset, mark_with, marks_for, owed, prepare_reset, prepare_to, quietly, to_target, undecided_of}
 use Rattle.dtx_base.specs.Members.{all_targets, are_all_counted, is_other_member, other_members, with_target}
 use Rattle.dtx_base.specs.Rows.{is_among, is_empty}
 use Rattle.world_base.specs.Statuses.{status_to, statuses_for, statuses_of}
@@ -164,10 +164,6 @@ queries-carry ask on leader x r = refl
 pub inquiries-carry : (es : List Entry) (s : MemberOf) → CarryNone (inquired es s).freed.posts
 unfolding inquired load
 inquiries-carry es s = each-carries inquiry_for (to_inquire es s) (λ e x r. refl)
-
-pub inquiries-park : (es : List Entry) (s : MemberOf) → (inquired es s).member.memory.parked ≡ s.memory.parked
-unfolding inquired
-inquiries-park es s = refl
 
 -- the client of a Fetch that waited is told that its attempt met one which isn't resolved
 unresolved-carries : (a : AttemptId) (m : Message) (x : AttemptId) (r : Read) → total (post_load x r) (unresolved_told a m) ≤ load x r m

@@ -1,6 +1,6 @@
 -- Every right event keeps how what is in flight ends attempts, and what the lines tell.
-use Rattle.std.specs.Prelude.{ℕ, ◌≡◌, ◌⊎◌, ◌<◌, ◌++◌, ◌==◌, Bool, true, false, List, [], ◌∷◌, filter, map, slice_get, Contains, Option, Some, None, refl, if◌then◌else◌}
-use Rattle.std.proofs.Common.{append-nil, sym, ◌∙◌, ap, subst, inl, inr}
+use Rattle.std.specs.Prelude.{ℕ, ◌≡◌, ◌⊎◌, ◌++◌, ◌==◌, Bool, true, false, List, [], ◌∷◌, filter, map, Contains, Option, Some, None, refl, if◌then◌else◌}
+use Rattle.std.proofs.Common.{sym, ap, subst, inl, inr}
 use Rattle.base_types.specs.declared.entry.Entry.{Entry}
 use Rattle.base_types.specs.declared.entry.Verdict.{Verdict}
 use Rattle.base_types.specs.declared.entry.Verdict.TheVariants as how
@@ -16,7 +16,6 @@ use Rattle.base_messages.specs.declared.message.Message.TheVariants as message
 use Rattle.base_messages.specs.declared.message.Post.{Post}
 use Rattle.model_laws.specs.Members.{Has, contains-from_has, has-cases, has-from_contains, has-from_map}
 use Rattle.daos_model.specs.declared.durable.Durable.{Durable}
-use Rattle.daos_model.specs.Attempts.{tries_of}
 use Rattle.dtx_base.specs.declared.leading.Naming.{Naming}
 use Rattle.dtx_base.specs.declared.leading.Undecided.{Undecided}
 use Rattle.dtx_base.specs.declared.member.Parked.{Parked}
@@ -35,21 +34,13 @@ use Rattle.world_base.specs.declared.request.FetchRequest.{FetchRequest}
 use Rattle.world_base.specs.declared.request.PrepareRequest.{PrepareRequest}
 use Rattle.world_base.specs.declared.target.TargetMemory.{TargetMemory}
 use Rattle.world_base.specs.declared.target.TargetPlan.{TargetPlan}
-use Rattle.world_base.specs.declared.world.World.{World}
-use Rattle.world_base.specs.ClientTurns.{Move, heard, hears_epochs, knows, listed, moved, waits}
-use Rattle.world_base.specs.Events.{ByClient, ByTarget, RightEvent, Rules, TargetHearsRightly, TargetIdles, ToClient, ToTarget, client_plan, kept, target_plan, with_epoch}
-use Rattle.world_base.specs.Letters.{Takes, client, letter_of, letters_of, target}
-use Rattle.world_base.specs.StepLaws.{by-hearing, by-next}
-use Rattle.world_base.specs.Steps.{KeptByCounting, KeptByHearing, KeptByMoves, after_move, without}
-use Rattle.world_letters.specs.lines.LineLaws.{lines-by-counting, lines-by-hearing, lines-by-moves}
-use Rattle.world_letters.specs.lines.Lines.{Endings, HasLines, Lines, MayEnd, TellsEnd, TellsPlainly, is_member_refusal}
+use Rattle.world_base.specs.ClientTurns.{Move, listed, moved, waits}
+use Rattle.world_base.specs.Events.{Rules, client_plan}
+use Rattle.world_base.specs.Letters.{client, letter_of, letters_of, target}
+use Rattle.world_base.specs.Steps.{KeptByCounting, KeptByMoves}
+use Rattle.world_letters.specs.lines.Lines.{Endings, MayEnd, TellsEnd, TellsPlainly, is_member_refusal}
 use Rattle.world_letters.specs.talks.AskLaws.{move-is, waiting-rests}
 use Rattle.world_letters.specs.talks.Asked.{ARead, ASnapshot, AnAggregation, Asked, Asking, IsMove, ItsWrites, Silent, Telling}
-use Rattle.world_letters.specs.talks.Conversation.{Conversation}
-use Rattle.world_letters.specs.talks.ConversationLaws.{conversations-kept, count-keeps, hear-keeps, move-keeps}
-use Rattle.world_letters.specs.talks.HearLaws.{ended-silent, replied-silent}
-use Rattle.world_letters.specs.talks.Hearing.{ATracker, AReply, AnEnd, IsHearing, hearing-is}
-use Rattle.world_letters.specs.talks.TalkLaws.{left-is-among, taken-is-among}
 use Rattle.world_base.specs.Acks as ack
 use Rattle.world_base.specs.Changes.{Change, Kept, Steps}
 use Rattle.world_base.specs.Commits as commit
@@ -107,18 +98,6 @@ endings-by-moves r w n c here k = sent-end (client n) w.messages (listed (moved 
 
 pub endings-by-counting : KeptByCounting Endings
 endings-by-counting w n j c here k = k
-
--- nothing is sent in hearing
-pub heard-silent : (r : Rules) (n : ℕ) (c : ClientState) (l : Letter) (rest : List Letter) → IsHearing r n c l rest → (heard (client_plan r n) c l.message).post ≡ None
-heard-silent r n c l rest (ATracker k says it) = ap (λ m. m.post) it
-heard-silent r n c l rest (AReply g group own b says it) = ap (λ m. m.post) it ∙ (replied-silent (client_plan r n) (hears_epochs l.message c) (knows own g.a) b refl).no_post
-heard-silent r n c l rest (AnEnd g own how says it) = ap (λ m. m.post) it ∙ (ended-silent (client_plan r n) (hears_epochs l.message c) (knows own g.a) own how).no_post
-
-endings-by-hearing : (r : Rules) (w : World) (n : ℕ) (c : ClientState) (l : Letter) (rest : List Letter) → Conversation r w → Endings w → slice_get w.clients n ≡ Some c → Takes w.messages l rest → l.to ≡ client n
-    → Endings (after_move (without w rest) n (heard (client_plan r n) c l.message))
-endings-by-hearing r w n c l rest talk k here takes to =
-    sent-end (client n) rest (listed (heard (client_plan r n) c l.message).post) (λ m i. k m (left-is-among w.messages l rest m takes i))
-    (λ q i. absurd (subst (λ o. Has q (listed o)) (heard-silent r n c l rest (hearing-is r w n c l rest talk here takes to)) i))
 
 -- ---- targets
 
@@ -341,63 +320,5 @@ told-ends m h = tt
 pub all-end : (posts : List Post) → PostsTell posts → PostsEnd posts
 all-end posts tell q i = told-ends q.message (tell q i)
 
-pub hears-ends : (t : TargetPlan) (opening : Epoch × FloorWhy) (m : TargetMemory) (reading : ℕ) (from : ActorId) (q : Message) (old new : Kept) (left : TargetMemory × Did) → TellsEnd q
-    → HearsRightly t opening m reading from q old new left → PostsEnd left.1.posts × (left.1.lines ≡ [])
-hears-ends t opening m reading from q old new left may h = let k = hears-tells t opening m reading from q old new left may h in (all-end left.1.posts k.0, k.1)
-
 pub idle-ends : (settling : Bool) (t : TargetPlan) (m : TargetMemory) (rest : List AttemptId) (k : Kept) (left : TargetMemory × Did) → IdleEnds settling t m rest k left → PostsEnd left.1.posts × (left.1.lines ≡ [])
 idle-ends settling t m rest k left h = let z = idle-tells settling t m rest k left h in (all-end left.1.posts z.0, z.1)
-
--- ---- the laws
-
--- what goes about between clients and targets, how it ends attempts, and what the lines tell
-pub record Spoken (r : Rules) (w : World) : Type 0 where
-  pub talk : Conversation r w
-  pub endings : Endings w
-  pub lines : Lines r w
-
-same-lines : (r : Rules) (w v : World) → v.clients ≡ w.clients → v.lines ≡ w.lines → Lines r w → Lines r v
-same-lines r w v clients lines k = record {
-  told = λ n c at. subst (HasLines (client_plan r n) n c) (sym lines) (k.told n c (ap (λ cs. slice_get cs n) (sym clients) ∙ at));
-  nobody = λ n none. ap (tries_of n) lines ∙ k.nobody n (ap (λ cs. slice_get cs n) (sym clients) ∙ none);
-}
-
-spoken-by-target : (r : Rules) (w v : World) → Spoken r w → TargetHearsRightly r w v → Conversation r v → Spoken r v
-spoken-by-target r w v k g talk = record {
-  talk = talk;
-  endings = subst (λ ls. (l : Letter) → Contains ls l → TellsEnd l.message) (sym (ap (λ x. x.messages) g.after)) (sent-end (target g.t) g.rest g.did.posts (λ m i. k.endings m (left-is-among w.messages g.l g.rest m g.takes i)) ends.0);
-  lines = same-lines r w v (ap (λ x. x.clients) g.after) (ap (λ x. x.lines) g.after ∙ ap (λ ls. w.lines ++ map (with_epoch w.issued) ls) ends.1 ∙ append-nil w.lines) k.lines;
-}
-  where
-    ends : PostsEnd g.did.posts × (g.did.lines ≡ [])
-    ends = hears-ends (target_plan r g.t) g.s.opening g.s.memory g.reading g.l.from g.l.message (kept g.s) g.new (g.memory, g.did) (k.endings g.l (taken-is-among w.messages g.l g.rest g.takes)) g.turn
-
-spoken-by-idle : (r : Rules) (w v : World) → Spoken r w → TargetIdles r w v → Conversation r v → Spoken r v
-spoken-by-idle r w v k g talk = record {
-  talk = talk;
-  endings = subst (λ ls. (l : Letter) → Contains ls l → TellsEnd l.message) (sym (ap (λ x. x.messages) g.after)) (sent-end (target g.t) w.messages g.did.posts k.endings ends.0);
-  lines = same-lines r w v (ap (λ x. x.clients) g.after) (ap (λ x. x.lines) g.after ∙ ap (λ ls. w.lines ++ map (with_epoch w.issued) ls) ends.1 ∙ append-nil w.lines) k.lines;
-}
-  where
-    ends : PostsEnd g.did.posts × (g.did.lines ≡ [])
-    ends = idle-ends g.settling (target_plan r g.t) g.s.memory g.turn.last g.new (g.memory, g.did) g.turn.ends
-
-pub spoken-by-moves : (r : Rules) → 0 < r.attempts → KeptByMoves r (Spoken r)
-spoken-by-moves r some w n c here k = record { talk = move-keeps r w n c here k.talk; endings = endings-by-moves r w n c here k.endings; lines = lines-by-moves r some w n c here k.lines }
-
-pub spoken-by-counting : (r : Rules) → KeptByCounting (Spoken r)
-spoken-by-counting r w n j c here k = record { talk = count-keeps r w n j c here k.talk; endings = k.endings; lines = lines-by-counting r w n j c here k.lines }
-
-pub spoken-by-hearing : (r : Rules) → KeptByHearing r (Spoken r)
-spoken-by-hearing r w n c l rest here awake takes to k = record {
-  talk = hear-keeps r w n c l rest here awake takes to k.talk;
-  endings = endings-by-hearing r w n c l rest k.talk k.endings here takes to;
-  lines = lines-by-hearing r w n c l rest k.talk k.endings k.lines here takes to;
-}
-
--- every right event keeps them
-pub spoken-kept : (r : Rules) (w v : World) → 0 < r.attempts → Spoken r w → RightEvent r w v → Spoken r v
-spoken-kept r w v some k (ByClient g) = by-next r (Spoken r) (spoken-by-moves r some) (spoken-by-counting r) w v k g
-spoken-kept r w v some k (ToClient g) = by-hearing r (Spoken r) (spoken-by-moves r some) (spoken-by-hearing r) w v k g
-spoken-kept r w v some k (ToTarget g) = spoken-by-target r w v k g (conversations-kept r w v k.talk (ToTarget g))
-spoken-kept r w v some k (ByTarget g) = spoken-by-idle r w v k g (conversations-kept r w v k.talk (ByTarget g))

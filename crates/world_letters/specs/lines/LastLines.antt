@@ -51,14 +51,14 @@ pub record CutAlike (us vs ys : List Attempt) : Type 0 where
   pub first : AreTheSame us own
   pub rest : AreTheSame vs later
 
-cut-alike : (us vs ys : List Attempt) → AreTheSame (us ++ vs) ys → CutAlike us vs ys
+pub cut-alike : (us vs ys : List Attempt) → AreTheSame (us ++ vs) ys → CutAlike us vs ys
 cut-alike [] vs ys s = record { own = []; later = ys; all = refl; first = tt; rest = s }
 cut-alike (u ∷ us) vs [] s = absurd s
 cut-alike (u ∷ us) vs (y ∷ ys) s =
     let k = cut-alike us vs ys s.1 in
     record { own = y ∷ k.own; later = k.later; all = ap (λ z. y ∷ z) k.all; first = (s.0, k.first); rest = k.rest }
 
-none-same : (ys : List Attempt) → AreTheSame [] ys → ys ≡ []
+pub none-same : (ys : List Attempt) → AreTheSame [] ys → ys ≡ []
 none-same [] s = refl
 none-same (y ∷ ys) s = absurd s
 

@@ -1,18 +1,13 @@
 -- What holds of the lines of a run.
-use Rattle.std.specs.Prelude.{ℕ, ◌≡◌, ◌<◌, All, slice_get, Some}
+use Rattle.std.specs.Prelude.{ℕ, ◌≡◌, All, slice_get, Some}
 use Rattle.daos_model.specs.Attempts.{tries_of}
 use Rattle.daos_model.specs.Order.{AllInTurn}
 use Rattle.world_base.specs.declared.client.ClientState.{ClientState}
 use Rattle.world_base.specs.declared.world.World.{World}
 use Rattle.world_letters.specs.clients.Answered.{EndsAsAnswered}
-use Rattle.world_base.specs.Events.{RightEvent, Rules, client_plan}
-use Rattle.world_letters.specs.lines.EndingLaws.{Spoken}
+use Rattle.world_base.specs.Events.{Rules, client_plan}
 use Rattle.world_letters.specs.lines.LastLines.{AreDone, HasClients}
 use Rattle.world_letters.specs.lines.Lines.{Lines}
-
--- every right event keeps what goes about and what the lines tell
-abbrev pub EventsKeepSpoken : Type 0
-EventsKeepSpoken = (r : Rules) (w v : World) → 0 < r.attempts → Spoken r w → RightEvent r w v → Spoken r v
 
 -- the lines of each client end as they were answered
 abbrev pub LinesEndAsAnswered : Type 0

@@ -23,27 +23,20 @@ use Rattle.world_base.specs.declared.client.ClientState.{ClientState}
 use Rattle.world_base.specs.declared.client.Present.{Present}
 use Rattle.world_base.specs.declared.letter.Letter.{Letter}
 use Rattle.world_base.specs.declared.world.World.{World}
-use Rattle.world_base.specs.ClientTurns.{heard, listed, moved, question}
-use Rattle.world_letters.specs.clients.AnswerLaws.{Tells, heard-answered, moved-answered}
-use Rattle.world_letters.specs.clients.Answered.{IsFit, IsFitHere, IsReplyFit, is_refusal, ops_here}
-use Rattle.world_letters.specs.clients.MoveLaws.{heard-keeps, moved-keeps}
+use Rattle.world_base.specs.ClientTurns.{listed, moved, question}
+use Rattle.world_letters.specs.clients.AnswerLaws.{Tells, moved-answered}
+use Rattle.world_letters.specs.clients.Answered.{IsFit, IsReplyFit, is_refusal, ops_here}
+use Rattle.world_letters.specs.clients.MoveLaws.{moved-keeps}
 use Rattle.world_letters.specs.clients.Standing.{number_of}
 use Rattle.world_base.specs.Events.{Rules, client_plan, with_client, with_epoch}
-use Rattle.world_base.specs.Letters.{Takes, client, is_tell}
 use Rattle.world_base.specs.StepLaws.{set-here, set-there}
-use Rattle.world_base.specs.Steps.{KeptByCounting, KeptByMoves, after_move, without}
+use Rattle.world_base.specs.Steps.{KeptByCounting, KeptByMoves}
 use Rattle.world_letters.specs.lines.FilledLaws.{AreOf, others-same, own-more, same-append, same-filled, stands-of}
-use Rattle.world_letters.specs.lines.Lines.{AreTheSame, Endings, HasLines, IsCommitted, IsRefusalOrNone, Lines, TellsEnd, filled}
+use Rattle.world_letters.specs.lines.Lines.{AreTheSame, HasLines, IsCommitted, IsRefusalOrNone, Lines, TellsEnd, filled}
 use Rattle.world_letters.specs.talks.Asked.{ARead, ASnapshot, AnAggregation, Asked, ItsWrites}
-use Rattle.world_letters.specs.talks.Conversation.{Answers, Conversation}
-use Rattle.world_letters.specs.talks.InFlight.{GetsAnswer, gets-answer}
-use Rattle.world_letters.specs.talks.TalkLaws.{taken-is-among}
+use Rattle.world_letters.specs.talks.Conversation.{Answers}
 
 -- ---- what a client did
-
--- a client's turn so far keeps what it tells
-pub record DidTell (p : ClientPlan) (d : ClientState) (attempts : List Attempt) (more : List Line) : Type 0 where
-  pub tells : Tells p d (attempts ++ tries more)
 
 -- the attempts of lines that a client adds are its own
 own-lines : (p : ClientPlan) (d : ClientState) (attempts : List Attempt) (more : List Line) → Tells p d (attempts ++ tries more) → AreOf p.number (tries more)
@@ -151,32 +144,3 @@ got-fits p k c a q m (AnAggregation cont at says) answers ends =
     end-fit : (ep : Option Epoch) (how : Outcome) → (is_refusal how ≡ true) ⊎ IsCommitted ep how → (is_refusal how ≡ true) ⊎ ((how ≡ outcome.Committed) × (slice_get (ops_here p c) a.op ≡ None))
     end-fit ep how (inl r) = inl r
     end-fit ep how (inr e) = inr (e.committed, ap (λ x. slice_get (ops_or_none x) a.op) at)
-
-tell-fits : (p : ClientPlan) (c : ClientState) (a : Present) (m : Message) → is_tell m ≡ true → IsFit p c a m
-tell-fits p c a (message.Tell k) h = tt
-tell-fits p c a m h = absurd (let no : ⊥ = cc in no)
-
--- what a client hears is fit to it
-pub heard-fits : (r : Rules) (w : World) (n : ℕ) (c : ClientState) (l : Letter) (rest : List Letter) → Conversation r w → Endings w → slice_get w.clients n ≡ Some c → Takes w.messages l rest → l.to ≡ client n
-    → IsFitHere (client_plan r n) c l.message c.present
-heard-fits r w n c l rest k ends here takes to = by (is_tell l.message) refl
-  where
-    told : (present : Option Present) → is_tell l.message ≡ true → IsFitHere (client_plan r n) c l.message present
-    told None h = tt
-    told (Some a) h = λ w i. tell-fits (client_plan r n) c a l.message h
-
-    got : GetsAnswer r n c l rest → IsFitHere (client_plan r n) c l.message c.present
-    got g = subst (IsFitHere (client_plan r n) c l.message) (sym g.present) (λ x i. got-fits (client_plan r n) g.k c g.a g.q l.message g.asked g.answers (ends l (taken-is-among w.messages l rest takes)))
-
-    by : (b : Bool) → is_tell l.message ≡ b → IsFitHere (client_plan r n) c l.message c.present
-    by true h = told c.present h
-    by false h = got (gets-answer r w n c l rest k here takes to h)
-
--- a client that hears a letter keeps what it tells
-pub lines-by-hearing : (r : Rules) (w : World) (n : ℕ) (c : ClientState) (l : Letter) (rest : List Letter) → Conversation r w → Endings w → Lines r w → slice_get w.clients n ≡ Some c → Takes w.messages l rest
-    → l.to ≡ client n → Lines r (after_move (without w rest) n (heard (client_plan r n) c l.message))
-lines-by-hearing r w n c l rest talk ends k here takes to =
-    let t = k.told n c here in
-    let p = client_plan r n in
-    did-tell r w n c (heard p c l.message).state _ _ (listed (heard p c l.message).line) k here
-    (record { told = heard-keeps p c t.attempts l.message t.tells.told; answers = heard-answered p c t.attempts l.message t.tells (heard-fits r w n c l rest talk ends here takes to) })

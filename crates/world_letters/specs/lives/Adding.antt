@@ -20,6 +20,8 @@ use Rattle.world_base.specs.StepLaws.{set-is, set-there}
 use Rattle.world_base.specs.Stops.{IsBelowNumbers, IsFreeAggregate, IsFreeRestart, is_aggregate_of, is_restart_of, stops_so_far}
 use Rattle.world_letters.specs.lives.Lives.{Lives, TellsOf, standing_of}
 use Rattle.world_letters.specs.lives.Numbers.{counted-on, distinct-push, gather-append, gather-has, kept-push, rising-push}
+use Rattle.base_types.specs.declared.report.Attempt.{Attempt}
+use Rattle.daos_model.specs.Attempts.{tries}
 
 -- ---- what is added
 
@@ -308,3 +310,17 @@ one-adds who w v t s z more here targets lines numbers own goes stops stopped re
         by false other =
             let apart : u ≡ t → ⊥ = λ e. let is : (u == t) ≡ true = ap (λ n. n == t) e ∙ same_number t in let no : ⊥ = cc (other, is) in no in
             (y, sym (set-there w.targets t u z apart) ∙ at, goes-on more u y y (none-at t u more apart own) refl (omega arith) (omega arith))
+
+-- where the line of an attempt stands
+pub try-at : (ls : List Line) (a : Attempt) → Has a (tries ls) → (before : List Line) × (after : List Line) × (ls ≡ before ++ line.Try a ∷ after)
+unfolding tries
+try-at [] a i = absurd i
+try-at (l ∷ ls) a i = by l i (try-at ls a)
+  where
+    later : (l : Line) → (before : List Line) × (after : List Line) × (ls ≡ before ++ line.Try a ∷ after) → (before : List Line) × (after : List Line) × (l ∷ ls ≡ before ++ line.Try a ∷ after)
+    later l z = (l ∷ z.0, z.1, ap (λ y. l ∷ y) z.2)
+
+    by : (l : Line) → Has a (tries (l ∷ ls)) → (Has a (tries ls) → (before : List Line) × (after : List Line) × (ls ≡ before ++ line.Try a ∷ after)) → (before : List Line) × (after : List Line) × (l ∷ ls ≡ before ++ line.Try a ∷ after)
+    by (line.Try b) (inl same) rest = ([], ls, ap (λ y. line.Try y ∷ ls) (sym same))
+    by (line.Try b) (inr i) rest = later (line.Try b) (rest i)
+    by l i rest = later l (rest i)

@@ -23,7 +23,7 @@ use Rattle.world_base.specs.declared.world.World.{World}
 use Rattle.world_base.specs.CutTurns.{Cutting}
 use Rattle.world_base.specs.Events.{ByClient, ByTarget, ClientGoes, ClientHears, Event, Rules, ToClient, ToTarget, client_plan, kept, target_after, target_plan, with_epoch}
 use Rattle.world_base.specs.Roles.{is_prepared}
-use Rattle.world_base.specs.Stops.{AtWork, CutOf, Draws, Fails, Further, GivenUp, Goes, Begins, Happening, Hearing, HearsMore, IdleWork, IsBelowNumbers, IsCut, IsFreeAggregate, IsInHand, IsNumberFresh, NumbersDrawn, OpeningFails, Opens, Plainly, TargetCut, TargetGivenUp, TargetOpens, WorldEvent, WorldRun, opened_at, restart_line, stopped_at, stops_so_far, swept}
+use Rattle.world_base.specs.Stops.{AtWork, CutOf, Draws, Fails, Further, GivenUp, Happening, Hearing, HearsMore, IdleWork, IsBelowNumbers, IsCut, IsFreeAggregate, IsInHand, IsNumberFresh, NumbersDrawn, OpeningFails, Opens, Plainly, TargetCut, TargetGivenUp, TargetOpens, WorldEvent, opened_at, restart_line, stopped_at, stops_so_far, swept}
 use Rattle.world_base.specs.TurnLaws.{hears-keeps, idles-keeps}
 use Rattle.world_letters.specs.lives.Adding.{Adds, AreOf, HasNew, NoNumber, OneNumber, OpensAgain, StaysAsItIs, adds-keeps, after-append, aggregates-append, all-of, at-append, floors-append, goes-on, incarnations-append, none-stopped, one-adds, stops_of, restarts-append, stops-append}
 use Rattle.world_letters.specs.lives.ClientLines.{AreTries, hears-own, next-own}
@@ -397,10 +397,6 @@ sweep-keeps w k = record { told = k.told; bounded = k.bounded; stops = k.stops; 
 
 pub event-keeps : (r : Rules) (w v : World) → WorldEvent r w v → Lives w → Lives v
 event-keeps r w v e k = subst Lives (sym e.after) (sweep-keeps e.u (happening-keeps r w e.u e.happens k))
-
-pub run-keeps : (r : Rules) (w v : World) → WorldRun r w v → Lives w → Lives v
-run-keeps r w v Begins k = k
-run-keeps r w v (Goes u x run e) k = event-keeps r u v e (run-keeps r w u run k)
 
 -- a world in which all targets run, and nothing was told
 pub lives-begin : (w : World) → w.lines ≡ [] → ((t : ℕ) (s : TargetState) → slice_get w.targets t ≡ Some s → s.life ≡ Running) → Lives w

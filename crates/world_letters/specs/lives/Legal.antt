@@ -126,7 +126,7 @@ down-told t ls i = by ls (has-from_contains (down_targets ls) t i)
     by (line.Down u ∷ ls) (inr j) = inr (by ls j)
 
 -- nothing comes after that
-down-last : (x : Standing) (ls : List Line) (t : ℕ) (z : Standing) → Has (line.Down t) ls → after_all (Some x) ls ≡ Some z → z ≡ told.Down
+pub down-last : (x : Standing) (ls : List Line) (t : ℕ) (z : Standing) → Has (line.Down t) ls → after_all (Some x) ls ≡ Some z → z ≡ told.Down
 down-last x [] t z i e = absurd i
 down-last x (l ∷ ls) t z (inl same) e = ends x ls (subst (λ m. after_all (after x m) ls ≡ Some z) (sym same) e)
   where

@@ -9,19 +9,17 @@ use Rattle.base_types.specs.declared.outcome.Cause.TheVariants as cause
 use Rattle.base_types.specs.declared.outcome.FloorWhy.{FloorWhy}
 use Rattle.base_types.specs.declared.outcome.Outcome.{Outcome}
 use Rattle.base_types.specs.declared.outcome.Outcome.TheVariants as outcome
-use Rattle.model_laws.specs.Members.{Has, has-cases, has-from_map}
+use Rattle.model_laws.specs.Members.{Has, has-from_map}
 use Rattle.base_messages.specs.declared.actor.ActorId.{ActorId}
 use Rattle.base_messages.specs.declared.message.Message.TheVariants as message
 use Rattle.base_messages.specs.declared.message.Post.{Post}
 use Rattle.base_messages.specs.declared.message.Reply.{Reply}
 use Rattle.base_messages.specs.declared.message.Reply.TheVariants as reply
 use Rattle.daos_model.specs.Durables.{same_attempt}
-use Rattle.daos_model.specs.declared.durable.Durable.{Durable}
-use Rattle.dtx_base.specs.declared.leading.Naming.{Naming}
 use Rattle.dtx_base.specs.declared.leading.Undecided.{Undecided}
 use Rattle.dtx_base.specs.Joining as member
-use Rattle.dtx_base.specs.Leading.{LeaderOf, LeaderStep, abort_to, ack_heard, answer_heard, answer_if_awaited, batched, begun, begun_alone, begun_with_others, counted_at, decided, ended, entry_led, marked_heard, mark_with, marks_for, new_undecided, ok_heard, owed, prepare_to, quietly, undecided_attempt, undecided_of, with_undecided}
-use Rattle.dtx_base.specs.Members.{all_targets, are_all_counted, is_other_member, other_members, with_target}
+use Rattle.dtx_base.specs.Leading.{LeaderOf, LeaderStep, abort_to, ack_heard, answer_heard, answer_if_awaited, begun, begun_alone, begun_with_others, counted_at, decided, ended, entry_led, marked_heard, new_undecided, ok_heard, prepare_to, quietly, undecided_attempt, undecided_of, with_undecided}
+use Rattle.dtx_base.specs.Members.{are_all_counted, is_other_member, other_members, with_target}
 use Rattle.dtx_base.specs.Rows.{is_empty, with_row, without_row}
 use Rattle.world_base.specs.declared.did.Did.{Did}
 use Rattle.world_base.specs.declared.request.CommitRequest.{CommitRequest}
@@ -29,26 +27,17 @@ use Rattle.world_base.specs.declared.request.FetchRequest.{FetchRequest}
 use Rattle.world_base.specs.declared.request.PrepareRequest.{PrepareRequest}
 use Rattle.world_base.specs.declared.target.TargetMemory.{TargetMemory}
 use Rattle.world_base.specs.declared.target.TargetPlan.{TargetPlan}
-use Rattle.world_letters.specs.talks.Carriers.{open_at}
-use Rattle.world_letters.specs.talks.Conversation.{is_request}
-use Rattle.world_base.specs.Acks.{MarkedEnds, AllConfirmed}
+use Rattle.world_letters.specs.talks.Conversation.{is_request, open_at}
 use Rattle.world_base.specs.Changes.{Change, Kept}
 use Rattle.world_base.specs.Commits as commit
-use Rattle.world_base.specs.Idle.{AllSettled, IdleEnds, batch_of, inquiry_of}
-use Rattle.world_base.specs.Marks.{AllMarked, MarkEnds}
 use Rattle.world_base.specs.Prepares as prepare
 use Rattle.world_base.specs.Reads as read
 use Rattle.world_base.specs.Requests.{request_epoch, with_ticks}
-use Rattle.world_base.specs.Roles.{leader_at, with_unsettled}
-use Rattle.world_base.specs.Verdicts as verdict
+use Rattle.world_base.specs.Roles.{leader_at}
 
 -- all of these posts go to targets, and none is a request
 abbrev pub ToTargets : List Post → Type 0
 ToTargets posts = (q : Post) → Has q posts → (q.to.client ≡ false) × (is_request q.message ≡ false)
-
--- none of these posts is a request
-abbrev pub NoRequests : List Post → Type 0
-NoRequests posts = (q : Post) → Has q posts → is_request q.message ≡ false
 
 -- a target knows as before what waits there, and what is undecided there but for who was counted
 pub record HoldsOn (m n : TargetMemory) : Type 0 where
@@ -112,10 +101,6 @@ fetch-leaves t m reading q from s k left own (read.IsParked k2 e decided a leade
 fetch-leaves t m reading q from s k left own (read.IsServed k2 e decided b left2 free served says) =
     IsReplied (Some e) (reply.Answer b) (ap (λ o. o.1.posts) says) (then-holds q e decided m left2.0 (ap (λ o. o.0.member) says) (ap (λ o. o.0.leader) says))
 
-pub fetch-plain : (q : FetchRequest) (from : ActorId) (m : TargetMemory) (left : TargetMemory × Did) → FetchLeaves q from m left → NoRequests left.1.posts
-fetch-plain q from m left (IsReplied own b posts same) p i = elim (subst (Has p) posts i) [ inl it ↦ ap (λ x. is_request x.message) it | inr none ↦ absurd none ]
-fetch-plain q from m left (IsKept e on leader own posts parked undecided) p i = elim (subst (Has p) posts i) [ inl it ↦ ap (λ x. is_request x.message) it | inr none ↦ absurd none ]
-
 -- ---- a Commit
 
 -- It is ended, and nothing is let go; or its attempt is undecided from then on, with the client that asked, and only targets are sent
@@ -154,10 +139,6 @@ commit-leaves t opening m reading q from s k left (commit.HasBegun k2 e left2 sa
     by : BegunIs (commit.led_entry t q e) from (leader_at t m k2.durable) (commit.begins_at t m q from e k2.durable) → CommitLeaves q from m left2
     by (Alone posts undecided) = IsEnded (Some e) outcome.Committed (ap (λ o. o.1.posts) says ∙ posts) (same-holds m left2.0 (ap (λ o. o.0.member) says) (ap (λ o. o.0.leader.undecided) says ∙ undecided))
     by (WithOthers targets undecided) = HasBegun (subst ToTargets (sym (ap (λ o. o.1.posts) says)) targets) (ap (λ o. o.0.member.parked) says) (ap (λ o. o.0.leader.undecided) says ∙ undecided)
-
-pub commit-plain : (q : CommitRequest) (from : ActorId) (m : TargetMemory) (left : TargetMemory × Did) → CommitLeaves q from m left → NoRequests left.1.posts
-commit-plain q from m left (IsEnded own how posts same) p i = elim (subst (Has p) posts i) [ inl it ↦ ap (λ x. is_request x.message) it | inr none ↦ absurd none ]
-commit-plain q from m left (HasBegun to parked undecided) p i = (to p i).1
 
 -- ---- an Ack
 
@@ -216,26 +197,12 @@ ack-is member a inc refusal l = by (inc == l.incarnation)
     by true = awaited-is member a refusal (entry_led a l) (undecided_of a l) l refl
     by false = Stays refl (λ t. refl)
 
-ended-plain : (c : Option ActorId) (a : AttemptId) (e : Epoch) (how : Outcome) → NoRequests (ended c a e how)
-ended-plain None a e how p i = absurd i
-ended-plain (Some client) a e how p (inl it) = ap (λ x. is_request x.message) it
-ended-plain (Some client) a e how p (inr none) = absurd none
-
-pub ack-plain : (a : AttemptId) (l : LeaderOf) (s : LeaderStep) → AckIs a l s → NoRequests s.posts
-ack-plain a l s (Stays none same) p i = absurd (subst (Has p) none i)
-ack-plain a l s (Ends u e how more found says to undecided) p i = elim (has-cases (ended u.client a e how) more p (subst (Has p) says i)) [ inl j ↦ ended-plain u.client a e how p j | inr j ↦ (to p j).1 ]
-
 -- ---- what else is heard
 
 -- what a Marked changes isn't what is undecided
 pub marked-is : (member inc : ℕ) (ids : List AttemptId) (l : LeaderOf) → (marked_heard member inc ids l).leader.memory.undecided ≡ l.memory.undecided
 unfolding marked_heard
 marked-is member inc ids l = refl
-
-pub marked-leaves : (t : TargetPlan) (m : TargetMemory) (member inc : ℕ) (ids rest : List AttemptId) (k : Kept) (left : TargetMemory × Did) → MarkedEnds t m member inc ids rest k left
-    → (left.1.posts ≡ []) × HoldsOn m left.0
-marked-leaves t m member inc ids rest k left (AllConfirmed k2 left2 says) =
-    (ap (λ o. o.1.posts) says, same-holds m left2.0 (ap (λ o. o.0.member) says) (ap (λ o. o.0.leader.undecided) says ∙ marked-is member inc ids (leader_at t m k2.durable)))
 
 -- of a Prepare the leader is told
 acks-to_target : (q : PrepareRequest) (refusal : Option Outcome) (posts : List Post) → posts ≡ (prepare.acks q refusal).posts → ToTargets posts
@@ -249,52 +216,3 @@ prepare-leaves t opening m q s k left (prepare.HasNoSpace k2 o allowed full says
     (acks-to_target q (Some (outcome.NoSpace _ _ _)) o.1.posts (ap (λ x. x.1.posts) says), same-holds m o.0 (ap (λ x. x.0.member) says) (ap (λ x. x.0.leader.undecided) says))
 prepare-leaves t opening m q s k left (prepare.IsPrepared k2 o says) =
     (acks-to_target q None o.1.posts (ap (λ x. x.1.posts) says), same-holds m o.0 (ap (λ x. x.0.member) says) (ap (λ x. x.0.leader.undecided) says))
-
--- of a Mark and of a Query the one who sent it is told
-answers-sender : (from : ActorId) (m : TargetMemory) (left : TargetMemory × Did) (q : Post) → from.client ≡ false → q.to ≡ from → is_request q.message ≡ false → left.1.posts ≡ q ∷ [] → left.0 ≡ m → ToTargets left.1.posts × HoldsOn m left.0
-answers-sender from m left q no_client to plain posts same = (
-  λ p i. elim (subst (Has p) posts i) [ inl it ↦ (ap (λ x. x.to.client) it ∙ ap (λ x. x.client) to ∙ no_client, ap (λ x. is_request x.message) it ∙ plain) | inr none ↦ absurd none ],
-  same-holds m left.0 (ap (λ x. x.member) same) (ap (λ x. x.leader.undecided) same),
-)
-
-pub mark-leaves : (m : TargetMemory) (from : ActorId) (inc : ℕ) (marks rest : List (AttemptId × Bool)) (k : Kept) (left : TargetMemory × Did) → from.client ≡ false → MarkEnds m from inc marks rest k left
-    → ToTargets left.1.posts × HoldsOn m left.0
-mark-leaves m from inc marks rest k left no_client (AllMarked k2 left2 says) = answers-sender from m left2 (record { to = from; message = _ }) no_client refl refl (ap (λ o. o.1.posts) says) (ap (λ o. o.0) says)
-
-pub query-leaves : (t : TargetPlan) (m : TargetMemory) (from : ActorId) (a : AttemptId) (ask : Option AttemptId) (s : verdict.QueryStage) (k : Kept) (left : TargetMemory × Did) → from.client ≡ false
-    → verdict.QueryEnds t m from a ask s k left → ToTargets left.1.posts × HoldsOn m left.0
-query-leaves t m from a ask s k left no_client (verdict.IsTold k2 left2 says) = answers-sender from m left2 (record { to = from; message = _ }) no_client refl refl (ap (λ o. o.1.posts) says) (ap (λ o. o.0) says)
-
--- ---- idle work
-
-mark-with-to_targets : (inc t : ℕ) (ids : List AttemptId) → ToTargets (mark_with inc t ids)
-mark-with-to_targets inc t ids = by (is_empty ids)
-  where
-    by : (b : Bool) → ToTargets (if b then [] else record { to = record { client = false; number = t }; message = message.Mark inc (map (λ a. (a, true)) ids) } ∷ [])
-    by true q i = absurd i
-    by false q (inl same) = (ap (λ x. x.to.client) same, ap (λ x. is_request x.message) same)
-    by false q (inr none) = absurd none
-
-marks-to_targets : (inc down : ℕ) (named : List Naming) (es : List Entry) (ts : List ℕ) → ToTargets (marks_for inc down named es ts)
-marks-to_targets inc down named es [] q i = absurd i
-marks-to_targets inc down named es (t ∷ ts) q i = elim (has-cases (mark_with inc t (owed down named es t)) (marks_for inc down named es ts) q i) [
-  | inl j ↦ mark-with-to_targets inc t (owed down named es t) q j
-  | inr j ↦ marks-to_targets inc down named es ts q j
-]
-
-batched-is : (l : LeaderOf) → ToTargets (batched l).posts × ((batched l).leader.memory.undecided ≡ l.memory.undecided)
-unfolding batched
-batched-is l = (marks-to_targets l.incarnation l.memory.down l.memory.named l.entries all_targets, refl)
-
-inquired-is : (settling : Bool) (t : TargetPlan) (m : TargetMemory) (d : Durable) → ToTargets (inquiry_of settling t m d).freed.posts × ((inquiry_of settling t m d).member.memory.parked ≡ m.member.parked)
-unfolding member.inquired
-inquired-is false t m d = (λ q i. absurd i, refl)
-inquired-is true t m d = (λ q i. let o = has-from_map member.inquiry_for _ q i in (ap (λ x. x.to.client) (sym o.2), ap (λ x. is_request x.message) (sym o.2)), refl)
-
-pub idle-leaves : (settling : Bool) (t : TargetPlan) (m : TargetMemory) (rest : List AttemptId) (k : Kept) (left : TargetMemory × Did) → IdleEnds settling t m rest k left → ToTargets left.1.posts × HoldsOn m left.0
-idle-leaves settling t m rest k left (AllSettled k2 left2 says) =
-    let b = batched-is (leader_at t (with_unsettled [] m) k2.durable) in
-    let i = inquired-is settling t m k2.durable in (
-      λ q h. elim (has-cases (batch_of t m k2.durable).posts (inquiry_of settling t m k2.durable).freed.posts q (subst (Has q) (ap (λ o. o.1.posts) says) h)) [ inl j ↦ b.0 q j | inr j ↦ i.0 q j ],
-      record { parked = ap (λ o. o.0.member.parked) says ∙ i.1; undecided = λ n. ap (map (open_at n)) (ap (λ o. o.0.leader.undecided) says ∙ b.1) },
-    )

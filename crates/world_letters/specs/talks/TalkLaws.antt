@@ -135,17 +135,6 @@ unfolding is_talk_of
 sent-is-of n j l isnt from to =
     ap (λ b. not b && (is_client n l.from || is_client n l.to)) isnt ∙ ap (λ a. is_client n a || is_client n l.to) from ∙ ap (λ b. (j == n) || b) (is-no-client n l.to to) ∙ or-false (j == n)
 
--- and what a target sends a client
-pub got-is-of : (n j : ℕ) (l : Letter) → is_tell l.message ≡ false → l.from.client ≡ false → l.to ≡ client j → is_talk_of n l ≡ (j == n)
-unfolding is_talk_of
-got-is-of n j l isnt from to =
-    ap (λ b. not b && (is_client n l.from || is_client n l.to)) isnt ∙ ap (λ a. is_client n l.from || is_client n a) to ∙ ap (λ b. b || (j == n)) (is-no-client n l.from from)
-
--- what targets send each other is of no client's
-pub between-is-of : (n : ℕ) (l : Letter) → l.from.client ≡ false → l.to.client ≡ false → is_talk_of n l ≡ false
-unfolding is_talk_of
-between-is-of n l from to = of-both (is_tell l.message) (is_client n l.from) (is_client n l.to) (is-no-client n l.from from) (is-no-client n l.to to)
-
 -- another letter than the one that is taken is left
 pub left-or-it : (letters : List Letter) (l : Letter) (rest : List Letter) (m : Letter) → Takes letters l rest → Contains letters m → (m ≡ l) ⊎ Contains rest m
 left-or-it letters l rest m t i = by (has-cases t.before (l ∷ t.after) m (subst (Has m) t.among (has-from_contains letters m i)))

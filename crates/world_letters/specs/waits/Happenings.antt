@@ -42,7 +42,7 @@ use Rattle.world_letters.specs.waits.Events.{cut-keeps, drawing-keeps, failing-k
 use Rattle.world_letters.specs.waits.Heard.{collects-own, request-is}
 use Rattle.world_letters.specs.waits.Requests.{IsWhatIsAsked, from-target, is_request, of-none}
 use Rattle.world_letters.specs.waits.LeaderTurns.{ack-turns}
-use Rattle.world_letters.specs.waits.Parts.{Holding, Leaves, LeavesOut, Passes, its-own, leaves-one, passes-one, told-one_off, turns-asked}
+use Rattle.world_letters.specs.waits.Parts.{Holding, Leaves, LeavesOut, Passes, its-own, passes-one, told-one_off, turns-asked}
 use Rattle.world_letters.specs.waits.Passing.{Goes, TurnsFor, question-of, told_to, turning-keeps}
 use Rattle.world_letters.specs.waits.Premises.{LeadersKnow, RequestsAreOfClients}
 use Rattle.world_letters.specs.waits.RequestTurns.{commit-collects, commit-off, commit-on, down-leaves, fetch-collects, fetch-off, fetch-on, stands-itself}
@@ -57,12 +57,6 @@ use Rattle.world_letters.specs.waits.Waits.{Conversation, held_by}
 module _ (Turn : Hearing) (r : Rules) (w v : World) (requests : RequestsAreOfClients w) (k : Conversation r w) (g : TargetHearsBy Turn r w v) where
   abbrev m : TargetMemory
   m = g.s.memory
-
-  abbrev p : TargetPlan
-  p = target_plan r g.t
-
-  abbrev left : TargetMemory × Did
-  left = (g.memory, g.did)
 
   -- what goes on for each client goes on
   pub goes-each : ((n : ℕ) → TurnsFor n g.t g.l m g.memory g.did.posts) → Conversation r v
@@ -97,9 +91,6 @@ module _ (Turn : Hearing) (r : Rules) (w v : World) (requests : RequestsAreOfCli
 
     pub passes-all : ((n : ℕ) → Holding n g.t m → Passes n g.t m g.memory g.did.posts) → Conversation r v
     passes-all passes = goes-each (λ n. passes-one n g.t g.l m g.memory g.did.posts (off-all n) (passes n))
-
-    pub leaves-out : ((n : ℕ) → LeavesOut n g.t m g.memory g.did.posts) → Conversation r v
-    leaves-out leaves = goes-each (λ n. leaves-one n g.t g.l m g.memory g.did.posts (off-all n) (λ h. leaves n))
 
   -- a client's request
   module _ (asks : is_request g.l.message ≡ true) (no_tell : is_tell g.l.message ≡ false) where

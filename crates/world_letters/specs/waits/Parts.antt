@@ -20,9 +20,8 @@ use Rattle.world_base.specs.declared.target.Collection.{Collection}
 use Rattle.world_base.specs.declared.target.TargetMemory.{TargetMemory}
 use Rattle.world_base.specs.ClientTurns.{request_of}
 use Rattle.world_base.specs.Letters.{client, is_client, is_talk_of, is_tell, letter_of, target}
-use Rattle.world_letters.specs.talks.Carriers as carrier
-use Rattle.world_letters.specs.talks.Carriers.{Carrier, is_fetch_of}
-use Rattle.world_letters.specs.talks.Conversation.{Answers}
+use Rattle.world_letters.specs.talks.Conversation as carrier
+use Rattle.world_letters.specs.talks.Conversation.{Answers, Carrier, is_fetch_of}
 use Rattle.world_letters.specs.talks.LeaveLaws.{HoldsOn}
 use Rattle.world_letters.specs.talks.TalkLaws.{sent-is-of, sent-is-talk}
 use Rattle.world_letters.specs.waits.Lists.{filter-no, filter-yes}

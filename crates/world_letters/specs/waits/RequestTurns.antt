@@ -23,7 +23,7 @@ use Rattle.world_base.specs.Reads as read
 use Rattle.world_base.specs.Reads.{fetch_at}
 use Rattle.world_base.specs.Requests.{fetch_message, with_ticks}
 use Rattle.world_letters.specs.talks.Asked.{commit_of}
-use Rattle.world_letters.specs.talks.Carriers as carrier
+use Rattle.world_letters.specs.talks.Conversation as carrier
 use Rattle.world_letters.specs.talks.Conversation.{Answers}
 use Rattle.world_letters.specs.talks.LeaveLaws.{CommitLeaves, FetchLeaves, HasBegun, IsEnded}
 use Rattle.world_letters.specs.talks.LeaveLaws as leave

@@ -31,8 +31,7 @@ use Rattle.world_base.specs.Requests.{fetch_message}
 use Rattle.world_base.specs.Roles.{joins_on, member_at}
 use Rattle.world_base.specs.Turns.{Whole}
 use Rattle.world_base.specs.Verdicts.{AllTried, Freed, GoesOn, Heard, IsDone, SettlesBy, TriesNext, Trying, VerdictEnds, VerdictNext, VerdictStage}
-use Rattle.world_letters.specs.talks.Carriers.{is_fetch_of}
-use Rattle.world_letters.specs.talks.Conversation.{Answers}
+use Rattle.world_letters.specs.talks.Conversation.{Answers, is_fetch_of}
 use Rattle.world_letters.specs.talks.LeaveLaws.{FetchLeaves, HasOwn, fetch-leaves, own-goes}
 use Rattle.world_letters.specs.waits.Lists.{filter-no, filter-swap, filter-yes}
 use Rattle.world_letters.specs.waits.Parts.{HandsOn, Holding, HoldsNone, HoldsOne, Leaves, Passes, asked-is_talk, collected_part, held-parts, no-map, no-parts, open_part, parked_part}

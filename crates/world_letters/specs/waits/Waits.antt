@@ -24,8 +24,7 @@ use Rattle.world_base.specs.Letters.{client, is_client, letter_of, reset_message
 use Rattle.world_base.specs.Reads.{fetch_at}
 use Rattle.world_base.specs.Requests.{fetch_message}
 use Rattle.world_letters.specs.talks.Asked.{commit_of}
-use Rattle.world_letters.specs.talks.Carriers.{is_fetch_of}
-use Rattle.world_letters.specs.talks.Conversation.{Answers, request_sent}
+use Rattle.world_letters.specs.talks.Conversation.{Answers, request_sent, is_fetch_of}
 
 -- ---- what targets hold for clients
 

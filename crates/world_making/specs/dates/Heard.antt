@@ -31,8 +31,7 @@ use Rattle.world_base.specs.Letters.{Takes, client, is_tell, talk_of}
 use Rattle.world_base.specs.Steps.{without}
 use Rattle.world_letters.specs.clients.MoveLaws.{is-at}
 use Rattle.world_letters.specs.epochs.Epochs.{ClientsStand, Epochs, GoesWith, IsEpochOf, IsReadOf, IsUnissued, LacksEpoch, answers_undated, is_making}
-use Rattle.world_letters.specs.epochs.HearLaws.{greatest-has}
-use Rattle.world_letters.specs.epochs.Lists.{contains-none}
+use Rattle.world_letters.specs.epochs.Lists.{contains-none, greatest-has}
 use Rattle.world_letters.specs.epochs.Talking.{TalksOnce, taken-silent}
 use Rattle.world_letters.specs.snapshots.Events.{command-is}
 use Rattle.world_letters.specs.talks.HearLaws.{greatest-above}

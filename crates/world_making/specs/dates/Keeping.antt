@@ -1,20 +1,16 @@
 -- What a turn that makes a snapshot or aggregates keeps: its lease is no lower, and it has the entries that it had.
-use Rattle.std.specs.Prelude.{ℕ, ◌≡◌, ◌≤◌, ◌<◌, ◌/◌, Bool, true, false, List, map, Option, Some, None, refl, if◌then◌else◌}
+use Rattle.std.specs.Prelude.{ℕ, ◌≡◌, ◌≤◌, ◌<◌, ◌/◌, Bool, List, Option, Some, None}
 use Rattle.std.proofs.Common.{sym, ◌∙◌, ap, subst, arith}
 use Rattle.base_types.specs.declared.epoch.Epoch.{Epoch}
 use Rattle.base_types.specs.declared.id.AttemptId.{AttemptId}
 use Rattle.base_types.specs.declared.id.ContId.{ContId}
-use Rattle.base_types.specs.declared.outcome.FloorWhy.TheVariants.{Snapshot}
 use Rattle.base_types.specs.declared.outcome.Outcome.{Outcome}
 use Rattle.base_types.specs.declared.report.Line.{Line}
 use Rattle.base_types.specs.Epochs.{lease_for}
-use Rattle.daos_model.specs.declared.durable.Durable.{Durable}
-use Rattle.daos_model.specs.Changes.{created, frozen, marked, new_snap, pruned, raised_at, with_versions}
-use Rattle.daos_model.specs.Durables.{is_frozen, snap_key}
-use Rattle.daos_model.specs.Ordered.{put}
+use Rattle.daos_model.specs.Changes.{marked, with_versions}
 use Rattle.world_base.specs.declared.target.TargetMemory.{TargetMemory}
 use Rattle.world_base.specs.declared.target.TargetPlan.{TargetPlan}
-use Rattle.world_base.specs.ChangeLaws.{lease-steps}
+use Rattle.world_base.specs.ChangeLaws.{lease-steps, entries-frozen, entries-created, entries-pruned}
 use Rattle.world_base.specs.Changes.{After, Before, Change, Creates, Cut, Extends, Freezes, InPart, IsPartly, Kept, Prepares, Prunes, Settles, Steps}
 use Rattle.world_base.specs.CutTurns.{CutHere, CutTurn, Cutting, InChange, InQuestion, issued_by_freeze, issued_by_prune, listed_issue, none_issued}
 use Rattle.world_base.specs.PathLaws.{path-keeps, reached-keeps}
@@ -36,22 +32,6 @@ MakingFits k (Some (Settles a step)) = Unit {0}
 MakingFits k (Some (Freezes c s)) = Unit {0}
 MakingFits k (Some (Creates c s)) = Unit {0}
 MakingFits k (Some (Prunes c upto n)) = Unit {0}
-
-entries-frozen : (c : ContId) (s : Epoch) (d : Durable) → (frozen c s d).entries ≡ d.entries
-unfolding frozen
-entries-frozen c s d = by (is_frozen d c s)
-  where
-    by : (b : Bool) → (if b then d else record d { conts = map (raised_at c s (Snapshot s)) d.conts; snaps = put snap_key (new_snap c s) d.snaps }).entries ≡ d.entries
-    by true = refl
-    by false = refl
-
-entries-created : (c : ContId) (s : Epoch) (d : Durable) → (created c s d).entries ≡ d.entries
-unfolding created
-entries-created c s d = refl
-
-entries-pruned : (c : ContId) (upto : Epoch) (n : ℕ) (d : Durable) → (pruned c upto n d).entries ≡ d.entries
-unfolding pruned with_versions marked
-entries-pruned c upto n d = refl
 
 module _ (P : Known) (low : ℕ) where
   -- the same entries, and a lease no lower

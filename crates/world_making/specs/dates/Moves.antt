@@ -152,15 +152,6 @@ module _ (r : Rules) (top : ℕ) (w : World) (n : ℕ) where
       by true = (refl, refl, ByAttempt (ap (λ z. Some z) same) refl)
       by false = (refl, refl, ByCommand refl refl)
 
-  -- a first epoch is that of a snapshot that the client knows
-  abbrev FirstIs : ClientState → Option (List ℕ) → Option Epoch → Type 0
-  FirstIs c None o = o ≡ None
-  FirstIs c (Some name) o = o ≡ known_epoch c.known name
-
-  first-is : (c : ClientState) (s : Option (List ℕ)) → FirstIs c s (first_epoch c.known s)
-  first-is c None = refl
-  first-is c (Some name) = refl
-
   -- an attempt that has begun at the epoch of the snapshot that its command reads, where it reads one
   pub begun-dated : (c d : ClientState) (order : Command) (k : ℕ) (first : Option Epoch) (b : Present) → slice_get w.clients n ≡ Some c → KeepsKnown c d → b ≡ begun k first (first_epoch c.known (snapshot_of_command order))
       → command_of r.script (attempt_id (client_plan r n) d b) ≡ Some order → is_some (snapshot_of_command order) ≡ is_some b.epoch → IsUnissued w (attempt_id (client_plan r n) d b) → PresentDated r (with_client n d w) n d b

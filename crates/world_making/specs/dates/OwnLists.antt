@@ -14,8 +14,7 @@ use Rattle.base_types.specs.declared.report.Line.TheVariants as line
 use Rattle.base_types.specs.declared.script.Script.{Script}
 use Rattle.daos_model.specs.Attempts.{epoch_or_none, has_own_epoch, own_epochs, tries}
 use Rattle.daos_model.specs.Order.{AreIssued}
-use Rattle.world_letters.specs.epochs.IssuedLists.{own_epochs-append}
-use Rattle.world_letters.specs.epochs.Lists.{all-each, contains-none, contains-one, tries-push}
+use Rattle.world_letters.specs.epochs.Lists.{all-each, contains-none, contains-one, tries-push, own_epochs-append}
 
 -- one that an attempt has which reads at no snapshot
 record HasItsOwn (s : Script) (attempts : List Attempt) (n : ℕ) : Type 0 where

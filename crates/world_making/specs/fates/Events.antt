@@ -1,7 +1,7 @@
 -- Each event of a run keeps the facts of attempts.
 use Rattle.std.specs.Prelude.{◌≡◌, Bool, true, false, List, [], refl}
 use Rattle.std.proofs.Common.{sym, subst}
-use Rattle.base_messages.specs.declared.message.Message.{Message, more_of-Message}
+use Rattle.base_messages.specs.declared.message.Message.{Message}
 use Rattle.base_messages.specs.declared.message.Message.TheVariants as message
 use Rattle.base_messages.specs.declared.message.Post.{Post}
 use Rattle.world_commit.specs.attempts.History.{GrowsBy, History}
@@ -16,14 +16,14 @@ use Rattle.world_making.specs.fates.Cuts.{making-cut}
 use Rattle.world_making.specs.fates.Laws.{AllEventsKeepAttempts, IsWorkOfMaking, MakingCutsKeepAttempts, MakingKeepsAttempts, MakingsAreRight}
 use Rattle.world_making.specs.fates.Prompts.{making-prompts}
 use Rattle.world_making.specs.fates.Turns.{making-ongoing}
-use Rattle.world_making.specs.making.Making.{IsOfMaking, is_of_snapshots, tells_of_snapshots}
+use Rattle.world_making.specs.making.Making.{IsOfMaking, tells_of_snapshots}
 use Rattle.world_commit.specs.statuses.Events.{happens-keeps, told_by}
 use Rattle.world_commit.specs.statuses.Fates.{told_by_it, told_further}
-use Rattle.world_commit.specs.statuses.Heard.{is_of_attempts}
 use Rattle.world_commit.specs.statuses.Senders.{SendersAreRight}
 use Rattle.world_commit.specs.stops.CutEvents.{IsWithoutSnapshots, cut_told, is_without_snapshots, message_told}
 use Rattle.world_commit.specs.stops.Cuts.{later-keeps}
 use Rattle.world_commit.specs.stops.Stops.{sweeping-keeps}
+use Rattle.world_making.specs.making.Kinds.{of-attempts, without-snapshots}
 
 pub making-keeps : MakingKeepsAttempts
 making-keeps r h w v right makings k g is = record {
@@ -50,28 +50,6 @@ none-cut : (m : Message) (s : TargetState) (cut : Cutting) → tells_of_snapshot
 none-cut (message.Ack x inc refusal) s cut is = let no : ⊥ = cc in absurd no
 none-cut (message.StatusIs x inc how) s cut is = let no : ⊥ = cc in absurd no
 none-cut m s cut is = refl
-
--- ---- all else is of attempts
-
-of-attempts : (m : Message) → tells_of_snapshots m ≡ false → is_of_attempts m ≡ true
-of-attempts (message.Snap x c called tracker) off = let no : ⊥ = cc in absurd no
-of-attempts (message.Freeze x c s) off = let no : ⊥ = cc in absurd no
-of-attempts (message.Held x refusal) off = let no : ⊥ = cc in absurd no
-of-attempts (message.Prune x c tracker e) off = let no : ⊥ = cc in absurd no
-of-attempts (message.Reset' by down place (more_of-Message q rest)) off = inner q off
-  where
-    inner : (q : Message) → is_of_snapshots q ≡ false → is_of_attempts (message.Reset' by down place (more_of-Message q rest)) ≡ true
-    inner (message.Freeze x c s) is = let no : ⊥ = cc in absurd no
-    inner (message.Prune x c tracker e) is = let no : ⊥ = cc in absurd no
-    inner q is = refl
-of-attempts m off = refl
-
-without-snapshots : (m : Message) → tells_of_snapshots m ≡ false → is_without_snapshots m ≡ true
-without-snapshots (message.Snap x c called tracker) off = let no : ⊥ = cc in absurd no
-without-snapshots (message.Freeze x c s) off = let no : ⊥ = cc in absurd no
-without-snapshots (message.Held x refusal) off = let no : ⊥ = cc in absurd no
-without-snapshots (message.Prune x c tracker e) off = let no : ⊥ = cc in absurd no
-without-snapshots m off = refl
 
 -- ---- events
 

@@ -20,6 +20,7 @@ use Rattle.world_base.specs.Snapshots.{freeze_to, others, prune_to}
 use Rattle.world_commit.specs.fates.Concerns.{Spare, concerns}
 use Rattle.world_commit.specs.fates.Facts.{IsSaidSo}
 use Rattle.world_making.specs.making.Making.{AsksAgain, AsksFreezes, AsksPrunes, EndsCollected, EndsIt, IsOfMaking, MakingSends, SaysFrozen, SaysNothing, SaysPruned, SaysRefused, is_lost_at}
+use Rattle.world_contents.specs.reads.Adds.{is_answer}
 
 -- ---- what is heard
 
@@ -96,3 +97,7 @@ module _ (by : ActorId) (posts : List Post) (sent : (z : Post) → Has z posts �
 
   pub so : (r : Rules) (h : History) (w : World) → (l : Letter) → Has l (letters_of by posts) → IsSaidSo r h w l.from l.to l.message
   so r h w l i = let y = has-from_map (letter_of by) posts l i in subst (λ n. IsSaidSo r h w n.from n.to n.message) y.2 (sent-so r h w by y.0.to y.0.message (sent y.0 y.1))
+
+pub making-silent : (m : Message) → is_sent_in_making m ≡ true → is_answer m ≡ false
+making-silent (message.Fetched x op group own b) sent = let no : ⊥ = cc in absurd no
+making-silent m sent = refl

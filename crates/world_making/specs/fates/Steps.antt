@@ -1,21 +1,16 @@
 -- The steps of turns in which snapshots are made or containers aggregated keep the facts of attempts.
-use Rattle.std.specs.Prelude.{ℕ, ◌≡◌, Bool, true, false, [], ◌∷◌, map, slice_get, Option, Some, None, refl, if◌then◌else◌}
+use Rattle.std.specs.Prelude.{ℕ, ◌≡◌, [], ◌∷◌, slice_get, Option, Some, None, refl}
 use Rattle.std.proofs.Common.{sym, ◌∙◌, ap, subst}
-use Rattle.base_types.specs.declared.epoch.Epoch.{Epoch}
-use Rattle.base_types.specs.declared.id.ContId.{ContId}
-use Rattle.base_types.specs.declared.outcome.FloorWhy.TheVariants.{Snapshot}
 use Rattle.base_messages.specs.declared.actor.ActorId.{ActorId}
 use Rattle.base_messages.specs.declared.message.Message.{Message}
-use Rattle.daos_model.specs.Changes.{created, frozen, marked, new_snap, pruned, raised_at, with_versions}
+use Rattle.daos_model.specs.Changes.{marked, with_versions}
 use Rattle.daos_model.specs.declared.durable.Durable.{Durable}
-use Rattle.daos_model.specs.Durables.{is_frozen, snap_key}
-use Rattle.daos_model.specs.Ordered.{put}
 use Rattle.world_commit.specs.attempts.History.{History}
-use Rattle.world_commit.specs.attempts.Working.{at_work}
+use Rattle.world_commit.specs.attempts.Turning.{at_work}
 use Rattle.world_base.specs.declared.target.Life.TheVariants.{Running}
 use Rattle.world_base.specs.declared.target.TargetState.{TargetState}
 use Rattle.world_base.specs.declared.world.World.{World}
-use Rattle.world_base.specs.ChangeLaws.{incarnation-made}
+use Rattle.world_base.specs.ChangeLaws.{incarnation-made, entries-frozen, entries-created, entries-pruned}
 use Rattle.world_base.specs.Changes.{Change, Creates, Freezes, IsPartly, Kept, Prunes, Steps, made}
 use Rattle.world_base.specs.Events.{Rules, target_after, target_plan}
 use Rattle.world_base.specs.Idle.{SettlesFirst}
@@ -28,22 +23,6 @@ use Rattle.world_making.specs.making.Making as making
 use Rattle.world_making.specs.making.Making.{MakingNext, MakingStage}
 
 -- ---- entries
-
-entries-frozen : (c : ContId) (s : Epoch) (d : Durable) → (frozen c s d).entries ≡ d.entries
-unfolding frozen
-entries-frozen c s d = by (is_frozen d c s)
-  where
-    by : (b : Bool) → (if b then d else record d { conts = map (raised_at c s (Snapshot s)) d.conts; snaps = put snap_key (new_snap c s) d.snaps }).entries ≡ d.entries
-    by true = refl
-    by false = refl
-
-entries-created : (c : ContId) (s : Epoch) (d : Durable) → (created c s d).entries ≡ d.entries
-unfolding created
-entries-created c s d = refl
-
-entries-pruned : (c : ContId) (upto : Epoch) (n : ℕ) (d : Durable) → (pruned c upto n d).entries ≡ d.entries
-unfolding pruned with_versions marked
-entries-pruned c upto n d = refl
 
 -- what a change leaves that was cut in part
 pub record LeavesEntries (d x : Durable) : Type 0 where

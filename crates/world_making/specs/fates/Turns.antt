@@ -11,8 +11,7 @@ use Rattle.model_laws.specs.Members.{Has}
 use Rattle.world_commit.specs.attempts.Attempts.{inc_at, leader_of}
 use Rattle.world_commit.specs.attempts.History.{History}
 use Rattle.world_commit.specs.attempts.MemberBits.{has-with, has-with_other}
-use Rattle.world_commit.specs.attempts.Turning.{one-or_another}
-use Rattle.world_commit.specs.attempts.Working.{at_work}
+use Rattle.world_commit.specs.attempts.Turning.{one-or_another, at_work}
 use Rattle.world_base.specs.declared.letter.Letter.{Letter}
 use Rattle.world_base.specs.declared.target.TargetState.{TargetState}
 use Rattle.world_base.specs.declared.world.World.{World}

@@ -37,7 +37,7 @@ use Rattle.world_letters.specs.waits.Parts.{NoParts, collected-is, collected_par
 use Rattle.world_letters.specs.waits.Passing.{HeldBeside, held-beside, none-part}
 use Rattle.world_letters.specs.waits.Requests.{is_request, question-requests}
 use Rattle.world_letters.specs.waits.Waits as carrier
-use Rattle.world_letters.specs.waits.Waits.{CollectedAt, Conversation, Held, HoldsIt, IsAnswer, IsAsked, IsHeld, IsLost, IsQuestion, IsReplied, IsReply, IsReplyTo, ItsAsk, ItsRequest, TalksSo, Waits, asked_of, collected_at, held_by, held_from, held_of, is_collected_of}
+use Rattle.world_letters.specs.waits.Waits.{CollectedAt, Conversation, Held, HoldsIt, IsAnswer, IsAsked, IsHeld, IsLost, IsQuestion, IsReplied, IsReplyTo, ItsAsk, ItsRequest, TalksSo, Waits, asked_of, collected_at, held_by, held_from, held_of, is_collected_of}
 
 -- ---- the question
 

@@ -35,7 +35,7 @@ use Rattle.world_base.specs.StepLaws.{by-hearing, by-next, set-is, set-there}
 use Rattle.world_base.specs.Steps.{KeptByCounting, KeptByHearing, KeptByMoves, after_move, without}
 use Rattle.world_letters.specs.clients.Answered.{is_refusal}
 use Rattle.world_letters.specs.clients.Standing.{AreOfPresent, HasTold, has_number, number_of}
-use Rattle.world_letters.specs.endings.Clients.{IsQuestion, heard-asks}
+use Rattle.world_letters.specs.endings.Clients.{heard-asks}
 use Rattle.world_letters.specs.endings.Events.{hearing-keeps as ends-by-hearing}
 use Rattle.world_letters.specs.epochs.Epochs.{ClientsStand}
 use Rattle.world_letters.specs.epochs.EventLaws.{stands-by-counting, stands-by-hearing, stands-by-moves}
@@ -49,13 +49,12 @@ use Rattle.world_letters.specs.lines.Lines.{Endings, IsCommitted, TellsEnd, fill
 use Rattle.world_letters.specs.lives.ClientLines.{AreTries, OwnLine, heard-own, listed-own, moved-own}
 use Rattle.world_letters.specs.snapshots.Events.{command-is}
 use Rattle.world_letters.specs.snapshots.Makings.{IsSnapIn, IsSnapOf}
-use Rattle.world_letters.specs.talks.AskLaws.{move-is, waiting-rests}
-use Rattle.world_letters.specs.talks.Asked.{ARead, ASnapshot, AnAggregation, Asked, Asking, IsMove, ItsWrites, Silent, Telling}
 use Rattle.world_letters.specs.talks.Conversation.{Answers}
 use Rattle.world_letters.specs.talks.TalkLaws.{got-is-talk, left-is-among, taken-is-among}
 use Rattle.world_letters.specs.waits.ClientLaws.{present-of, question-about, counting-keeps as talks-by-counting, hearing-keeps as talks-by-hearing, moves-keep as talks-by-moves}
 use Rattle.world_letters.specs.waits.Requests.{is_request, question-requests}
 use Rattle.world_letters.specs.waits.Waits.{Conversation, IsAnswer, IsAsked, IsHeld, IsLost, IsReplied, IsReplyTo, TalksSo, asked_of, held_of}
+use Rattle.world_making.specs.freezings.Unasked.{AreUnasked, is_unasked, move-unasked, question-unasked}
 
 -- ---- what they send
 
@@ -69,37 +68,14 @@ none-more actor rest posts w v messages were off l i is = elim (has-cases rest (
   | inr j ↦ (let z = has-from_map (letter_of actor) posts l j in let no : ⊥ = cc (ap (λ x. says_done x.message) z.2 ∙ is, off z.0 z.1) in absurd no)
 ]
 
-one-not : (q : Post) → says_done q.message ≡ false → NoneDone (q ∷ [])
-one-not q off p (inl same) = ap (λ x. says_done x.message) same ∙ off
-one-not q off p (inr none) = absurd none
-
-asks-not : (r : Rules) (n : ℕ) (k : Epoch) (c : ClientState) (a : Present) (q : Post) → Asked (client_plan r n) k c a q → says_done q.message ≡ false
-asks-not r n k c a q (ARead ops turns snapshot op rd at here asks says) = ap (λ x. says_done x.message) says
-asks-not r n k c a q (ItsWrites ops turns snapshot w ws at last all says) = ap (λ x. says_done x.message) says
-asks-not r n k c a q (ASnapshot name cont at says) = ap (λ x. says_done x.message) says
-asks-not r n k c a q (AnAggregation cont at says) = ap (λ x. says_done x.message) says
-
-move-not : (r : Rules) (n : ℕ) (c : ClientState) → NoneDone (listed (moved (client_plan r n) c).post)
-move-not r n c = by (waits c) refl
+-- what is asked says none of that
+pub unasked-not : (posts : List Post) → AreUnasked posts → NoneDone posts
+unasked-not posts asks q i = by q.message (asks q i)
   where
-    none : (o : Option Post) → o ≡ None → NoneDone (listed o)
-    none o is q i = absurd (subst (λ z. Has q (listed z)) is i)
-
-    one : (o : Option Post) (q : Post) → o ≡ Some q → says_done q.message ≡ false → NoneDone (listed o)
-    one o q is off = subst (λ z. NoneDone (listed z)) (sym is) (one-not q off)
-
-    is-a : IsMove (client_plan r n) c (moved (client_plan r n) c) → NoneDone (listed (moved (client_plan r n) c).post)
-    is-a (Silent free nothing) = none _ nothing
-    is-a (Telling m nothing free says) = one _ _ says refl
-    is-a (Asking a q at asked says state) = one _ q says (asks-not r n c.tracker c a q asked)
-
-    by : (b : Bool) → waits c ≡ b → NoneDone (listed (moved (client_plan r n) c).post)
-    by true h = none _ (ap (λ m. m.post) (waiting-rests (client_plan r n) c h))
-    by false h = is-a (move-is (client_plan r n) c h)
-
-question-not : (o : Option Post) → IsQuestion o → NoneDone (listed o)
-question-not None asks = λ s i. absurd i
-question-not (Some q) asks = one-not q (ap says_done asks.1)
+    by : (m : Message) → is_unasked m ≡ true → says_done m ≡ false
+    by (message.Held x refusal) is = let no : ⊥ = cc in absurd no
+    by (message.Ended x ep how) is = let no : ⊥ = cc in absurd no
+    by m is = refl
 
 -- ---- their lines
 
@@ -355,7 +331,7 @@ module _ (r : Rules) (some : 0 < r.attempts) (o : Opening) where
         talks = talks-by-moves r w n c here b.talks;
         ends = endings-by-moves r w n c here b.ends;
         freezings = beside-keeps r o w v
-            (client-beside w v n w.messages (listed mv.post) (listed mv.line) refl refl (λ l i. i) refl refl (listed-own mv.line (moved-own (client_plan r n) c)) (move-not r n c)
+            (client-beside w v n w.messages (listed mv.post) (listed mv.line) refl refl (λ l i. i) refl refl (listed-own mv.line (moved-own (client_plan r n) c)) (unasked-not _ (move-unasked r n c))
             (λ m e kn at i. at-others r o w n c here k (λ x y. (z : KnownSnap) → Has z y.known → IsKnownSo r o v x z) v mv.state refl
             (λ z j. still n z (k.known n c z here (subst (Has z) (moved-same (client_plan r n) c) j))) (λ x y off at2 z j. still x z (k.known x y z at2 j)) m e at kn i)
             (at-others r o w n c here k (λ x y. IsUndated (client_plan r x) y) v mv.state refl (moved-undated (client_plan r n) c (k.undated n c here)) (λ x y off. k.undated x y))
@@ -420,7 +396,7 @@ module _ (r : Rules) (some : 0 < r.attempts) (o : Opening) where
         freezings = beside-keeps r o w v
             (client-beside w v n rest (listed mv.post) (listed mv.line) refl refl (λ m i. has-from_contains w.messages m
             (left-is-among w.messages l rest m takes (contains-from_has rest m i))) refl refl (listed-own mv.line (heard-own (client_plan r n) c l.message))
-            (question-not _ (heard-asks (client_plan r n) c l.message))
+            (unasked-not _ (question-unasked _ (heard-asks (client_plan r n) c l.message)))
             (λ m e kn at i. at-others r o w n c here k (λ x y. (z : KnownSnap) → Has z y.known → IsKnownSo r o v x z) v mv.state refl
             (own (heard-knows (client_plan r n) c l.message may)) (λ x y off at2 z j. still x z (k.known x y z at2 j)) m e at kn i)
             (at-others r o w n c here k (λ x y. IsUndated (client_plan r x) y) v mv.state refl

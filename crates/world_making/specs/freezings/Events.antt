@@ -2,7 +2,6 @@
 use Rattle.std.specs.Prelude.{ℕ, ◌≡◌, ◌≤◌, ◌<◌, ◌⊎◌, ◌++◌, Bool, true, false, List, [], ◌∷◌, filter, length, map, slice_get, Option, Some, None, refl, not, ◌&&◌, ◌==◌}
 use Rattle.std.proofs.Common.{append-nil, append_assoc, sym, ◌∙◌, ap, subst, inl, inr, arith}
 use Rattle.std.proofs.Math.ListN.{set}
-use Rattle.base_types.specs.declared.entry.Entry.{Entry}
 use Rattle.base_types.specs.declared.epoch.Epoch.{Epoch}
 use Rattle.base_types.specs.declared.id.AttemptId.{AttemptId}
 use Rattle.base_types.specs.declared.id.ContId.{ContId}
@@ -22,8 +21,6 @@ use Rattle.daos_model.specs.Attempts.{EachTry}
 use Rattle.daos_model.specs.Durables.{is_frozen}
 use Rattle.daos_model.specs.Opening.{Opening, top}
 use Rattle.daos_model.specs.Snapshots.{HasSnapshotLine}
-use Rattle.dtx_base.specs.Leading.{is_led, is_open}
-use Rattle.dtx_base.specs.Members.{other_members}
 use Rattle.world_base.specs.declared.client.ClientState.{ClientState}
 use Rattle.world_base.specs.declared.client.KnownSnap.{KnownSnap}
 use Rattle.world_base.specs.declared.did.Did.{Did}
@@ -40,15 +37,15 @@ use Rattle.world_base.specs.CutTurns.{CommitIsCut, Cutting, HearingIsCut, NoneIs
 use Rattle.world_base.specs.Further.{HearsFurther}
 use Rattle.world_base.specs.Letters.{Takes, client, letter_of, letters_of, target, reset_message}
 use Rattle.world_base.specs.Roles.{is_prepared}
-use Rattle.world_base.specs.Statuses.{opening_posts, status_to, statuses_for, statuses_of}
+use Rattle.world_base.specs.Statuses.{opening_posts}
 use Rattle.world_base.specs.Stops.{AtWork, CutOf, Draws, Fails, Further, GivenUp, Happening, Hearing, HearsMore, IdleWork, IsCut, IsInHand, NumbersDrawn, OpeningFails, Opens, Plainly, TargetCut, TargetGivenUp, TargetOpens, WorldEvent, is_not_to, is_not_to_down, is_to, is_to_down, reset_letter, resets, restart_line, stops_so_far, swept, with_lost, is_down_at}
 use Rattle.world_base.specs.TargetTurns.{Hears, commit_request}
 use Rattle.world_base.specs.TurnLaws.{KeepsAs, hears-keeps, idles-keeps}
 use Rattle.world_letters.specs.epochs.Epochs.{ClientsStand}
 use Rattle.model_laws.specs.TargetLaws.{same_number}
-use Rattle.world_making.specs.freezings.Answering.{OkIsHeld, further-held, answers_ok, plainly-not}
+use Rattle.world_making.specs.freezings.Answering.{OkIsHeld, further-held, is_held, plainly-not}
 use Rattle.world_making.specs.freezings.Asking.{end-was, asks_snapshot}
-use Rattle.world_making.specs.freezings.ClientEvents.{NoneDone, going-keeps, hearing-keeps, none-more}
+use Rattle.world_making.specs.freezings.ClientEvents.{going-keeps, hearing-keeps, none-more, unasked-not}
 use Rattle.world_making.specs.freezings.Collecting.{AreHeldSo, further-counts}
 use Rattle.world_making.specs.freezings.First.{collects-first, snap-first, snap-asked, collected-asked}
 use Rattle.world_making.specs.freezings.Freezings.{Freezings, HaveOneEpoch, IsKnownSo, IsOfSnap, KeepsFrozen, EndComes, LossComes, IsFatedSnap}
@@ -70,6 +67,7 @@ use Rattle.world_letters.specs.talks.TalkLaws.{left-is-among, taken-is-among}
 use Rattle.world_letters.specs.waits.Happenings.{happenings-keep}
 use Rattle.world_letters.specs.waits.Premises.{LeadersKnow, RequestsAreOfClients, is_end}
 use Rattle.world_letters.specs.waits.Waits.{Conversation}
+use Rattle.world_making.specs.freezings.Unasked.{opening-unasked}
 
 -- what else holds in a world in which something happens
 pub record HoldsAround (r : Rules) (w : World) : Type 0 where
@@ -151,7 +149,7 @@ module _ (r : Rules) (o : Opening) (w : World) (a : HoldsAround r w) (k : Freezi
           let p = has-from_map (letter_of (target g.t)) g.did.posts l j in
           let off = plainly-not p.0.message ((all-hear-tell (target_plan r g.t) g.s.opening g.s.memory g.reading g.l.from g.l.message (kept g.s) g.new (g.memory, g.did)
           (a.ends g.l (taken-is-among w.messages g.l g.rest g.takes)) g.turn).0 p.0 p.1) in
-          let no : ⊥ = cc (ap (λ y. answers_ok y.message) p.2 ∙ ap answers_ok says, off) in absurd no)
+          let no : ⊥ = cc (ap (λ y. is_held y.message) p.2 ∙ ap is_held says, off) in absurd no)
     ];
     collecting = counts-same w g.s.durable g.new.durable g.s.memory.collecting g.memory.collecting kept-so.snaps same (counted-at g.t g.s g.here);
     adds = [];
@@ -201,7 +199,7 @@ module _ (r : Rules) (o : Opening) (w : World) (a : HoldsAround r w) (k : Freezi
       | inr j ↦ (
           let p = has-from_map (letter_of (target g.t)) g.did.posts l j in
           let off = plainly-not p.0.message ((idle-tells g.settling (target_plan r g.t) g.s.memory g.turn.last g.new (g.memory, g.did) g.turn.ends).0 p.0 p.1) in
-          let no : ⊥ = cc (ap (λ y. answers_ok y.message) p.2 ∙ ap answers_ok says, off) in absurd no)
+          let no : ⊥ = cc (ap (λ y. is_held y.message) p.2 ∙ ap is_held says, off) in absurd no)
     ];
     collecting = counts-same w g.s.durable g.new.durable g.s.memory.collecting g.memory.collecting kept-so.snaps same (counted-at g.t g.s g.here);
     adds = [];
@@ -298,7 +296,7 @@ module _ (r : Rules) (o : Opening) (w : World) (a : HoldsAround r w) (k : Freezi
           (g.memory, g.did) so (λ x e one. listed-has g.did.issued w.issued x e one) (ok-means g.t g.s g.l g.here among) g.turn
 
       answers : OkIsHeld r is g.new g.did.posts
-      answers = further-held r is f.number (target_plan r g.t) g.s.opening g.s.memory g.reading g.l.from g.l.message (kept g.s) g.new (g.memory, g.did) so (a.ends g.l (taken-is-among w.messages g.l g.rest g.takes)) g.turn
+      answers = further-held r is f.number (target_plan r g.t) g.s.opening g.s.memory g.reading g.l.from g.l.message (kept g.s) g.new (g.memory, g.did) so g.turn
 
       own : AreTurnLines g.t f.number g.l.message g.did.lines
       own = further-lines f.number (target_plan r g.t) g.s.opening g.s.memory g.reading g.l.from g.l.message (kept g.s) g.new (g.memory, g.did) g.turn
@@ -447,17 +445,6 @@ sweep-keeps r o w of_clients k = beside-keeps r o w (swept w) (record { targets 
 
 -- ---- openings
 
-statuses-not : (inc : ℕ) (es : List Entry) → NoneDone (statuses_for inc es)
-statuses-not inc [] = λ q i. absurd i
-statuses-not inc (e ∷ es) = λ q i. elim (has-cases (statuses_of inc e) (statuses_for inc es) q i) [
-  | inl j ↦ (let z = has-from_map (status_to inc e.attempt) (other_members e) q j in ap (λ x. says_done x.message) (sym z.2))
-  | inr j ↦ statuses-not inc es q j
-]
-
-opening-not : (r : Rules) (t : ℕ) (d : Durable) → NoneDone (opening_posts (target_plan r t) d)
-unfolding opening_posts
-opening-not r t d = statuses-not d.incarnation (filter is_open (filter (is_led t) d.entries))
-
 snaps-reopened : (d : Durable) → (reopened d).snaps ≡ d.snaps
 unfolding reopened
 snaps-reopened d = refl
@@ -490,7 +477,7 @@ module _ (r : Rules) (o : Opening) (w : World) (of_clients : RequestsAreOfClient
   opening-keeps : (v : World) → TargetOpens r w v → Freezings r o v
   opening-keeps v g = same-keeps v g.t g.s _ (restart_line g.number g.t g.s.durable ∷ []) g.here (ap (λ x. x.targets) g.after) (ap (λ x. x.clients) g.after)
       (ap (λ x. x.issued) g.after) (ap (λ x. x.lines) g.after) untried unmade (snaps-reopened g.s.durable) (λ n i. absurd i)
-      (none-more (target g.t) w.messages (opening_posts (target_plan r g.t) (reopened g.s.durable)) w v (ap (λ x. x.messages) g.after) (λ l i. i) (opening-not r g.t (reopened g.s.durable)))
+      (none-more (target g.t) w.messages (opening_posts (target_plan r g.t) (reopened g.s.durable)) w v (ap (λ x. x.messages) g.after) (λ l i. i) (unasked-not _ (opening-unasked r g.t (reopened g.s.durable))))
       (λ l i of. subst (Has l) (sym (ap (λ x. x.messages) g.after)) (has-left w.messages _ l i))
     where
       untried : (x : Attempt) → Has (line.Try x) (restart_line g.number g.t g.s.durable ∷ []) → ⊥

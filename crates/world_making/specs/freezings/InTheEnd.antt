@@ -1,5 +1,5 @@
 -- What follows of the snapshots that target 0 keeps as created in the end.
-use Rattle.std.specs.Prelude.{◌≡◌, ◌<◌, ◌⊎◌, ◌++◌, Any, Contains, true, List, [], ◌∷◌, slice_get, Some}
+use Rattle.std.specs.Prelude.{◌≡◌, ◌<◌, ◌⊎◌, Any, Contains, true, List, [], ◌∷◌, slice_get, Some}
 use Rattle.std.proofs.Common.{sym, ◌∙◌, ap, subst, inl, inr}
 use Rattle.base_types.specs.declared.epoch.Epoch.{Epoch}
 use Rattle.base_types.specs.declared.id.ContId.{ContId}
@@ -18,6 +18,7 @@ use Rattle.world_base.specs.declared.world.World.{World}
 use Rattle.world_base.specs.Events.{Rules}
 use Rattle.world_making.specs.freezings.Freezings.{EndComes, Freezings, IsCreatedFirst, IsFated, IsFatedSnap, HasItsLine, LossComes}
 use Rattle.world_making.specs.making.Snapshots.{holds_created}
+use Rattle.world_letters.specs.lives.Adding.{try-at}
 
 -- an attempt made a snapshot: it is committed, or its client may not have heard what became of it
 abbrev pub MayHaveCreated : Rules → ContId → Epoch → Attempt → Type 0
@@ -45,20 +46,6 @@ has-try (l ∷ ls) a i = by l i (has-try ls a)
     by (line.Try b) (inr i) rest = inr (rest i)
     by l (inl same) rest = let no : ⊥ = cc in absurd no
     by l (inr i) rest = rest i
-
--- where the line of an attempt stands
-try-at : (ls : List Line) (a : Attempt) → Has a (tries ls) → (before : List Line) × (after : List Line) × (ls ≡ before ++ line.Try a ∷ after)
-unfolding tries
-try-at [] a i = absurd i
-try-at (l ∷ ls) a i = by l i (try-at ls a)
-  where
-    later : (l : Line) → (before : List Line) × (after : List Line) × (ls ≡ before ++ line.Try a ∷ after) → (before : List Line) × (after : List Line) × (l ∷ ls ≡ before ++ line.Try a ∷ after)
-    later l z = (l ∷ z.0, z.1, ap (λ y. l ∷ y) z.2)
-
-    by : (l : Line) → Has a (tries (l ∷ ls)) → (Has a (tries ls) → (before : List Line) × (after : List Line) × (ls ≡ before ++ line.Try a ∷ after)) → (before : List Line) × (after : List Line) × (l ∷ ls ≡ before ++ line.Try a ∷ after)
-    by (line.Try b) (inl same) rest = ([], ls, ap (λ y. line.Try y ∷ ls) (sym same))
-    by (line.Try b) (inr i) rest = later (line.Try b) (rest i)
-    by l i rest = later l (rest i)
 
 pub new-made : NewSnapshotsAreMade
 new-made r o w k none z c s here is high = by f.fate

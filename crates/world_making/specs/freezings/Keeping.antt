@@ -1,5 +1,5 @@
 -- What keeps what is frozen where: an event in which no target changes, and a turn of a target, whole or cut.
-use Rattle.std.specs.Prelude.{ℕ, ◌≡◌, ◌≤◌, ◌⊎◌, ◌||◌, ◌++◌, Bool, true, List, [], ◌∷◌, slice_get, Some, None, refl}
+use Rattle.std.specs.Prelude.{ℕ, ◌≡◌, ◌≤◌, ◌⊎◌, ◌||◌, ◌++◌, Bool, true, false, List, [], ◌∷◌, slice_get, Some, None, refl}
 use Rattle.std.proofs.Common.{sym, ◌∙◌, ap, subst, inl, inr}
 use Rattle.std.proofs.Math.ListN.{set}
 use Rattle.std.proofs.lemmas.Bool.{cases_eq}
@@ -26,7 +26,6 @@ use Rattle.world_base.specs.Events.{Rules, client_plan}
 use Rattle.world_base.specs.Letters.{Takes}
 use Rattle.world_making.specs.freezings.Knowing.{IsUndated}
 use Rattle.world_base.specs.StepLaws.{set-is, set-there}
-use Rattle.world_making.specs.freezings.Answering.{answers_ok}
 use Rattle.world_making.specs.freezings.Collecting.{AreHeldSo}
 use Rattle.world_making.specs.freezings.Freezings.{EndComes, Freezings, IsCreatedFirst, IsFated, IsFatedSnap, IsKnownSo, IsOfSnap, HasItsLine, KeepsFrozen, LossComes, IsOwnMade, IsFromBefore}
 use Rattle.world_making.specs.freezings.Snapping.{Snapping, created-frozen}
@@ -37,7 +36,12 @@ use Rattle.world_letters.specs.waits.Premises.{RequestsAreOfClients, is_end}
 use Rattle.world_letters.specs.waits.Requests.{is_lost_request}
 use Rattle.world_letters.specs.snapshots.Makings.{IsSnapIn, IsSnapOf}
 
--- a message answers a Freeze or a Prune with Ok, or says that an attempt is committed
+-- a message answers a Freeze or a Prune with Ok
+abbrev answers_ok : Message → Bool
+answers_ok (message.Held x None) = true
+answers_ok m = false
+
+-- a message answers so, or says that an attempt is committed
 abbrev pub says_done : Message → Bool
 says_done m = answers_ok m || is_commit_told m
 

@@ -1,7 +1,6 @@
 -- Each event of a run keeps the facts of losses.
 use Rattle.std.specs.Prelude.{◌≡◌, Bool, true, false, refl}
 use Rattle.std.proofs.Common.{sym, subst}
-use Rattle.base_messages.specs.declared.message.Message.{Message, more_of-Message}
 use Rattle.base_messages.specs.declared.message.Message.TheVariants as message
 use Rattle.world_commit.specs.attempts.History.{History}
 use Rattle.world_base.specs.declared.world.World.{World}
@@ -15,25 +14,11 @@ use Rattle.world_causes.specs.losses.Recalling.{recalling-keeps}
 use Rattle.world_making.specs.losses.Laws.{AllEventsKeepLosses, MakingKeepsLosses}
 use Rattle.world_making.specs.losses.Refusals.{FreezesAreRefusedSo}
 use Rattle.world_making.specs.losses.Tells.{making-recalls}
-use Rattle.world_making.specs.making.Making.{is_of_snapshots, tells_of_snapshots}
-use Rattle.world_commit.specs.statuses.Heard.{is_of_attempts}
+use Rattle.world_making.specs.making.Making.{tells_of_snapshots}
+use Rattle.world_making.specs.making.Kinds.{of-attempts}
 
 pub making-keeps-losses : MakingKeepsLosses
 making-keeps-losses r w v refusals g is k = recalling-keeps r w v (making-recalls g.number r w v k refusals g.hears is) k
-
--- all else that is heard after stops is of attempts
-pub of-attempts : (m : Message) → tells_of_snapshots m ≡ false → is_of_attempts m ≡ true
-of-attempts (message.Snap x c called tracker) off = let no : ⊥ = cc in absurd no
-of-attempts (message.Freeze x c s) off = let no : ⊥ = cc in absurd no
-of-attempts (message.Held x refusal) off = let no : ⊥ = cc in absurd no
-of-attempts (message.Prune x c tracker e) off = let no : ⊥ = cc in absurd no
-of-attempts (message.Reset' by down place (more_of-Message q rest)) off = inner q off
-  where
-    inner : (q : Message) → is_of_snapshots q ≡ false → is_of_attempts (message.Reset' by down place (more_of-Message q rest)) ≡ true
-    inner (message.Freeze x c s) is = let no : ⊥ = cc in absurd no
-    inner (message.Prune x c tracker e) is = let no : ⊥ = cc in absurd no
-    inner q is = refl
-of-attempts m off = refl
 
 -- ---- every event
 

@@ -45,7 +45,7 @@ use Rattle.world_causes.specs.outcomes.Premises.{makes}
 use Rattle.world_letters.specs.snapshots.Makings.{IsSo, Makings}
 use Rattle.world_letters.specs.talks.AskLaws.{move-is, waiting-rests}
 use Rattle.world_letters.specs.talks.Asked.{ARead, ASnapshot, AnAggregation, Asked, Asking, IsMove, ItsWrites, Silent, Telling}
-use Rattle.world_contents.specs.verdicts.Verdicts.{HasWrites}
+use Rattle.world_causes.specs.outcomes.Outcomes.{HasWrites}
 
 -- ---- messages
 

@@ -1,11 +1,11 @@
 -- Each target goes on knowing the containers that it knows, and so those of which attempts make snapshots, or that they aggregate.
-use Rattle.std.specs.Prelude.{ℕ, zero, suc, ◌≡◌, ◌⊎◌, ◌||◌, ◌++◌, Bool, true, false, List, [], ◌∷◌, length, map, Contains, slice_get, Option, Some, None, refl, if◌then◌else◌}
+use Rattle.std.specs.Prelude.{ℕ, ◌≡◌, ◌⊎◌, ◌||◌, Bool, true, false, List, [], ◌∷◌, length, map, Contains, slice_get, Option, Some, None, refl, if◌then◌else◌}
 use Rattle.std.specs.List.{list_any}
 use Rattle.std.proofs.Common.{sym, ◌∙◌, ap, subst, arith, inl, inr}
 use Rattle.std.proofs.Math.ListN.{set}
 use Rattle.std.proofs.lemmas.List.{length-set}
 use Rattle.std.proofs.lemmas.Option.{slice_get_within}
-use Rattle.base_types.specs.Scripts.{AreCommands, IsCommand, IsContOf, IsInForm, SnapName, is_numbered, old_snap, snap_of}
+use Rattle.base_types.specs.Scripts.{AreCommands, IsCommand, IsContOf, IsInForm, SnapName, old_snap}
 use Rattle.base_types.specs.declared.entry.Settle.{Settle}
 use Rattle.base_types.specs.declared.entry.Settle.TheVariants.{Abort, Commit, Confirm, Forget}
 use Rattle.base_types.specs.declared.epoch.Epoch.{Epoch}
@@ -15,14 +15,13 @@ use Rattle.base_types.specs.declared.outcome.FloorWhy.TheVariants.{Snapshot}
 use Rattle.base_types.specs.declared.script.Command.{Command}
 use Rattle.base_types.specs.declared.script.Command.TheVariants.{Aggregate, Snap}
 use Rattle.base_types.specs.declared.script.ContDecl.{ContDecl}
-use Rattle.base_types.specs.declared.script.ObjDecl.{ObjDecl}
 use Rattle.base_types.specs.declared.script.Script.{Script}
 use Rattle.model_laws.specs.Lists.{all-at, at-within}
 use Rattle.model_laws.specs.Members.{Has, contains-from_has, has-from_contains, has-map}
 use Rattle.daos_model.specs.Changes.{created, frozen, leased, marked, marked_at, new_snap, prepared, pruned, raised_at, reopened, settled, with_versions}
 use Rattle.daos_model.specs.Durables.{is_enlisted, is_frozen, is_row_of, snap_key}
 use Rattle.daos_model.specs.Ordered.{put}
-use Rattle.daos_model.specs.Transactions.{command_of, numbered, numbered_at}
+use Rattle.daos_model.specs.Transactions.{command_of, numbered_at}
 use Rattle.daos_model.specs.declared.durable.ContRow.{ContRow}
 use Rattle.daos_model.specs.declared.durable.Durable.{Durable}
 use Rattle.world_base.specs.declared.target.TargetState.{TargetState}
@@ -34,6 +33,7 @@ use Rattle.world_contents.specs.frozen.Rows.{of-marked_at, of-raised_at}
 use Rattle.world_making.specs.making.Leaving.{IsThereStill, event-left}
 use Rattle.world_letters.specs.snapshots.Makings.{IsAggregationOf, IsSnapIn}
 use Rattle.world_making.specs.prunings.Premises.{MakersAreKnown}
+use Rattle.world_contents.specs.posts.ScriptForm.{numbered-form}
 
 -- ---- the statements
 
@@ -139,18 +139,6 @@ all-events-keep_makers r w v e k t z x c at makes = subst (λ y. is_enlisted y.d
     it = let same : Some z ≡ Some next.z = sym at ∙ next.here in let one : z ≡ next.z = cc in one
 
 -- ---- a script in form
-
--- each numbered command of a client in form is in form, for some snapshots that are known there
-numbered-form : (conts : List ContDecl) (objs : List ObjDecl) (known : List SnapName) (list : List Command) (n : ℕ) (d : Command) → AreCommands conts objs known list → slice_get (numbered list) n ≡ Some d
-    → (names : List SnapName) × IsCommand conts objs names d
-numbered-form conts objs known [] n d f at = let no : ⊥ = cc in absurd no
-numbered-form conts objs known (c ∷ cs) n d f at = by (is_numbered c) n at (λ m. numbered-form conts objs (known ++ snap_of c) cs m d f.1)
-  where
-    by : (b : Bool) (m : ℕ) → slice_get (if b then c ∷ numbered cs else numbered cs) m ≡ Some d → ((i : ℕ) → slice_get (numbered cs) i ≡ Some d → (names : List SnapName) × IsCommand conts objs names d)
-        → (names : List SnapName) × IsCommand conts objs names d
-    by true zero h rest = let same : c ≡ d = cc in (known, subst (IsCommand conts objs known) same f.0)
-    by true (suc m) h rest = rest m h
-    by false m h rest = rest m h
 
 command-in_form : (s : Script) (x : AttemptId) (d : Command) → IsInForm s.targets s → command_of s x ≡ Some d → (names : List SnapName) × IsCommand s.conts s.objs names d
 unfolding command_of

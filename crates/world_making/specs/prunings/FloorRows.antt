@@ -17,7 +17,7 @@ use Rattle.daos_model.specs.Durables.{is_frozen, is_row_of, row_of, snap_key}
 use Rattle.daos_model.specs.Ordered.{put}
 use Rattle.daos_model.specs.declared.durable.ContRow.{ContRow}
 use Rattle.daos_model.specs.declared.durable.Durable.{Durable}
-use Rattle.world_base.specs.ChangeLaws.{conts-settled}
+use Rattle.world_base.specs.ChangeLaws.{conts-settled, lease-frozen}
 use Rattle.world_base.specs.Changes.{After, Before, Change, Creates, Cut, Extends, Freezes, InPart, IsPartly, Kept, Prepares, Prunes, Settles, Steps, made}
 use Rattle.world_base.specs.CutTurns.{CutHere, CutTurn, Cutting, InChange, InQuestion, cut_line, line_of, lines_of}
 use Rattle.world_base.specs.PathLaws.{path-keeps}
@@ -141,15 +141,6 @@ module _ (t : ℕ) (Low : ℕ → Type 0) where
   made-goes ls (Freezes c s) d told = frozen-goes ls c s d (inl (line.Freeze t c s, told (line.Freeze t c s) (inl refl), (refl, refl)))
   made-goes ls (Creates c s) d told = rows-same ls d (created c s d) refl
   made-goes ls (Prunes c upto n) d told = λ b. marked-goes ls c upto n d (told (line.Aggregate n t c upto) (inl refl)) b
-
--- a freeze leaves the lease
-lease-frozen : (c : ContId) (s : Epoch) (d : Durable) → (frozen c s d).lease ≡ d.lease
-unfolding frozen
-lease-frozen c s d = by (is_frozen d c s)
-  where
-    by : (b : Bool) → (if b then d else record d { conts = map (raised_at c s (why.Snapshot s)) d.conts; snaps = put snap_key (new_snap c s) d.snaps }).lease ≡ d.lease
-    by true = refl
-    by false = refl
 
 -- ---- the lines of changes
 

@@ -28,8 +28,7 @@ use Rattle.world_base.specs.Roles.{is_prepared}
 use Rattle.world_base.specs.Stops.{AtWork, CutOf, Draws, Fails, Further, GivenUp, Happening, Hearing, HearsMore, IdleWork, IsCut, Opens, Plainly, TargetCut, WorldEvent, is_not_to, is_to, reset_letter, resets, stops_so_far, swept}
 use Rattle.world_letters.specs.epochs.Epochs.{ClientsStand}
 use Rattle.world_commit.specs.fates.Facts.{Attempts}
-use Rattle.world_contents.specs.gots.Gots.{Gots, IsLineServed}
-use Rattle.world_contents.specs.gots.Remembering.{Remembers}
+use Rattle.world_contents.specs.gots.Gots.{Gots, IsLineServed, Remembers}
 use Rattle.world_contents.specs.gots.TargetGots.{gots-remembered, sent-or_left}
 use Rattle.world_causes.specs.hearing.Cutting.{turn-silent}
 use Rattle.world_causes.specs.hearing.Going.{AnswersAreServed}

@@ -1,19 +1,15 @@
 -- Every attempt of which a target has an entry writes something, also after what is heard of snapshots and aggregation.
-use Rattle.std.specs.Prelude.{ℕ, ◌≡◌, ◌≢◌, Bool, true, false, List, [], map, slice_get, Some, refl, if◌then◌else◌, bit_or, ◌^◌}
+use Rattle.std.specs.Prelude.{ℕ, ◌≡◌, ◌≢◌, Bool, true, false, List, [], slice_get, Some, refl, if◌then◌else◌, bit_or, ◌^◌}
 use Rattle.std.proofs.Common.{sym, ◌∙◌, ap, subst, inl, inr}
 use Rattle.std.proofs.Math.ListN.{set}
 use Rattle.base_types.specs.declared.entry.Entry.{Entry}
 use Rattle.base_types.specs.declared.entry.Settle.{Settle}
 use Rattle.base_types.specs.declared.entry.Settle.TheVariants.{Abort, Commit, Confirm, Forget}
-use Rattle.base_types.specs.declared.epoch.Epoch.{Epoch}
 use Rattle.base_types.specs.declared.id.AttemptId.{AttemptId}
-use Rattle.base_types.specs.declared.id.ContId.{ContId}
-use Rattle.base_types.specs.declared.outcome.FloorWhy.TheVariants.{Snapshot}
 use Rattle.model_laws.specs.Members.{Has, has-from_filter, has-from_map}
-use Rattle.daos_model.specs.Changes.{committed_at, confirmed_at, created, frozen, is_other, leased, marked, new_snap, pruned, raised_at, settled, with_versions}
-use Rattle.daos_model.specs.Durables.{is_frozen, same_attempt, snap_key}
+use Rattle.daos_model.specs.Changes.{committed_at, confirmed_at, created, frozen, is_other, leased, marked, pruned, settled, with_versions}
+use Rattle.daos_model.specs.Durables.{same_attempt}
 use Rattle.daos_model.specs.Opening.{Opening}
-use Rattle.daos_model.specs.Ordered.{put}
 use Rattle.daos_model.specs.declared.durable.Durable.{Durable}
 use Rattle.daos_model.specs.declared.durable.Version.{Version}
 use Rattle.world_commit.specs.attempts.Attempts.{writes_of}
@@ -30,6 +26,7 @@ use Rattle.world_contents.specs.reads.EventLaws.{at-or-there}
 use Rattle.world_commit.specs.statuses.Heard.{is_of_attempts}
 use Rattle.world_commit.specs.stops.CutEvents.{IsWithoutSnapshots, is_without_snapshots}
 use Rattle.world_making.specs.prunings.Changing.{StoresNothing, making-cut-left, making-left}
+use Rattle.world_base.specs.ChangeLaws.{entries-frozen}
 
 -- every event keeps it
 abbrev pub AllEventsKeepEntries : Type 0
@@ -61,14 +58,6 @@ keeps-settled a (Confirm t) d k i = let y = has-from_map (confirmed_at a t) d.en
     same true e = refl
     same false e = refl
 keeps-settled a Forget d k i = (k, (has-from_filter (is_other a) d.entries k i).0, refl)
-
-entries-frozen : (c : ContId) (s : Epoch) (d : Durable) → (frozen c s d).entries ≡ d.entries
-unfolding frozen
-entries-frozen c s d = by (is_frozen d c s)
-  where
-    by : (b : Bool) → (if b then d else record d { conts = map (raised_at c s (Snapshot s)) d.conts; snaps = put snap_key (new_snap c s) d.snaps }).entries ≡ d.entries
-    by true = refl
-    by false = refl
 
 keeps-made : (c : Change) (d : Durable) → StoresNothing (Some c) → KeepsAttempts d (made c d)
 unfolding leased created pruned with_versions marked

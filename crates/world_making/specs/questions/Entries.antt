@@ -1,19 +1,16 @@
 -- Turns in which snapshots are made or containers aggregated take no entry away, and store none; nor do they where they are cut.
-use Rattle.std.specs.Prelude.{ℕ, ◌≡◌, ◌⊎◌, Bool, true, false, List, map, find, Option, Some, None, refl, if◌then◌else◌}
+use Rattle.std.specs.Prelude.{ℕ, ◌≡◌, ◌⊎◌, List, map, find, Option, Some, None, refl}
 use Rattle.std.proofs.Common.{sym, ◌∙◌, ap, inl, inr}
 use Rattle.std.specs.Option.{option_map}
 use Rattle.base_types.specs.declared.entry.Settle.TheVariants.{Commit}
 use Rattle.base_types.specs.declared.epoch.Epoch.{Epoch}
 use Rattle.base_types.specs.declared.id.AttemptId.{AttemptId}
-use Rattle.base_types.specs.declared.id.ContId.{ContId}
-use Rattle.base_types.specs.declared.outcome.FloorWhy.TheVariants.{Snapshot}
 use Rattle.base_types.specs.declared.report.Line.{Line}
 use Rattle.base_messages.specs.declared.actor.ActorId.{ActorId}
 use Rattle.base_messages.specs.declared.message.Message.{Message}
-use Rattle.daos_model.specs.Changes.{committed_at, created, frozen, leased, marked, new_snap, pruned, raised_at, settled, with_versions}
+use Rattle.daos_model.specs.Changes.{committed_at, leased, settled}
 use Rattle.daos_model.specs.declared.durable.Durable.{Durable}
-use Rattle.daos_model.specs.Durables.{entry_of, is_entry_of, is_frozen, snap_key}
-use Rattle.daos_model.specs.Ordered.{put}
+use Rattle.daos_model.specs.Durables.{entry_of, is_entry_of}
 use Rattle.world_commit.specs.asks.Entries.{IsKept, Spares, StoresNot, Unprepared, kept-step, unprepared-step}
 use Rattle.world_base.specs.declared.did.Did.{Did}
 use Rattle.world_base.specs.declared.target.TargetMemory.{TargetMemory}
@@ -27,6 +24,7 @@ use Rattle.world_base.specs.Turns.{Path}
 use Rattle.world_making.specs.fates.Steps.{partly-entries}
 use Rattle.world_making.specs.making.Making as making
 use Rattle.world_making.specs.making.Making.{MakingLeaves, MakingNext, MakingStage, making_begins}
+use Rattle.world_base.specs.ChangeLaws.{entries-frozen, entries-created, entries-pruned}
 
 -- an entry of an attempt stays where there is one; where there is none, or none is prepared, none comes
 pub record LeavesEntryOf (x : AttemptId) (d e : Durable) : Type 0 where
@@ -49,22 +47,6 @@ then-leaves x d e f one next = record {
 }
 
 -- ---- changes
-
-entries-frozen : (c : ContId) (s : Epoch) (d : Durable) → (frozen c s d).entries ≡ d.entries
-unfolding frozen
-entries-frozen c s d = by (is_frozen d c s)
-  where
-    by : (b : Bool) → (if b then d else record d { conts = map (raised_at c s (Snapshot s)) d.conts; snaps = put snap_key (new_snap c s) d.snaps }).entries ≡ d.entries
-    by true = refl
-    by false = refl
-
-entries-created : (c : ContId) (s : Epoch) (d : Durable) → (created c s d).entries ≡ d.entries
-unfolding created
-entries-created c s d = refl
-
-entries-pruned : (c : ContId) (upto : Epoch) (n : ℕ) (d : Durable) → (pruned c upto n d).entries ≡ d.entries
-unfolding pruned with_versions marked
-entries-pruned c upto n d = refl
 
 -- a step leaves all entries, or settles one as committed
 pub step-entries : (number : ℕ) (p : TargetPlan) (m : TargetMemory) (reading : ℕ) (from : ActorId) (q : Message) (a : MakingStage) (k : Kept) (o : Option Change) (b : MakingStage)

@@ -1,5 +1,5 @@
 -- What a client has told begins its commands in turn, and so do the lines that tell of it.
-use Rattle.std.specs.Prelude.{ℕ, zero, suc, ◌≡◌, ◌⊎◌, ◌<◌, ◌+◌, ◌++◌, Bool, true, false, List, [], ◌∷◌, drop, filter, length, slice_get, take, Option, Some, None, refl, if◌then◌else◌}
+use Rattle.std.specs.Prelude.{ℕ, zero, suc, ◌≡◌, ◌⊎◌, ◌<◌, ◌+◌, Bool, true, false, List, [], ◌∷◌, drop, filter, length, slice_get, take, Option, Some, None, refl, if◌then◌else◌}
 use Rattle.std.proofs.Common.{sym, ◌∙◌, ap, subst, arith}
 use Rattle.std.proofs.lemmas.List.{take-append-drop}
 use Rattle.std.proofs.lemmas.List.Elements.{filter-append}
@@ -17,6 +17,7 @@ use Rattle.world_base.specs.Events.{Rules, client_plan, commands_or_none}
 use Rattle.world_letters.specs.clients.Standing.{AreOfPresent, AreTriedAgain, HasTold, has_number, number_of}
 use Rattle.world_letters.specs.lines.Lines.{AreTheSame, Lines}
 use Rattle.world_readers.specs.lines.InTurn.{AllBeginInTurn, AreOfNext, BeginsInTurn, HasItsLines}
+use Rattle.world_letters.specs.lines.LastLines.{cut-alike, none-same}
 
 -- ---- attempts that are the same but for epochs
 
@@ -34,25 +35,6 @@ again-same client command n m [] [] s k = k
 again-same client command n m [] (y ∷ ys) s k = absurd s
 again-same client command n m (x ∷ xs) [] s k = absurd s
 again-same client command n m (x ∷ xs) (y ∷ ys) s k = (s.0.id ∙ k.0, ap is_restart s.0.outcome ∙ k.1, again-same client command (n + 1) m xs ys s.1 k.2)
-
--- two lists of the same are cut at the same place
-record CutAlike (us vs ys : List Attempt) : Type 0 where
-  pub own : List Attempt
-  pub later : List Attempt
-  pub all : ys ≡ own ++ later
-  pub first : AreTheSame us own
-  pub rest : AreTheSame vs later
-
-cut-alike : (us vs ys : List Attempt) → AreTheSame (us ++ vs) ys → CutAlike us vs ys
-cut-alike [] vs ys s = record { own = []; later = ys; all = refl; first = tt; rest = s }
-cut-alike (u ∷ us) vs [] s = absurd s
-cut-alike (u ∷ us) vs (y ∷ ys) s =
-    let k = cut-alike us vs ys s.1 in
-    record { own = y ∷ k.own; later = k.later; all = ap (λ z. y ∷ z) k.all; first = (s.0, k.first); rest = k.rest }
-
-none-same : (ys : List Attempt) → AreTheSame [] ys → ys ≡ []
-none-same [] s = refl
-none-same (y ∷ ys) s = absurd s
 
 many-same : (xs ys : List Attempt) → AreTheSame xs ys → length xs ≡ length ys
 many-same [] [] s = refl

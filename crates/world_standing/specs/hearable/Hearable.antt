@@ -1,21 +1,90 @@
 -- What goes to a running target it can hear, where targets may stop.
-use Rattle.std.specs.Prelude.{ℕ, ◌≡◌, ◌<◌, ◌⊎◌, List, [], ◌∷◌, Contains, Any}
+use Rattle.std.specs.Prelude.{ℕ, ◌≡◌, ◌<◌, ◌⊎◌, List, [], ◌∷◌, Contains, Any, map, All, Bool, IfSome, None, Option, Some, false, length, true, ◌^◌}
 use Rattle.std.proofs.Common.{inl, inr, ◌∙◌, subst}
 use Rattle.base_types.specs.declared.operation.MinorWrite.{MinorWrite}
 use Rattle.base_types.specs.declared.path.Path.{Path}
 use Rattle.base_types.specs.declared.script.ContDecl.{ContDecl}
 use Rattle.base_types.specs.declared.script.ObjDecl.{ObjDecl}
-use Rattle.base_types.specs.Operations.{write_path}
-use Rattle.base_types.specs.Placement.{writes_leader}
+use Rattle.base_types.specs.Operations.{write_path, read_path}
+use Rattle.base_types.specs.Placement.{writes_leader, ClassFits}
 use Rattle.base_types.specs.Scripts.{IsInForm as IsScriptInForm, IsOfObject}
 use Rattle.model_laws.specs.FamilyLaws.{leader-within}
 use Rattle.model_laws.specs.Members.{Has, contains-from_has, has-from_contains, has-map}
 use Rattle.base_messages.specs.declared.message.Message.{Message}
 use Rattle.daos_model.specs.declared.durable.Durable.{Durable}
 use Rattle.world_base.specs.Events.{Rules, target_plan}
-use Rattle.world_contents.specs.posts.Forms.{HasFormAfterStops, IsInForm}
-use Rattle.world_plain.specs.whole.Begins.{declared_conts}
-use Rattle.world_plain.specs.whole.Hearable.{CanHear, heard-has_form}
+use Rattle.world_contents.specs.posts.Forms.{HasFormAfterStops, IsInForm, HasForm}
+use Rattle.base_types.specs.declared.id.ContId.{ContId}
+use Rattle.base_types.specs.declared.script.Script.{Script}
+use Rattle.daos_model.specs.Forms.{AreWritesInForm, is_read_in_form}
+use Rattle.base_types.specs.declared.id.AttemptId.{AttemptId}
+use Rattle.base_types.specs.declared.entry.Entry.{Entry}
+use Rattle.base_types.specs.declared.epoch.Epoch.{Epoch}
+use Rattle.base_types.specs.declared.operation.Read.{Read}
+use Rattle.daos_model.specs.Durables.{entry_of, is_enlisted}
+use Rattle.world_base.specs.Commits.{own_writes}
+use Rattle.base_messages.specs.declared.message.Message.TheVariants as message
+
+-- a read that a target can serve: in form, in a container that it knows, and not at a snapshot
+pub record CanServe (d : Durable) (read : Read) (snapshot : Bool) : Type 0 where
+  pub now : snapshot ≡ false
+  pub form : is_read_in_form read ≡ true
+  pub enlisted : is_enlisted d (read_path read).cont ≡ true
+
+-- writes that can be stored for an attempt: they are in form, in containers that the target knows, the attempt has no entry
+-- here, and no version has its epoch
+pub record CanStore (d : Durable) (x : AttemptId) (ep : Option Epoch) (ws : List MinorWrite) : Type 0 where
+  pub form : AreWritesInForm ws
+  pub enlisted : All (λ w. is_enlisted d (write_path w.write).cont ≡ true) ws
+  pub absent : entry_of d x ≡ None
+  pub new : (e : Epoch) → ep ≡ Some e → All (λ v. v.epoch.0 ≡ e.0 → ⊥) d.versions
+
+-- writes to commit can be stored; they are of objects that fit the targets, and some of them belong to a group of this one
+pub record CanCommit (r : Rules) (t : ℕ) (d : Durable) (x : AttemptId) (ep : Option Epoch) (ws : List MinorWrite) : Type 0 where
+  pub store : CanStore d x ep ws
+  pub some : 0 < length (own_writes (target_plan r t) ws)
+  pub fit : All (λ w. IfSome (write_path w.write).obj (λ o. ClassFits o.class r.script.targets)) ws
+
+-- writes to prepare can be stored, with an entry that says that the attempt is neither committed nor confirmed, and names
+-- targets that are there
+pub record CanPrepare (r : Rules) (d : Durable) (e : Entry) (ws : List MinorWrite) : Type 0 where
+  pub store : CanStore d e.attempt (Some e.epoch) ws
+  pub some : 0 < length ws
+  pub undecided : e.committed ≡ false
+  pub unconfirmed : e.confirmed ≡ 0
+  pub leader : e.leader < r.script.targets
+  pub members : e.members < 2 ^ r.script.targets
+
+-- a message that a target can hear
+abbrev pub CanHear : Rules → ℕ → Durable → Message → Type 0
+CanHear r t d (message.Fetch x op group ep first tracker read snapshot) = CanServe d read snapshot
+CanHear r t d (message.Commit x ep first tracker ws) = CanCommit r t d x ep ws
+CanHear r t d (message.Prepare e first ws inc) = CanPrepare r d e ws
+CanHear r t d (message.Ack x inc refusal) = Unit {0}
+CanHear r t d (message.Mark inc marks) = Unit {0}
+CanHear r t d (message.Marked inc ids) = Unit {0}
+CanHear r t d (message.Query x ask) = Unit {0}
+CanHear r t d (message.Verdict x ask inc v) = Unit {0}
+CanHear r t d m = ⊥
+
+-- then it has its form
+abbrev pub HeardHasForm : Type 0
+HeardHasForm = (r : Rules) (t : ℕ) (d : Durable) (m : Message) → CanHear r t d m → HasForm (target_plan r t) m
+
+pub heard-has_form : HeardHasForm
+heard-has_form r t d (message.Fetch x op group ep first tracker read snapshot) k = record { form = k.form; known = λ at. let now = k.now in let no : ⊥ = cc in absurd no }
+heard-has_form r t d (message.Commit x ep first tracker ws) k = record { form = k.store.form; some = k.some; fit = k.fit }
+heard-has_form r t d (message.Prepare e first ws inc) k = record { undecided = k.undecided; unconfirmed = k.unconfirmed; leader = k.leader; members = k.members; some = k.some; form = k.store.form }
+heard-has_form r t d (message.Ack x inc refusal) k = k
+heard-has_form r t d (message.Mark inc marks) k = k
+heard-has_form r t d (message.Marked inc ids) k = k
+heard-has_form r t d (message.Query x ask) k = k
+heard-has_form r t d (message.Verdict x ask inc v) k = k
+heard-has_form r t d m k = absurd k
+
+-- the containers that a script declares
+abbrev pub declared_conts : Script → List ContId
+declared_conts s = map (λ d. d.id) s.conts
 
 -- ---- the statements
 

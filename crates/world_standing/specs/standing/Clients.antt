@@ -1,12 +1,12 @@
 -- What a client hears fits what it asked, and lines tell of it what it has told.
-use Rattle.std.specs.Prelude.{ℕ, ◌≡◌, false, List, slice_get, Option, Some, None, refl}
+use Rattle.std.specs.Prelude.{ℕ, ◌≡◌, false, List, slice_get, Option, Some, None, refl, Contains}
 use Rattle.std.proofs.Common.{sym, ◌∙◌, ap, subst}
 use Rattle.base_messages.specs.declared.message.Message.{Message}
 use Rattle.base_messages.specs.declared.message.Message.TheVariants as message
 use Rattle.base_messages.specs.declared.message.Post.{Post}
 use Rattle.model_laws.specs.Members.{contains-from_has}
 use Rattle.world_commit.specs.attempts.Counting.{has-taken}
-use Rattle.world_commit.specs.attempts.History.{History}
+use Rattle.world_commit.specs.attempts.History.{History, Decided}
 use Rattle.world_base.specs.declared.client.ClientPlan.{ClientPlan}
 use Rattle.world_base.specs.declared.client.ClientState.{ClientState}
 use Rattle.world_base.specs.declared.client.Present.{Present}
@@ -27,7 +27,12 @@ use Rattle.world_causes.specs.outcomes.Outcomes.{Outcomes}
 use Rattle.world_letters.specs.talks.AskLaws.{sent-is-asked}
 use Rattle.world_letters.specs.talks.Conversation.{Answers}
 use Rattle.world_letters.specs.waits.Waits.{Conversation, IsAnswer, IsLost, IsQuestion, IsReplyTo, ItsAsk, ItsRequest}
-use Rattle.world_plain.specs.whole.Judged.{DecidedIssued}
+use Rattle.base_types.specs.declared.id.AttemptId.{AttemptId}
+use Rattle.base_types.specs.declared.epoch.Epoch.{Epoch}
+
+-- what is decided was issued its epoch
+abbrev pub DecidedIssued : History → World → Type 0
+DecidedIssued h w = (x : AttemptId) (e : Epoch) → Decided h x e → Contains w.issued (x, e)
 
 -- ---- what a client hears of its attempt
 

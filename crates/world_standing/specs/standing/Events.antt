@@ -21,7 +21,7 @@ use Rattle.world_commit.specs.questions.Hearing.{is_of_collections, is_of_stops}
 use Rattle.world_commit.specs.questions.Laws.{AbortsGrow}
 use Rattle.world_commit.specs.statuses.Events.{HappensWithoutSnapshots, told_by}
 use Rattle.world_commit.specs.statuses.Heard.{is_of_attempts}
-use Rattle.world_plain.specs.whole.Judged.{DecidedIssued}
+use Rattle.world_standing.specs.standing.Clients.{DecidedIssued}
 
 -- what is decided has its epoch, which was issued
 pub decided-issued : (r : Rules) (h : History) (w : World) → Attempts r h w → DecidedIssued h w

@@ -20,7 +20,7 @@ use Rattle.world_base.specs.Letters.{talk_of}
 use Rattle.world_base.specs.Requests.{fetch_message}
 use Rattle.world_letters.specs.talks.AskLaws.{sent-is-asked}
 use Rattle.world_letters.specs.talks.Asked.{Asked, commit_of}
-use Rattle.world_letters.specs.talks.Carriers.{is_fetch_of}
+use Rattle.world_letters.specs.talks.Conversation.{is_fetch_of}
 use Rattle.world_letters.specs.waits.ClientLaws.{present-of}
 use Rattle.world_letters.specs.waits.Passing.{held-beside}
 use Rattle.world_letters.specs.waits.Waits.{Conversation, Held, HoldsIt, IsAsked, IsHeld, IsQuestion, IsReplied, ItsAsk, ItsRequest, ParkedAt, TalksSo, asked_of, collected_at, held_by, held_of, is_collected_of, is_open_of, is_parked_of, open_at, parked_at}

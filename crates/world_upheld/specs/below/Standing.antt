@@ -5,7 +5,7 @@ pub use Rattle.world_standing.specs.external.Kept.{AreInOrder, IsStoredBehind, R
 pub use Rattle.world_standing.specs.external.Order.{AreExternallyConsistent, Conflict, HasSmallerEpoch, IsAnsweredBefore, IsCommitted, KeepsTheBound, WritesWhere}
 pub use Rattle.world_standing.specs.external.Told.{IsServedAt, line-served, none-has}
 pub use Rattle.world_standing.specs.hearable.Covered.{IsCovered}
-pub use Rattle.world_standing.specs.hearable.Hearable.{CanHearOn}
+pub use Rattle.world_standing.specs.hearable.Hearable.{CanHear, CanHearOn, declared_conts}
 pub use Rattle.world_standing.specs.hearable.Sent.{AreSentSo}
 pub use Rattle.world_standing.specs.standing.Clients.{ClientsSpeak}
 pub use Rattle.world_standing.specs.standing.Covering.{AreAll, all-put, epochs-puts, epochs-settled}

@@ -1,5 +1,5 @@
 -- So it is at the beginning, whatever the script makes.
-use Rattle.std.specs.Prelude.{ℕ, ◌≡◌, ◌≤◌, ◌<◌, ◌+◌, ◌*◌, ◌^◌, ◌++◌, nat_lt, max, Bool, true, false, List, [], ◌∷◌, length, slice_get, Some, refl, if◌then◌else◌}
+use Rattle.std.specs.Prelude.{ℕ, ◌≡◌, ◌≤◌, ◌<◌, ◌+◌, ◌*◌, ◌^◌, ◌++◌, nat_lt, max, Bool, true, false, List, [], ◌∷◌, length, slice_get, Some, refl, if◌then◌else◌, ◌/◌}
 use Rattle.std.proofs.Common.{inl, arith}
 use Rattle.std.proofs.lemmas.Bool.Decides.{nat_tests}
 use Rattle.base_types.specs.declared.epoch.Epoch.{Epoch}
@@ -17,10 +17,23 @@ use Rattle.vos_store.specs.Answers.{floor_of, later_floor}
 use Rattle.world_base.specs.declared.target.TargetState.{TargetState}
 use Rattle.world_base.specs.declared.world.World.{World}
 use Rattle.world_base.specs.Events.{Rules}
-use Rattle.world_causes.specs.causes.CauseLaws.{IsBegun}
 use Rattle.world_causes.specs.causes.Shown.{Causes, FloorsShown, IsOfBefore, OutcomeStands, limit_over}
 use Rattle.world_upheld.specs.causing.Places.{Places}
 use Rattle.world_upheld.specs.causing.Refusing.{FreezeRefusalsShow}
+use Rattle.world_base.specs.declared.client.ClientState.{ClientState}
+use Rattle.world_causes.specs.causes.Causes.{LowFloors}
+
+-- a world at its beginning: nothing is in flight, issued, parked or told of; free blocks, ticks, trackers, floors and leases are the opening's
+pub record IsBegun (o : Opening) (w : World) : Type 0 where
+  pub messages : w.messages ≡ []
+  pub issued : w.issued ≡ []
+  pub lines : w.lines ≡ []
+  pub parked : (t : ℕ) (s : TargetState) → slice_get w.targets t ≡ Some s → s.memory.member.parked ≡ []
+  pub space : (t : ℕ) (s : TargetState) → slice_get w.targets t ≡ Some s → o.free t ≤ s.free
+  pub ticks : (t : ℕ) (s : TargetState) → slice_get w.targets t ≡ Some s → s.memory.ticks ≤ o.lease
+  pub trackers : (n : ℕ) (c : ClientState) → slice_get w.clients n ≡ Some c → c.tracker.0 / 256 ≤ o.lease
+  pub floors : LowFloors o w
+  pub leases : (t : ℕ) (s : TargetState) → slice_get w.targets t ≡ Some s → s.durable.lease ≤ o.lease
 
 -- where nothing is in flight, issued, parked or told, outcomes show their causes
 abbrev pub AllCausesBegin : Type 0

@@ -1,39 +1,34 @@
 -- Clients keep that outcomes show their causes, whatever their commands are, where epochs of snapshots count as those of the attempts that read
 -- there.
-use Rattle.std.specs.Prelude.{◌≡◌, ◌<◌, slice_get, Some, refl}
-use Rattle.std.proofs.Common.{append-nil, inl, inr, sym, ◌∙◌, ap, subst, arith}
-use Rattle.std.proofs.Math.ListN.{set}
-use Rattle.base_types.specs.declared.id.AttemptId.{AttemptId}
+use Rattle.std.specs.Prelude.{◌<◌, refl}
+use Rattle.std.proofs.Common.{append-nil, inl, inr, sym, ap, subst, arith}
 use Rattle.daos_model.specs.Opening.{Opening, top}
 use Rattle.model_laws.specs.Members.{Has}
 use Rattle.world_commit.specs.attempts.Counting.{has-left_over, has-taken}
-use Rattle.world_commit.specs.attempts.Turning.{one-or_another}
-use Rattle.world_base.specs.declared.client.ClientState.{ClientState}
 use Rattle.world_base.specs.declared.world.World.{World}
-use Rattle.world_base.specs.ClientTurns.{Ended_by, attempt_id, HearTurn, Heard_on, Move, heard, listed, moved}
+use Rattle.world_base.specs.ClientTurns.{Ended_by, HearTurn, Heard_on, Move, heard, listed, moved}
 use Rattle.world_base.specs.Events.{ClientGoes, ClientHears, Rules, after_turn, client_plan, with_client}
 use Rattle.world_base.specs.Letters.{client}
-use Rattle.world_base.specs.StepLaws.{after-both, by-going, by-next, set-here, set-there}
+use Rattle.world_base.specs.StepLaws.{after-both, by-going, by-next, set-here}
 use Rattle.world_base.specs.Steps.{KeptByCounting, KeptByMoves, after_move, without}
 use Rattle.world_causes.specs.causes.Causes.{Dated, Stored}
 use Rattle.world_causes.specs.causes.HearingLaws.{LossesStand}
 use Rattle.world_causes.specs.causes.Shown.{Causes}
 use Rattle.world_upheld.specs.causing.Dates.{line-on, with_dates}
-use Rattle.world_upheld.specs.causing.Doing.{AreBegun, counting-causes, dated-goes_causes, over-after}
+use Rattle.world_upheld.specs.causing.Doing.{AreBegun, counting-causes, dated-goes_causes}
 use Rattle.world_upheld.specs.causing.Ending.{AreToldOf, told-by-counting, told-by-hearing, told-by-moves}
 use Rattle.world_upheld.specs.causing.Told.{dated-hears_causes}
 use Rattle.world_making.specs.dates.Answering.{quiet-client}
 use Rattle.world_making.specs.dates.Going.{moved-dates}
 use Rattle.world_making.specs.dates.Heard.{heard-dates}
 use Rattle.world_making.specs.dates.Moves.{quiet-same}
-use Rattle.world_letters.specs.epochs.Epochs.{ClientsStand, Epochs, IsPresent}
+use Rattle.world_letters.specs.epochs.Epochs.{ClientsStand, Epochs}
 use Rattle.world_letters.specs.epochs.EventLaws.{stands-by-counting, stands-by-hearing, stands-by-moves}
 use Rattle.world_letters.specs.epochs.Talking.{silent-unless}
 use Rattle.world_causes.specs.hearing.HappeningEpochs.{talks-once}
 use Rattle.world_causes.specs.losses.ClientHears.{LossesAreAsked, heard-steps}
-use Rattle.world_causes.specs.losses.Clients.{After, IsOver, Stepped, after-none, moves-step, stepped}
+use Rattle.world_causes.specs.losses.Clients.{After, Stepped, after-none, moves-step, stepped, counts-step}
 use Rattle.world_causes.specs.losses.Losses.{Losses}
-use Rattle.world_causes.specs.outcomes.Moving.{same-past}
 use Rattle.world_letters.specs.waits.ClientLaws.{counting-keeps, hearing-keeps, moves-keep}
 use Rattle.world_letters.specs.waits.Waits.{Conversation}
 
@@ -63,39 +58,6 @@ begun-after r dated w u begun k ends x e i = elim (begun x e i) [
   | inl at ↦ ends x at
   | inr told ↦ inr (line-on w u x k.more k.told told)
 ]
-
--- a turn that is skipped leaves clients where they are
-counts-step : (r : Rules) (w : World) → KeptByCounting (After r w)
-counts-step r w u n j c here k = record {
-  over = λ x over. over-then x (k.over x over);
-  more = k.more;
-  told = k.told;
-  stays = λ x at. elim (k.stays x at) [ inl z ↦ inl (present-then x z.0, z.1) | inr over ↦ inr (over-then x over) ];
-  lines = k.lines;
-  letters = k.letters;
-  asked = k.asked;
-  targets = k.targets;
-}
-  where
-    d : ClientState
-    d = record c { skip = j }
-
-    over-then : (x : AttemptId) → IsOver u.clients x → IsOver (set u.clients n d) x
-    over-then = over-after u.clients n c d here (λ x past. same-past c d x refl (λ a at. (a, at, refl)) past)
-
-    present-then : (x : AttemptId) → IsPresent r u x → IsPresent r (with_client n d u) x
-    present-then x at = elim (one-or_another x.client n) [
-      | inl is ↦
-          let one : at.c ≡ c = let e : Some at.c ≡ Some c = sym at.here ∙ subst (λ m. slice_get u.clients m ≡ Some c) (sym is) here in cc in
-          record {
-            c = d;
-            a = at.a;
-            here = subst (λ m. slice_get (set u.clients n d) m ≡ Some d) (sym is) (set-here u.clients n c d here);
-            at = ap (λ z. z.present) (sym one) ∙ at.at;
-            own = ap (λ z. attempt_id (client_plan r x.client) z at.a) (sym one) ∙ at.own;
-          }
-      | inr off ↦ record { c = at.c; a = at.a; here = set-there u.clients n x.client d off ∙ at.here; at = at.at; own = at.own }
-    ]
 
 module _ (r : Rules) (o : Opening) (stored : Stored) (dated : Dated) (some : 0 < r.attempts) (w : World) (lost : LossesKnown r w) (begun : AreBegun r dated w) where
   abbrev All : World → Type 0

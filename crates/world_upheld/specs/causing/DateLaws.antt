@@ -81,7 +81,7 @@ dated-or_not x (d ∷ ds) = choose (same_attempt d.0 x) refl (dated-or_not x ds)
 
 -- ---- events
 
-issued-now : (r : Rules) (w v : World) (e : Happening r w v) → v.issued ≡ w.issued ++ newly_dated r e
+pub issued-now : (r : Rules) (w v : World) (e : Happening r w v) → v.issued ≡ w.issued ++ newly_dated r e
 issued-now r w v (Plainly (ByClient g) up) = by-next r (λ u. u.issued ≡ w.issued) (λ u n c here p. p) (λ u n k c here p. p) w v refl g ∙ sym (append-nil w.issued)
 issued-now r w v (Plainly (ToClient g) up) = by-hearing r (λ u. u.issued ≡ w.issued) (λ u n c here p. p) (λ u n c l rest here awake takes to p. p) w v refl g ∙ sym (append-nil w.issued)
 issued-now r w v (Plainly (ToTarget g) up) = ap (λ u. u.issued) g.after

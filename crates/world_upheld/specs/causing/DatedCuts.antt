@@ -35,13 +35,13 @@ use Rattle.world_causes.specs.causes.Shown.{Causes, FloorsShown, limit_over}
 use Rattle.world_causes.specs.causes.Turns.{PostShows}
 use Rattle.world_upheld.specs.causing.DatedVerdicts.{IsVerdictRight, freed-below}
 use Rattle.world_upheld.specs.causing.Dates.{with_dates}
-use Rattle.world_upheld.specs.causing.Following.{posted}
+use Rattle.world_causes.specs.showing.Following.{posted}
 use Rattle.world_upheld.specs.causing.OneTurn.{turn-keeps}
 use Rattle.world_upheld.specs.causing.SnapshotReads.{IsAtSnapshot, extends-none}
 use Rattle.world_making.specs.prunings.Floors.{all-events-keep_floors}
 use Rattle.world_causes.specs.restarts.Resting.{is_silent}
 use Rattle.world_causes.specs.showing.CutTurns.{cut-free, cut-leased, cut-silent, fetch-cheap, verdict-cheap}
-use Rattle.world_causes.specs.showing.Follows.{silent-mute}
+use Rattle.world_causes.specs.showing.Follows.{silent-shows}
 use Rattle.world_letters.specs.snapshots.Makings.{ComesOf}
 
 -- a target stops as it hears a read at a snapshot
@@ -82,17 +82,8 @@ module _ (r : Rules) (o : Opening) (stored : Stored) (dated : Dated) (w v : Worl
   messages : (k : Letter) → Contains v.messages k → Contains w.messages k ⊎ PostShows r o stored dated v.lines (posted k)
   messages k i = elim (has-cases (filter (is_not_to g.t) w.messages) (resets g.t false w.asked) k (has-from_contains (filter (is_not_to g.t) w.messages ++ resets g.t false w.asked) k (subst (λ u. Contains u.messages k) g.after i))) [
     | inl j ↦ inl (contains-from_has w.messages k (has-from_filter (is_not_to g.t) w.messages k j).0)
-    | inr j ↦ inr (mute (let z = has-from_map (reset_letter false) (filter (is_to g.t) w.asked) k j in ap (λ y. is_silent y.message) (sym z.2)))
+    | inr j ↦ inr (silent-shows r o stored dated v.lines k (let z = has-from_map (reset_letter false) (filter (is_to g.t) w.asked) k j in ap (λ y. is_silent y.message) (sym z.2)))
   ]
-    where
-      mute : is_silent k.message ≡ true → PostShows r o stored dated v.lines (posted k)
-      mute quiet = let m = silent-mute k.message quiet in record {
-        shows = m.stands r o stored dated v.lines;
-        told = λ e j. absurd (m.told e j);
-        undecided = λ x y u. absurd (m.undecided x y u);
-        asked = λ x u. absurd (m.asked x u);
-        own = λ x u. absurd (m.ends x u);
-      }
 
   quiet-keeps : Causes r o stored (with_dates dated v)
   unfolding tries

@@ -5,7 +5,7 @@ use Rattle.base_types.specs.declared.report.Line.{Line}
 use Rattle.base_messages.specs.declared.message.Message.{Message}
 use Rattle.world_base.specs.declared.world.World.{World}
 use Rattle.world_base.specs.Events as events
-use Rattle.world_base.specs.Events.{ByClient, ByTarget, Rules, TargetHearsBy, TargetHearsRightly, TargetIdles, ToClient, ToTarget, after_turn, kept, target_after, target_plan, with_epoch, with_target}
+use Rattle.world_base.specs.Events.{Rules, TargetHearsBy, TargetHearsRightly, TargetIdles, after_turn, kept, target_after, target_plan, with_epoch, with_target}
 use Rattle.world_base.specs.Further.{HearsFurther}
 use Rattle.world_base.specs.Letters.{target}
 use Rattle.world_base.specs.MemoryLaws.{hears-follows, idles-follows}

@@ -29,7 +29,7 @@ use Rattle.world_causes.specs.causes.Shown.{Causes, FloorsShown, limit_over}
 use Rattle.world_causes.specs.causes.Turns.{PostShows}
 use Rattle.world_causes.specs.causes.Leases.{whole-to}
 use Rattle.world_upheld.specs.causing.Dates.{with_dates}
-use Rattle.world_upheld.specs.causing.Following.{FollowsOn, continues-keep, posted}
+use Rattle.world_causes.specs.showing.Following.{FollowsOn, continues-keep, posted}
 use Rattle.world_upheld.specs.causing.OneTurn.{post-on, turn-keeps}
 use Rattle.world_upheld.specs.causing.SnapshotReads.{IsAtSnapshot, extends-none, IsDatedRead, SnapshotReadLeaves, WaitsThen, snapshot-reads_show}
 use Rattle.world_letters.specs.epochs.Epochs.{reads_snapshot}

@@ -1,7 +1,7 @@
 -- Where epochs of snapshots count as those of the attempts that read there, a target that hears a Verdict keeps that outcomes show their causes, and
 -- so does one that hears that its question about what is in a Fetch's way got no answer.
 use Rattle.std.specs.Prelude.{Bool, ℕ, ◌≡◌, ◌≤◌, ◌+◌, ◌++◌, [], filter, Option, Some, refl}
-use Rattle.std.proofs.Common.{append-nil, sym, ◌∙◌, ap, subst, arith}
+use Rattle.std.proofs.Common.{append-nil, sym, ap, subst, arith}
 use Rattle.base_types.specs.declared.entry.Verdict.{Verdict}
 use Rattle.base_types.specs.declared.entry.Verdict.TheVariants as verdicts
 use Rattle.base_types.specs.declared.id.AttemptId.{AttemptId}
@@ -15,15 +15,14 @@ use Rattle.world_base.specs.declared.did.Did.{Did}
 use Rattle.world_base.specs.declared.target.TargetMemory.{TargetMemory}
 use Rattle.world_base.specs.declared.world.World.{World}
 use Rattle.world_base.specs.ChangeLaws.{lease-same}
-use Rattle.world_base.specs.Changes.{Change, Kept, Steps}
+use Rattle.world_base.specs.Changes.{Kept}
 use Rattle.world_base.specs.Events as events
 use Rattle.world_base.specs.Events.{Rules, TargetHearsBy, TargetHearsRightly, kept, target_plan}
 use Rattle.world_base.specs.Further.{HearsFurther, reset_by}
 use Rattle.world_base.specs.RightTurns.{HearsRightly}
 use Rattle.world_base.specs.MemoryLaws.{hears-follows}
-use Rattle.world_base.specs.PathLaws.{path-keeps}
 use Rattle.world_base.specs.Roles.{is_in_doubt}
-use Rattle.world_base.specs.Statuses.{AtOnce, EndsAs, IsDone, Looking, Looks, NoChange, reset_left}
+use Rattle.world_base.specs.Statuses.{EndsAs, Looking, NoChange, reset_left}
 use Rattle.world_base.specs.Stops.{HearsMore}
 use Rattle.world_base.specs.TurnLaws.{KeepsAs, rightly-keeps}
 use Rattle.world_base.specs.Turns.{Whole}
@@ -43,6 +42,7 @@ use Rattle.world_upheld.specs.causing.DatedEvents.{further-dated, hears-dated}
 use Rattle.world_upheld.specs.causing.DatedVerdicts.{IsVerdictRight, all-unresolved_show, freed-below, verdict-leaves}
 use Rattle.world_causes.specs.showing.Further.{TellsReset}
 use Rattle.world_letters.specs.talks.TalkLaws.{left-is-among}
+use Rattle.world_commit.specs.statuses.Turns.{looked}
 
 -- a target hears a Verdict
 abbrev pub VerdictsKeepCauses : Type 0
@@ -104,16 +104,7 @@ verdicts-keep r o stored dated w v g x ask inc k is T opens V C = heard-keeps r 
 
 -- a turn that changes nothing leaves what it left by what is kept
 pub looks-so : (f : Kept → TargetMemory × Did) (old new : Kept) (left : TargetMemory × Did) → Whole NoChange (EndsAs f) Looking old new left → (new ≡ old) × (left ≡ f old)
-looks-so f old new left w = (same, ends w.last new left w.ends ∙ ap f same)
-  where
-    step : (s : AtOnce) (k : Kept) (c : Option Change) (u : AtOnce) (l : Kept) → NoChange s k c u → Steps c k l → k ≡ old → l ≡ old
-    step s k c u l (Looks j) st h = st ∙ h
-
-    same : new ≡ old
-    same = path-keeps NoChange (λ s k. k ≡ old) step Looking old w.reached.did w.last new w.reached.path refl
-
-    ends : (s : AtOnce) (k : Kept) (left : TargetMemory × Did) → EndsAs f s k left → left ≡ f k
-    ends s k left (IsDone j z is) = is
+looks-so f old new left w = let k = looked f old new left w in (k.same, k.follows)
 
 module _ (r : Rules) (o : Opening) (stored : Stored) (dated : Dated) (w v : World) (f : HearsMore r w v) (by : ℕ) (down : Bool) (a x : AttemptId) (T : IsTarget r o dated w.lines f.hears.t f.hears.s.opening (kept f.hears.s))
     (opens : AreOpen r.script (target_plan r f.hears.t) w.lines (top o) f.hears.s.durable f.hears.s.memory.leader.decided) (V : IsVerdictRight r o dated w.lines (target_plan r f.hears.t) f.hears.s.memory (kept f.hears.s) a (Some x) verdicts.Undecided)

@@ -46,11 +46,18 @@ use Rattle.world_causes.specs.causes.Paths.{AreOpen, Lasts, ReadSoFar, lasts-abo
 use Rattle.world_causes.specs.causes.ReadTurns.{FetchLeft, IsFetch, fetch-ends, meet-more, told-one, unresolved-stands}
 use Rattle.world_causes.specs.causes.Shown.{IsOpenTo, limit_over}
 use Rattle.world_causes.specs.causes.Turns.{AllMeet, AllShow, Leaves, ParkedMeets, all-both, all-more}
-use Rattle.world_causes.specs.causes.VerdictTurns.{IsAskFit}
-use Rattle.world_upheld.specs.causing.Following.{none-borne}
+use Rattle.world_causes.specs.showing.Following.{none-borne}
 use Rattle.world_upheld.specs.causing.Posts.{EachShows}
 use Rattle.world_upheld.specs.causing.SnapshotReads.{IsDatedRead, ReadsSo, SnapshotReadLeaves, WaitsThen, ends-show, reads-step}
 use Rattle.world_letters.specs.epochs.Epochs.{reads_snapshot}
+
+-- what is known of a Fetch that waits: it bears its epoch, and is as its client asked it
+pub record IsAskFit (r : Rules) (o : Opening) (issued : Dated) (lines : List Line) (t : TargetPlan) (m : Message) : Type 0 where
+  pub q : FetchRequest
+  pub is : m ≡ message.Fetch q.attempt q.op q.group q.ep q.first q.tracker q.read q.snapshot
+  pub fit : IsFetch r o issued lines t q
+  pub e : Epoch
+  pub own : q.ep ≡ Some e
 
 -- ---- what is known
 

@@ -64,10 +64,6 @@ newly_dated r (Draws g) = []
 
 -- ---- what was issued counts
 
-not-on : (b : Bool) → not b ≡ true → b ≡ false
-not-on true is = let no : ⊥ = cc in absurd no
-not-on false is = refl
-
 pub counts-issued : (r : Rules) (late : ℕ) (dated : Dated) (w : World) → AreDates r late dated w → (x : AttemptId) (e : Epoch) → Has (x, e) w.issued → Has (x, e) dated
 counts-issued r late dated w D x e i = (has-from_filter (is_own_date r) dated (x, e) (subst (Has (x, e)) (sym D.issued) i)).0
 

@@ -1,14 +1,12 @@
 -- The epochs of attempts that make snapshots or aggregate, and the leases that cover them, are within the limit.
 use Rattle.std.specs.Prelude.{ℕ, ◌≡◌, ◌≤◌, ◌<◌, ◌+◌, ◌*◌, ◌/◌, ◌^◌, ◌++◌, min, max, nat_le, Bool, true, false, List, [], ◌∷◌, length, Some, None, refl, if◌then◌else◌}
-use Rattle.std.specs.Int.{div_ceil}
 use Rattle.std.specs.Option.{option_map}
 use Rattle.std.proofs.Common.{sym, ap, subst, arith}
 use Rattle.std.proofs.lemmas.Bool.Decides.{nat_tests}
-use Rattle.std.proofs.lemmas.Grind.{div_ceil_times}
 use Rattle.base_types.specs.declared.epoch.Epoch.{Epoch}
 use Rattle.base_types.specs.declared.id.AttemptId.{AttemptId}
 use Rattle.base_types.specs.declared.report.Line.{Line}
-use Rattle.base_types.specs.Epochs.{issued_ticks, last_ticks, lease_for}
+use Rattle.base_types.specs.Epochs.{issued_ticks, last_ticks}
 use Rattle.daos_model.specs.Opening.{Opening, top}
 use Rattle.daos_model.specs.Stops.{restart_numbers}
 use Rattle.world_base.specs.declared.target.TargetMemory.{TargetMemory}
@@ -80,20 +78,3 @@ module _ (o : Opening) (issued : Dated) (lines : List Line) (p : TargetPlan) (m 
       by : (b : Bool) → nat_le n last_ticks ≡ b → option_map (epoch_of_ticks p.me) (if b then Some n else None) ≡ None → last_ticks < limit_over o lines issued + 1
       by true e k = let no : ⊥ = cc in absurd no
       by false e k = past n last_ticks (limit_over o lines issued + 1) e bounds.1
-
--- a lease for some ticks is at most so far above them
-pub lease-near : (n l c : ℕ) → n ≤ c → lease_for n ≡ Some l → l ≤ c + 65535
-lease-near n l c low h = near last_ticks h
-  where
-    up : div_ceil n 65536 * 65536 < n + 65536
-    up = (div_ceil_times n 65536 (omega arith)).1
-
-    least : (a b : ℕ) → b < n + 65536 → min a b ≡ l → l ≤ c + 65535
-    least a b q e = omega (arith, low, q, e)
-
-    near : (last : ℕ) → (if nat_le n last then Some (min last (div_ceil n 65536 * 65536)) else None) ≡ Some l → l ≤ c + 65535
-    near last f = by (nat_le n last) f
-      where
-        by : (b : Bool) → (if b then Some (min last (div_ceil n 65536 * 65536)) else None) ≡ Some l → l ≤ c + 65535
-        by true g = let same : min last (div_ceil n 65536 * 65536) ≡ l = cc in least last (div_ceil n 65536 * 65536) up same
-        by false g = let no : ⊥ = cc in absurd no

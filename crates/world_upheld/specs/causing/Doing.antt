@@ -2,7 +2,6 @@
 use Rattle.std.specs.Prelude.{ℕ, ◌≡◌, ◌≤◌, ◌<◌, ◌+◌, ◌++◌, ◌/◌, ◌⊎◌, ◌==◌, ◌||◌, Any, Bool, true, false, List, [], ◌∷◌, map, Contains, slice_get, is_some, Option, Some, None, refl, if◌then◌else◌}
 use Rattle.std.proofs.Common.{append-nil, sym, ◌∙◌, ap, subst, inl, inr, arith}
 use Rattle.std.proofs.lemmas.Bool.{eqb-true}
-use Rattle.std.proofs.Math.ListN.{set}
 use Rattle.base_types.specs.declared.entry.Verdict.TheVariants as verdict
 use Rattle.base_types.specs.declared.epoch.Epoch.{Epoch}
 use Rattle.base_types.specs.declared.id.AttemptId.{AttemptId}
@@ -37,7 +36,6 @@ use Rattle.world_letters.specs.epochs.Lists.{each-push, tries-push}
 use Rattle.world_letters.specs.epochs.Talking.{TalksOnce, silent-unless}
 use Rattle.world_base.specs.Events.{Rules, client_plan, with_client, with_epoch}
 use Rattle.world_base.specs.Letters.{client, letter_of, letters_of}
-use Rattle.world_base.specs.StepLaws.{set-here, set-there}
 use Rattle.world_base.specs.Steps.{after_client, after_move, without}
 use Rattle.world_letters.specs.lines.Lines.{filled}
 use Rattle.world_letters.specs.talks.AskLaws.{move-is, waiting-rests}
@@ -48,18 +46,32 @@ use Rattle.world_causes.specs.causes.Growth.{at-set}
 use Rattle.world_causes.specs.causes.Turns.{HasNoLine}
 use Rattle.base_types.specs.declared.id.ContId.{ContId}
 use Rattle.base_types.specs.declared.outcome.FloorWhy.{FloorWhy}
-use Rattle.model_laws.specs.Lists.{any-of}
+use Rattle.model_laws.specs.Lists.{any-of, any-all}
 use Rattle.daos_model.specs.CausesShown.{ShowsFloor}
 use Rattle.world_causes.specs.causes.FloorLaws.{lines-keep-floors}
 use Rattle.world_causes.specs.causes.Lasting.{AreOfOthers, limit-told, message-more, open-more}
 use Rattle.world_causes.specs.causes.Shown.{Causes, FloorsShown, IsOpenTo, MessageStands, OutcomeStands, limit_over}
-use Rattle.world_causes.specs.causes.ShownLaws.{AreTries, none-floors}
 use Rattle.world_upheld.specs.causing.Dates.{IsBegunBy, with_dates}
 use Rattle.world_causes.specs.causes.ClientLaws.{ArePlain, IsLineOf, IsMild, IsPlain, IsQuiet, LineShows, attempt_here, ends-no_tell, ends-tracker, quiet-line}
-use Rattle.world_commit.specs.attempts.Turning.{one-or_another}
 use Rattle.world_letters.specs.clients.Standing.{HasTold}
-use Rattle.world_causes.specs.losses.Clients.{IsOver}
 use Rattle.world_letters.specs.snapshots.Events.{command-is}
+use Rattle.model_laws.specs.DecidedLaws.{all-from_has}
+use Rattle.base_types.specs.declared.outcome.FloorWhy.TheVariants as why
+
+abbrev pub AreTries : List Line → Type 0
+AreTries ls = (l : Line) → Has l ls → is_try l ≡ true
+
+none-told : (P : Line → Type 0) (ls : List Line) → AreTries ls → ((l : Line) → is_try l ≡ true → P l → ⊥) → Any P ls → ⊥
+none-told P ls all none i = none i.1 (any-all (λ l. is_try l ≡ true) P ls (all-from_has (λ l. is_try l ≡ true) ls all) i) i.4
+
+no-floor : (t : ℕ) (floor : Epoch) (cont : ContId) (reason : FloorWhy) (l : Line) → is_try l ≡ true → ShowsFloor t floor cont reason l → ⊥
+no-floor t floor cont why.Opening l is k = k
+no-floor t floor cont (why.Restart n) l is k = let other : is_try l ≡ false = ap is_try k.1 in let no : ⊥ = cc in no
+no-floor t floor cont (why.Snapshot e) l is k = let other : is_try l ≡ false = ap is_try k.0 in let no : ⊥ = cc in no
+no-floor t floor cont (why.Aggregate n) l is k = let other : is_try l ≡ false = ap is_try k in let no : ⊥ = cc in no
+
+pub none-floors : (ls : List Line) (t : ℕ) (floor : Epoch) (cont : ContId) (reason : FloorWhy) → AreTries ls → Any (ShowsFloor t floor cont reason) ls → ⊥
+none-floors ls t floor cont reason all i = none-told (ShowsFloor t floor cont reason) ls all (no-floor t floor cont reason) i
 
 -- what is known of a client that does something: which attempts are present was so before, and none that is present has a line; and where
 -- there is a line, it is of its own attempt, and no answer to the client is left
@@ -93,15 +105,6 @@ none-ended r top w E x p b i same = by (E.past b p.c (contains-from_has (tries w
 -- each attempt with an epoch was begun
 abbrev pub AreBegun : Rules → Dated → World → Type 0
 AreBegun r dated w = (x : AttemptId) (e : Epoch) → Contains dated (x, e) → IsBegunBy r w x
-
--- what a client is past it goes on to be past
-pub over-after : (clients : List ClientState) (n : ℕ) (c d : ClientState) → slice_get clients n ≡ Some c → ((x : AttemptId) → IsPast c x → IsPast d x) → (x : AttemptId) → IsOver clients x → IsOver (set clients n d) x
-over-after clients n c d here past x over = elim (one-or_another x.client n) [
-  | inl same ↦
-      let one : over.c ≡ c = let e : Some over.c ≡ Some c = sym over.here ∙ subst (λ m. slice_get clients m ≡ Some c) (sym same) here in cc in
-      record { c = d; here = subst (λ m. slice_get (set clients n d) m ≡ Some d) (sym same) (set-here clients n c d here); past = past x (subst (λ y. IsPast y x) one over.past) }
-  | inr off ↦ record { c = over.c; here = set-there clients n x.client d off ∙ over.here; past = over.past }
-]
 
 -- one with an epoch that is present then was present before
 pub was-present : (r : Rules) (dated : Dated) (w v : World) (more : List Line) → AreBegun r dated w → v.lines ≡ w.lines ++ more → ((x : AttemptId) → IsPresent r v x → HasNoLine v.lines x)

@@ -1,21 +1,16 @@
 -- An attempt that is present stays so, or its client tells of it, whatever it does next; so what a client is past of what it was at has its line.
-use Rattle.std.specs.Prelude.{ℕ, ◌≡◌, ◌⊎◌, ◌++◌, ◌&&◌, Bool, true, false, [], ◌∷◌, List, map, slice_get, is_some, Option, Some, None, refl, if◌then◌else◌}
+use Rattle.std.specs.Prelude.{ℕ, ◌≡◌, ◌⊎◌, ◌++◌, ◌&&◌, Bool, true, false, [], ◌∷◌, List, map, slice_get, Option, Some, refl, if◌then◌else◌}
 use Rattle.std.proofs.Common.{append-nil, sym, ◌∙◌, ap, subst, inl, inr}
 use Rattle.base_types.specs.declared.epoch.Epoch.{Epoch}
 use Rattle.base_types.specs.declared.id.AttemptId.{AttemptId}
-use Rattle.base_types.specs.declared.operation.MinorWrite.{MinorWrite}
-use Rattle.base_types.specs.declared.operation.Op.{Op}
-use Rattle.base_types.specs.declared.operation.Read.{Read}
 use Rattle.base_types.specs.declared.report.Attempt.{Attempt}
 use Rattle.base_types.specs.declared.report.Line.{Line}
 use Rattle.base_types.specs.declared.report.Line.TheVariants as line
-use Rattle.base_types.specs.declared.script.Command.{Command}
 use Rattle.base_types.specs.declared.script.Command.TheVariants as command
 use Rattle.base_messages.specs.declared.message.Message.{Message, more_of-Message}
 use Rattle.base_messages.specs.declared.message.Message.TheVariants as message
 use Rattle.base_messages.specs.declared.message.Reply.{Reply}
 use Rattle.base_messages.specs.declared.message.Reply.TheVariants as reply
-use Rattle.daos_model.specs.Accesses.{minor_writes}
 use Rattle.daos_model.specs.Attempts.{tries}
 use Rattle.daos_model.specs.Laws.{tries-append}
 use Rattle.model_laws.specs.Members.{Has, contains-from_has, has-right}
@@ -23,17 +18,15 @@ use Rattle.world_commit.specs.attempts.Turning.{one-or_another}
 use Rattle.world_base.specs.declared.client.ClientPlan.{ClientPlan}
 use Rattle.world_base.specs.declared.client.ClientState.{ClientState}
 use Rattle.world_base.specs.declared.client.Present.{Present}
-use Rattle.world_base.specs.declared.client.Stage.{Stage}
-use Rattle.world_base.specs.declared.client.Stage.TheVariants as stage
 use Rattle.world_base.specs.declared.letter.Letter.{Letter}
 use Rattle.world_base.specs.declared.world.World.{World}
-use Rattle.world_base.specs.ClientTurns.{Move, about, answered, asks_or_goes, attempt_id, attempt_moves, command_at, commits, goes, heard, heard_at, hears_epochs, is_about, knows, listed, moved, moves_at, next_stage, op_moves, op_of, op_told, question, replied, reset, rests, run_moves, waits}
+use Rattle.world_base.specs.ClientTurns.{Move, about, answered, attempt_id, command_at, goes, heard, heard_at, hears_epochs, is_about, knows, listed, moved, op_of, op_told, replied, reset, rests, waits}
 use Rattle.world_base.specs.Events.{Rules, client_plan, with_client, with_epoch}
 use Rattle.world_base.specs.StepLaws.{set-here, set-there}
 use Rattle.world_base.specs.Steps.{KeptByCounting, KeptByMoves, after_client, after_move, without}
 use Rattle.world_letters.specs.epochs.Epochs.{IsPresent}
 use Rattle.world_letters.specs.lines.Lines.{filled}
-use Rattle.world_causes.specs.losses.Moving.{StaysAt}
+use Rattle.world_causes.specs.losses.Moving.{StaysAt, stays-or}
 use Rattle.world_causes.specs.outcomes.Moving.{AnswerDoes, FailsWith, OnWith, op-does}
 use Rattle.world_upheld.specs.causing.Dates.{HasItsLine, line-on}
 
@@ -47,47 +40,8 @@ TellsOf x o = (b : Attempt) × (o ≡ Some (line.Try b)) × (b.id ≡ x)
 abbrev pub StaysOrTells : ClientPlan → ClientState → Present → Move → Type 0
 StaysOrTells p c a m = StaysAt p c a m ⊎ TellsOf (attempt_id p c a) m.line
 
-next-attempt : (s : Stage) (a : Present) → (next_stage s a).attempt ≡ a.attempt
-next-attempt stage.Skip a = refl
-next-attempt stage.Cond a = refl
-next-attempt stage.Act a = refl
-
-module _ (p : ClientPlan) (c : ClientState) where
-  commits-tells : (a : Present) (ws : List MinorWrite) → StaysOrTells p c a (commits p c a ws)
-  commits-tells a [] = inr (_, refl, refl)
-  commits-tells a (w ∷ ws) = inl (record { b = record a { waits = true }; at = refl; own = refl; untold = refl })
-
-  asks-tells : (a : Present) (snapshot : Bool) (r : Option Read) → StaysOrTells p c a (asks_or_goes p c a snapshot r)
-  asks-tells a snapshot None = inl (record { b = next_stage a.stage a; at = refl; own = ap (λ n. record { client = p.number; command = c.command; attempt = n }) (next-attempt a.stage a); untold = refl })
-  asks-tells a snapshot (Some r) = inl (record { b = record a { waits = true }; at = refl; own = refl; untold = refl })
-
-  op-tells : (a : Present) (ops : List Op) (snapshot : Bool) (o : Option Op) → StaysOrTells p c a (op_moves p c a ops snapshot o)
-  op-tells a ops snapshot None = commits-tells a (minor_writes 0 ops)
-  op-tells a ops snapshot (Some op) = asks-tells a snapshot (question a.stage op)
-
-  run-tells : (a : Present) (ops : List Op) (turns : List ℕ) (snapshot : Bool) (s : Stage) → StaysOrTells p c a (run_moves p c a ops turns snapshot s)
-  run-tells a ops turns snapshot stage.Skip = inl (record { b = next_stage stage.Skip a; at = refl; own = refl; untold = refl })
-  run-tells a ops turns snapshot stage.Cond = op-tells a ops snapshot (slice_get ops a.op)
-  run-tells a ops turns snapshot stage.Act = op-tells a ops snapshot (slice_get ops a.op)
-
-  attempt-tells : (a : Present) (d : Command) → c.present ≡ Some a → StaysOrTells p c a (attempt_moves p c a d)
-  attempt-tells a (command.Run ops turns snapshot) at = run-tells a ops turns (is_some snapshot) a.stage
-  attempt-tells a (command.Snap name cont) at = inl (record { b = record a { waits = true }; at = refl; own = refl; untold = refl })
-  attempt-tells a (command.Aggregate cont) at = inl (record { b = record a { waits = true }; at = refl; own = refl; untold = refl })
-  attempt-tells a (command.Tell n) at = inl (record { b = a; at = at; own = refl; untold = refl })
-  attempt-tells a (command.Skip turns) at = inl (record { b = a; at = at; own = refl; untold = refl })
-
-  moves-tell : (a : Present) (o : Option Command) → c.present ≡ Some a → StaysOrTells p c a (moves_at p c o (Some a))
-  moves-tell a None at = inl (record { b = a; at = at; own = refl; untold = refl })
-  moves-tell a (Some d) at = attempt-tells a d at
-
-  pub moved-tells_of : (a : Present) → c.present ≡ Some a → StaysOrTells p c a (moved p c)
-  unfolding moved
-  moved-tells_of a at = by (waits c)
-    where
-      by : (b : Bool) → StaysOrTells p c a (if b then rests c else moves_at p c (command_at p c) c.present)
-      by true = inl (record { b = a; at = at; own = refl; untold = refl })
-      by false = subst (λ o. StaysOrTells p c a (moves_at p c (command_at p c) o)) (sym at) (moves-tell a (command_at p c) at)
+pub moved-tells_of : (p : ClientPlan) (c : ClientState) (a : Present) → c.present ≡ Some a → StaysOrTells p c a (moved p c)
+moved-tells_of p c a = stays-or p c a (λ m. TellsOf (attempt_id p c a) m.line) (_, refl, refl)
 
 -- ---- hearing
 

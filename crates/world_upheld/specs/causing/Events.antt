@@ -24,7 +24,7 @@ use Rattle.world_base.specs.Stops.{AtWork, CutOf, Further, Happening, Hearing, H
 use Rattle.world_causes.specs.causes.Causes.{Stored, stored_by}
 use Rattle.world_causes.specs.causes.Shown.{Causes, FloorsShown, limit_over}
 use Rattle.world_causes.specs.causes.Turns.{PostShows}
-use Rattle.world_upheld.specs.causing.Following.{posted}
+use Rattle.world_causes.specs.showing.Following.{posted}
 use Rattle.world_upheld.specs.causing.Frames.{IsBounded, IsCutBounded, cut-bounded, whole-bounded}
 use Rattle.world_upheld.specs.causing.Hearing.{making-shows}
 use Rattle.world_upheld.specs.causing.Known.{IsMakingKnown, dated-within}
@@ -38,7 +38,7 @@ use Rattle.world_making.specs.making.Turns.{cuts-leave, hearings-leave}
 use Rattle.world_making.specs.prunings.Floors.{all-events-keep_floors}
 use Rattle.world_causes.specs.restarts.Resting.{is_silent}
 use Rattle.world_causes.specs.showing.Cutting.{work_stored}
-use Rattle.world_causes.specs.showing.Follows.{silent-mute}
+use Rattle.world_causes.specs.showing.Follows.{silent-shows}
 use Rattle.world_letters.specs.snapshots.Events.{event-keeps}
 use Rattle.world_letters.specs.snapshots.Makings.{ComesOf}
 use Rattle.world_commit.specs.statuses.Heard.{is_of_attempts}
@@ -181,17 +181,8 @@ module _ (r : Rules) (o : Opening) (stored : Stored) (w v : World) (K : IsMaking
   lost-shows : (g : TargetCut r w v) (new : Stored) (l : Letter) → Contains v.messages l → Contains w.messages l ⊎ PostShows r o (new ++ stored) v.issued v.lines (posted l)
   lost-shows g new l i = elim (has-cases (filter (is_not_to g.t) w.messages) (resets g.t false w.asked) l (has-from_contains (filter (is_not_to g.t) w.messages ++ resets g.t false w.asked) l (subst (λ u. Contains u.messages l) g.after i))) [
     | inl j ↦ inl (contains-from_has w.messages l (has-from_filter (is_not_to g.t) w.messages l j).0)
-    | inr j ↦ inr (mute (let z = has-from_map (reset_letter false) (filter (is_to g.t) w.asked) l j in ap (λ y. is_silent y.message) (sym z.2)))
+    | inr j ↦ inr (silent-shows r o (new ++ stored) v.issued v.lines l (let z = has-from_map (reset_letter false) (filter (is_to g.t) w.asked) l j in ap (λ y. is_silent y.message) (sym z.2)))
   ]
-    where
-      mute : is_silent l.message ≡ true → PostShows r o (new ++ stored) v.issued v.lines (posted l)
-      mute is = let m = silent-mute l.message is in record {
-        shows = m.stands r o (new ++ stored) v.issued v.lines;
-        told = λ e j. absurd (m.told e j);
-        undecided = λ x y u. absurd (m.undecided x y u);
-        asked = λ x u. absurd (m.asked x u);
-        own = λ x u. absurd (m.ends x u);
-      }
 
   pub cut-keeps : (g : TargetCut r w v) (new : Stored) → ((l : Line) → Has l g.cut.lines → IsTurnLine g.t l) → (g.s.free ≤ g.cut.left.free) × (g.cut.left.durable.lease ≤ limit_over o w.lines w.issued + 1 + 65535)
       × ((x : AttemptId) (e : Epoch) → Contains g.cut.issued (x, e) → e.0 / 256 ≤ limit_over o w.lines (w.issued ++ g.cut.issued)) → Causes r o (new ++ stored) v

@@ -1,25 +1,22 @@
 -- What turns leave in which snapshots are made and containers aggregated: blocks, and leases and ticks within the limit.
-use Rattle.std.specs.Prelude.{ℕ, ◌≡◌, ◌≤◌, ◌+◌, ◌/◌, ◌++◌, Bool, true, false, List, [], ◌∷◌, map, Contains, Option, Some, None, refl, if◌then◌else◌}
+use Rattle.std.specs.Prelude.{ℕ, ◌≡◌, ◌≤◌, ◌+◌, ◌/◌, ◌++◌, List, [], ◌∷◌, Contains, Option, Some, None, refl}
 use Rattle.std.proofs.Common.{inl, inr, sym, ◌∙◌, ap, subst, arith}
 use Rattle.base_types.specs.Epochs.{heard_ticks}
 use Rattle.base_types.specs.declared.entry.Settle.TheVariants.{Commit}
 use Rattle.base_types.specs.declared.epoch.Epoch.{Epoch}
 use Rattle.base_types.specs.declared.id.AttemptId.{AttemptId}
 use Rattle.base_types.specs.declared.id.ContId.{ContId}
-use Rattle.base_types.specs.declared.outcome.FloorWhy.TheVariants.{Snapshot}
 use Rattle.base_types.specs.declared.report.Line.{Line}
 use Rattle.base_messages.specs.declared.actor.ActorId.{ActorId}
 use Rattle.base_messages.specs.declared.message.Message.{Message}
 use Rattle.model_laws.specs.Members.{Has, has-from_contains}
-use Rattle.daos_model.specs.Changes.{created, frozen, marked, new_snap, pruned, raised_at, with_versions}
+use Rattle.daos_model.specs.Changes.{marked, with_versions}
 use Rattle.daos_model.specs.declared.durable.Durable.{Durable}
-use Rattle.daos_model.specs.Durables.{is_frozen, snap_key}
 use Rattle.daos_model.specs.Opening.{Opening}
-use Rattle.daos_model.specs.Ordered.{put}
 use Rattle.world_base.specs.declared.did.Did.{Did}
 use Rattle.world_base.specs.declared.target.TargetMemory.{TargetMemory}
 use Rattle.world_base.specs.declared.target.TargetPlan.{TargetPlan}
-use Rattle.world_base.specs.ChangeLaws.{lease-leased, lease-settled}
+use Rattle.world_base.specs.ChangeLaws.{lease-leased, lease-settled, lease-frozen, lease-created, lease-pruned}
 use Rattle.world_base.specs.Changes.{Change, Creates, Extends, Freezes, IsPartly, Kept, Prepares, Prunes, Settles, Steps, cost}
 use Rattle.world_base.specs.CutTurns.{CutHere, CutTurn, Cutting, InChange, InQuestion, listed_issue}
 use Rattle.world_base.specs.Events.{listed}
@@ -30,27 +27,11 @@ use Rattle.world_causes.specs.causes.Causes.{Dated}
 use Rattle.world_causes.specs.causes.Dates.{heard-within, limit-rises}
 use Rattle.world_causes.specs.causes.Paths.{costs, free-path}
 use Rattle.world_causes.specs.causes.Shown.{limit_over}
-use Rattle.world_upheld.specs.causing.Dating.{lease-near}
+use Rattle.world_causes.specs.causes.Leases.{lease-near}
 use Rattle.world_making.specs.making.Making.{CreatesIt, ExtendsLease, FreezesIt, IsCovered, MakingLeaves, MakingNext, MakingRequest, MakingStage, Passes, PrunesIt, SettlesFirst, asks_making, making_begins, making_issue, making_issues, ticks_then}
 use Rattle.world_making.specs.prunings.Parts.{parts-keep}
 
 -- ---- leases
-
-lease-frozen : (c : ContId) (s : Epoch) (d : Durable) → (frozen c s d).lease ≡ d.lease
-unfolding frozen
-lease-frozen c s d = by (is_frozen d c s)
-  where
-    by : (b : Bool) → (if b then d else record d { conts = map (raised_at c s (Snapshot s)) d.conts; snaps = put snap_key (new_snap c s) d.snaps }).lease ≡ d.lease
-    by true = refl
-    by false = refl
-
-lease-created : (c : ContId) (s : Epoch) (d : Durable) → (created c s d).lease ≡ d.lease
-unfolding created
-lease-created c s d = refl
-
-lease-pruned : (c : ContId) (upto : Epoch) (n : ℕ) (d : Durable) → (pruned c upto n d).lease ≡ d.lease
-unfolding pruned with_versions marked
-lease-pruned c upto n d = refl
 
 lease-partly : (c : ContId) (upto : Epoch) (n : ℕ) (d x : Durable) → IsPartly (Prunes c upto n) d x → x.lease ≡ d.lease
 unfolding with_versions marked

@@ -18,7 +18,7 @@ use Rattle.world_base.specs.declared.request.FetchRequest.{FetchRequest}
 use Rattle.world_base.specs.declared.target.TargetState.{TargetState}
 use Rattle.world_base.specs.declared.world.World.{World}
 use Rattle.world_base.specs.Events as events
-use Rattle.world_base.specs.Events.{ByClient, ByTarget, Rules, ToClient, ToTarget, TargetHears, kept, target_plan, with_epoch}
+use Rattle.world_base.specs.Events.{ByClient, ByTarget, Rules, ToClient, ToTarget, TargetHears, kept, target_plan, rightly}
 use Rattle.world_base.specs.Requests.{fetch_message}
 use Rattle.world_base.specs.Stops.{AtWork, CutOf, Draws, Fails, Further, GivenUp, Happening, Hearing, HearsMore, IdleWork, IsCut, IsInHand, Opens, Plainly, TargetCut, WorldEvent, restart_line, stops_so_far}
 use Rattle.world_causes.specs.causes.Causes.{Dated, Stored, stored_by}
@@ -48,7 +48,6 @@ use Rattle.world_causes.specs.showing.Happening.{stored_in}
 use Rattle.world_causes.specs.showing.Stopping.{failure-keeps, given_up-keeps, numbers-keep, opening-keeps, sweep-keeps}
 use Rattle.world_commit.specs.statuses.Heard.{is_of_attempts}
 use Rattle.world_commit.specs.stops.CutEvents.{IsWithoutSnapshots, is_without_snapshots}
-use Rattle.world_commit.specs.stops.Happenings.{rightly}
 
 -- ---- what is known of what is heard
 

@@ -26,7 +26,7 @@ use Rattle.world_causes.specs.causes.Growth.{blocks-more}
 use Rattle.world_causes.specs.causes.Lasting.{limit-told, message-more, open-more, silent-others}
 use Rattle.world_causes.specs.causes.Shown.{Causes, FloorsShown, MessageStands, limit_over}
 use Rattle.world_causes.specs.causes.Turns.{PostShows}
-use Rattle.world_upheld.specs.causing.Following.{FollowsOn, continues-keep, posted}
+use Rattle.world_causes.specs.showing.Following.{FollowsOn, continues-keep, posted}
 use Rattle.world_letters.specs.epochs.Epochs.{reads_snapshot}
 use Rattle.world_letters.specs.lives.TurnLines.{IsTurnLine}
 use Rattle.world_contents.specs.reads.EventLaws.{at-or-there}

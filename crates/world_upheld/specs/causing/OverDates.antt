@@ -1,6 +1,6 @@
 -- Outcomes show their causes over dates: where epochs of snapshots count as those of the attempts that read there. Every event of a run keeps it, and a run
 -- begins with it.
-use Rattle.std.specs.Prelude.{ℕ, ◌≡◌, ◌≤◌, ◌+◌, ◌/◌, ◌++◌, Bool, true, false, not, List, [], ◌∷◌, filter, Contains, refl, if◌then◌else◌}
+use Rattle.std.specs.Prelude.{ℕ, ◌≡◌, ◌≤◌, ◌+◌, ◌/◌, ◌++◌, Bool, true, false, List, [], ◌∷◌, filter, Contains, refl, if◌then◌else◌}
 use Rattle.std.proofs.Common.{sym, ◌∙◌, ap, subst, arith}
 use Rattle.base_types.specs.declared.epoch.Epoch.{Epoch}
 use Rattle.base_types.specs.declared.id.AttemptId.{AttemptId}
@@ -11,17 +11,16 @@ use Rattle.base_types.specs.declared.report.Attempt.{Attempt}
 use Rattle.base_types.specs.declared.report.Line.{Line}
 use Rattle.base_types.specs.declared.report.Line.TheVariants as line
 use Rattle.daos_model.specs.Opening.{Opening, top}
-use Rattle.model_laws.specs.Lists.{filter-all, none-in}
+use Rattle.model_laws.specs.Lists.{none-in}
 use Rattle.model_laws.specs.Members.{Has}
 use Rattle.world_commit.specs.attempts.History.{History}
 use Rattle.world_base.specs.declared.world.World.{World}
 use Rattle.world_base.specs.Events.{Rules}
 use Rattle.world_base.specs.Stops.{WorldEvent}
-use Rattle.world_causes.specs.causes.CauseLaws.{IsBegun}
 use Rattle.world_causes.specs.causes.Causes.{Dated, ShowsRead, Stored}
 use Rattle.world_causes.specs.causes.Shown.{Causes, OutcomeStands, limit_over}
 use Rattle.world_causes.specs.causes.Storing.{AreApart, dated_ids}
-use Rattle.world_upheld.specs.causing.Begin.{causes-begin}
+use Rattle.world_upheld.specs.causing.Begin.{causes-begin, IsBegun}
 use Rattle.world_upheld.specs.causing.Clients.{ClientsKnown, LossesKnown}
 use Rattle.world_upheld.specs.causing.DateLaws.{epoch-once, events-keep_dates, reads-come_to_count}
 use Rattle.world_upheld.specs.causing.Dates.{AreDates, IsBegunBy, counted_as, is_own_date, is_read_date, issued-own, newly_dated, with_dates}
@@ -43,14 +42,6 @@ pub record CausesOverDates (r : Rules) (o : Opening) (late : ℕ) (stored : Stor
   pub causes : Causes r o stored (with_dates dated w)
   pub refusals : FreezeRefusalsShow r o (with_dates dated w)
   pub readers : AllReadsMeet r dated w
-
--- Where no attempt reads at a snapshot, these are the epochs that were issued; so then outcomes show their causes by those.
-abbrev pub PlainCausesFollow : Type 0
-PlainCausesFollow = (r : Rules) (o : Opening) (late : ℕ) (stored : Stored) (w : World) → ((x : AttemptId) → is_at_snapshot r x ≡ false) → CausesOverDates r o late stored w → Causes r o stored w
-
-pub plain-causes : PlainCausesFollow
-plain-causes r o late stored w plain k =
-    subst (λ is. Causes r o stored (with_dates is w)) (sym (filter-all (is_own_date r) k.dated (λ i j. ap not (plain i.0))) ∙ k.dates.issued) k.causes
 
 -- What asks for a read at a snapshot may count: the same holds where the epoch of the snapshot counts as that of its attempt.
 pub record CountsFor (r : Rules) (o : Opening) (late : ℕ) (stored : Stored) (w : World) (x : AttemptId) (e : Epoch) : Type 0 where

@@ -24,7 +24,7 @@ use Rattle.world_base.specs.declared.world.World.{World}
 use Rattle.world_base.specs.Changes.{Kept}
 use Rattle.world_base.specs.Commits as commit
 use Rattle.world_base.specs.Events as events
-use Rattle.world_base.specs.Events.{ByClient, ByTarget, ClientGoes, ClientHears, Rules, TargetHears, ToClient, ToTarget, kept, target_after, target_plan}
+use Rattle.world_base.specs.Events.{ByClient, ByTarget, Rules, TargetHears, ToClient, ToTarget, kept, target_after, target_plan, rightly}
 use Rattle.world_base.specs.Further.{CommitDown, HearsFurther, IsSpent, IsUnknown, reset_by}
 use Rattle.world_base.specs.MemoryLaws.{ack-leaves, commit-leaves, idle-leaves, mark-leaves, marked-leaves, prepare-leaves, query-leaves}
 use Rattle.world_base.specs.RightTurns.{HearsRightly}
@@ -49,7 +49,6 @@ use Rattle.world_commit.specs.fates.Rightly.{letters-tell}
 use Rattle.world_making.specs.making.Turns.{hearings-leave}
 use Rattle.world_contents.specs.reads.EventLaws.{at-or-there}
 use Rattle.world_commit.specs.statuses.Heard.{is_of_attempts}
-use Rattle.world_commit.specs.stops.Happenings.{rightly}
 
 -- at each target
 abbrev pub AllReadsMeet : Rules → Dated → World → Type 0

@@ -1,8 +1,6 @@
 -- Every event of a run keeps that refusals of Freezes show their causes.
-use Rattle.std.specs.Prelude.{ℕ, ◌≡◌, ◌⊎◌, ◌++◌, Bool, true, false, List, [], ◌∷◌, filter, map, Option, Some, None, refl}
+use Rattle.std.specs.Prelude.{ℕ, ◌≡◌, ◌⊎◌, ◌++◌, Bool, true, false, List, [], ◌∷◌, filter, map, Some, refl}
 use Rattle.std.proofs.Common.{append-nil, append_assoc, sym, ◌∙◌, ap, subst, inl, inr}
-use Rattle.base_types.specs.declared.entry.Entry.{Entry}
-use Rattle.base_types.specs.declared.epoch.Epoch.{Epoch}
 use Rattle.base_types.specs.declared.id.AttemptId.{AttemptId}
 use Rattle.base_types.specs.declared.outcome.Outcome.{Outcome}
 use Rattle.base_types.specs.declared.report.Line.{Line}
@@ -13,35 +11,29 @@ use Rattle.base_messages.specs.declared.message.Message.TheVariants as message
 use Rattle.base_messages.specs.declared.message.Post.{Post}
 use Rattle.model_laws.specs.Members.{Has, contains-from_has, has-cases, has-from_contains, has-from_filter, has-from_map}
 use Rattle.daos_model.specs.Changes.{reopened}
-use Rattle.daos_model.specs.declared.durable.Durable.{Durable}
 use Rattle.daos_model.specs.Opening.{Opening}
-use Rattle.dtx_base.specs.Leading.{is_led, is_open}
-use Rattle.dtx_base.specs.Members.{other_members}
-use Rattle.world_base.specs.declared.client.ClientState.{ClientState}
-use Rattle.world_base.specs.declared.client.Present.{Present}
 use Rattle.world_base.specs.declared.letter.Letter.{Letter}
 use Rattle.world_base.specs.declared.world.World.{World}
-use Rattle.world_base.specs.ClientTurns.{heard, listed, moved, waits}
+use Rattle.world_base.specs.ClientTurns.{heard, listed, moved}
 use Rattle.world_base.specs.Events.{ByClient, ByTarget, Event, Rules, TargetHearsBy, ToClient, ToTarget, client_plan, kept, target_plan, with_epoch}
 use Rattle.world_base.specs.Further.{HearsFurther}
 use Rattle.world_base.specs.Letters.{client, letter_of, letters_of, target}
-use Rattle.world_base.specs.Statuses.{opening_posts, status_to, statuses_for, statuses_of}
+use Rattle.world_base.specs.Statuses.{opening_posts}
 use Rattle.world_base.specs.StepLaws.{by-hearing, by-next}
 use Rattle.world_base.specs.Steps.{KeptByCounting, KeptByHearing, KeptByMoves}
 use Rattle.world_base.specs.Stops.{Draws, Fails, Further, GivenUp, Happening, HearsMore, IsCut, Opens, Plainly, WorldEvent, is_not_to, is_not_to_down, is_to, is_to_down, reset_letter, resets, restart_line, stops_so_far, swept}
 use Rattle.world_causes.specs.causes.Causes.{Dated, Stored}
 use Rattle.world_causes.specs.causes.CommitTurns.{RefusalShows}
 use Rattle.world_causes.specs.causes.Shown.{Causes}
-use Rattle.world_upheld.specs.causing.Answers.{NoneRefuses, further-not, one-not, plainly-not, says_refused}
+use Rattle.world_upheld.specs.causing.Answers.{NoneRefuses, further-not, plainly-not, says_refused}
 use Rattle.world_upheld.specs.causing.Hearing.{answers-show}
 use Rattle.world_upheld.specs.causing.Dates.{newly_dated, with_dates}
 use Rattle.world_upheld.specs.causing.Known.{IsMakingKnown}
 use Rattle.world_upheld.specs.causing.Refusing.{FreezeRefusalsShow, refusal-on}
-use Rattle.world_letters.specs.endings.Clients.{IsQuestion, heard-asks}
+use Rattle.world_letters.specs.endings.Clients.{heard-asks}
 use Rattle.world_letters.specs.lines.EndingLaws.{all-hear-tell, idle-tells}
-use Rattle.world_letters.specs.talks.AskLaws.{move-is, waiting-rests}
-use Rattle.world_letters.specs.talks.Asked.{ARead, ASnapshot, AnAggregation, Asked, Asking, IsMove, ItsWrites, Silent, Telling}
 use Rattle.world_letters.specs.talks.TalkLaws.{left-is-among, taken-is-among}
+use Rattle.world_making.specs.freezings.Unasked.{AreUnasked, is_unasked, move-unasked, opening-unasked, question-unasked}
 
 abbrev pub AllEventsKeepFreezeRefusals : Type 0
 AllEventsKeepFreezeRefusals =
@@ -49,33 +41,13 @@ AllEventsKeepFreezeRefusals =
 
 -- ---- clients
 
-asks-not : (r : Rules) (n : ℕ) (k : Epoch) (c : ClientState) (a : Present) (q : Post) → Asked (client_plan r n) k c a q → says_refused q.message ≡ false
-asks-not r n k c a q (ARead ops turns snapshot op rd at here asks says) = ap (λ x. says_refused x.message) says
-asks-not r n k c a q (ItsWrites ops turns snapshot w ws at last all says) = ap (λ x. says_refused x.message) says
-asks-not r n k c a q (ASnapshot name cont at says) = ap (λ x. says_refused x.message) says
-asks-not r n k c a q (AnAggregation cont at says) = ap (λ x. says_refused x.message) says
-
-move-not : (r : Rules) (n : ℕ) (c : ClientState) → NoneRefuses (listed (moved (client_plan r n) c).post)
-move-not r n c = by (waits c) refl
+-- what is asked refuses none
+unasked-not : (posts : List Post) → AreUnasked posts → NoneRefuses posts
+unasked-not posts asks q i = by q.message (asks q i)
   where
-    none : (o : Option Post) → o ≡ None → NoneRefuses (listed o)
-    none o is q i = absurd (subst (λ z. Has q (listed z)) is i)
-
-    one : (o : Option Post) (q : Post) → o ≡ Some q → says_refused q.message ≡ false → NoneRefuses (listed o)
-    one o q is off = subst (λ z. NoneRefuses (listed z)) (sym is) (one-not q off)
-
-    is-a : IsMove (client_plan r n) c (moved (client_plan r n) c) → NoneRefuses (listed (moved (client_plan r n) c).post)
-    is-a (Silent free nothing) = none _ nothing
-    is-a (Telling m nothing free says) = one _ _ says refl
-    is-a (Asking a q at asked says state) = one _ q says (asks-not r n c.tracker c a q asked)
-
-    by : (b : Bool) → waits c ≡ b → NoneRefuses (listed (moved (client_plan r n) c).post)
-    by true h = none _ (ap (λ m. m.post) (waiting-rests (client_plan r n) c h))
-    by false h = is-a (move-is (client_plan r n) c h)
-
-question-not : (o : Option Post) → IsQuestion o → NoneRefuses (listed o)
-question-not None asks = λ s i. absurd i
-question-not (Some q) asks = one-not q (ap says_refused asks.1)
+    by : (m : Message) → is_unasked m ≡ true → says_refused m ≡ false
+    by (message.Held x refusal) is = let no : ⊥ = cc in absurd no
+    by m is = refl
 
 -- letters that refuse a Freeze are among these
 abbrev RefusalsAreAmong : List Letter → List Letter → Type 0
@@ -92,7 +64,7 @@ module _ (r : Rules) (old : List Letter) where
   Among w = RefusalsAreAmong old w.messages
 
   among-moves : KeptByMoves r Among
-  among-moves w n c here k = posts-among old w.messages (client n) (listed (moved (client_plan r n) c).post) k (move-not r n c)
+  among-moves w n c here k = posts-among old w.messages (client n) (listed (moved (client_plan r n) c).post) k (unasked-not _ (move-unasked r n c))
 
   among-counting : KeptByCounting Among
   among-counting w n m c here k = k
@@ -100,20 +72,9 @@ module _ (r : Rules) (old : List Letter) where
   among-hearing : KeptByHearing r Among
   among-hearing w n c l rest here awake takes to k =
       posts-among old rest (client n) (listed (heard (client_plan r n) c l.message).post) (λ m i is. k m (has-from_contains w.messages m (left-is-among w.messages l rest m takes (contains-from_has rest m i))) is)
-      (question-not _ (heard-asks (client_plan r n) c l.message))
+      (unasked-not _ (question-unasked _ (heard-asks (client_plan r n) c l.message)))
 
 -- ---- openings, and what is lost
-
-statuses-not : (inc : ℕ) (es : List Entry) → NoneRefuses (statuses_for inc es)
-statuses-not inc [] = λ q i. absurd i
-statuses-not inc (e ∷ es) = λ q i. elim (has-cases (statuses_of inc e) (statuses_for inc es) q i) [
-  | inl j ↦ (let z = has-from_map (status_to inc e.attempt) (other_members e) q j in ap (λ x. says_refused x.message) (sym z.2))
-  | inr j ↦ statuses-not inc es q j
-]
-
-opening-not : (r : Rules) (t : ℕ) (d : Durable) → NoneRefuses (opening_posts (target_plan r t) d)
-unfolding opening_posts
-opening-not r t d = statuses-not d.incarnation (filter is_open (filter (is_led t) d.entries))
 
 resets-not : (down : Bool) (qs : List Letter) (l : Letter) → Has l (map (reset_letter down) qs) → says_refused l.message ≡ false
 resets-not down qs l i = let z = has-from_map (reset_letter down) qs l i in ap (λ x. says_refused x.message) (sym z.2)
@@ -202,7 +163,7 @@ module _ (r : Rules) (o : Opening) (stored : Stored) (dated : Dated) (w u : Worl
   happening-goes (Opens g) = record {
     more = restart_line g.number g.t g.s.durable ∷ [];
     lines = ap (λ x. x.lines) g.after;
-    letters = old-letters r o dated w u (subst (λ x. RefusalsAreAmong w.messages x.messages) (sym g.after) (posts-among w.messages w.messages (target g.t) (opening_posts (target_plan r g.t) (reopened g.s.durable)) all-among (opening-not r g.t (reopened g.s.durable))));
+    letters = old-letters r o dated w u (subst (λ x. RefusalsAreAmong w.messages x.messages) (sym g.after) (posts-among w.messages w.messages (target g.t) (opening_posts (target_plan r g.t) (reopened g.s.durable)) all-among (unasked-not _ (opening-unasked r g.t (reopened g.s.durable)))));
   }
   happening-goes (Fails g) = record {
     more = [];

@@ -26,11 +26,9 @@ use Rattle.world_upheld.specs.causing.Known.{IsMakingKnown}
 use Rattle.world_upheld.specs.causing.Places.{Places}
 use Rattle.world_legal.specs.reasons.Accounted.{stored_over}
 use Rattle.world_causes.specs.showing.Happening.{stored_in}
-use Rattle.world_upheld.specs.upheld.Begins.{AreRulesInForm, RunBeginsWell, RunBeginsWith}
+use Rattle.world_upheld.specs.upheld.Begins.{AreRulesInForm, RunBeginsWell, RunBeginsWith, held_at, no_history, AreBefore}
 use Rattle.world_upheld.specs.upheld.Upheld.{Contents, Upheld}
 use Rattle.world_upheld.specs.reasons.Reasons.{Reasons}
-use Rattle.world_plain.specs.whole.Begins.{held_at, no_history}
-use Rattle.world_plain.specs.whole.Everything.{AreBefore}
 
 -- ---- the facts
 

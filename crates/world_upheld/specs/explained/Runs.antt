@@ -11,18 +11,16 @@ use Rattle.world_base.specs.declared.target.TargetState.{TargetState}
 use Rattle.world_base.specs.declared.world.World.{World}
 use Rattle.world_base.specs.Events.{Rules}
 use Rattle.world_base.specs.Stops.{Begins, Goes}
-use Rattle.world_causes.specs.causes.CauseLaws.{IsBegun}
-use Rattle.world_upheld.specs.causing.Begin.{refusals-and_places_begin}
+use Rattle.world_upheld.specs.causing.Begin.{refusals-and_places_begin, IsBegun}
 use Rattle.world_upheld.specs.causing.OverDates.{causes-over_dates_begin, later-reads_issued}
 use Rattle.world_legal.specs.reasons.Accounted.{stored_over}
-use Rattle.world_upheld.specs.upheld.Begins.{RunBeginsWell, client_begins}
+use Rattle.world_upheld.specs.upheld.Begins.{RunBeginsWell, client_begins, held_at, no_history}
 use Rattle.world_upheld.specs.upheld.BeginVersions.{begins-well}
 use Rattle.world_upheld.specs.upheld.Events.{grows-with, later-with}
 use Rattle.world_commit.specs.statuses.Events.{told_by}
 use Rattle.world_upheld.specs.upheld.Runs.{contents-begin, held-first}
 use Rattle.world_upheld.specs.reasons.Reasons.{reasons-begin}
-use Rattle.world_plain.specs.whole.BeginLaws.{get-map}
-use Rattle.world_plain.specs.whole.Begins.{held_at, no_history}
+use Rattle.world_legal.specs.closing.Kept.{get-map}
 use Rattle.world_upheld.specs.explained.Explanations.{AllRunsNameIssuedReads, AllRunsShowCauses, RunsAreExplained, RunsBeginWithExplanations, RunsHaveExplanations}
 use Rattle.world_upheld.specs.explained.Events.{all-events-explain, all-events-keep_explanations}
 

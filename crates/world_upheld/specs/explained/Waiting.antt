@@ -30,9 +30,8 @@ use Rattle.world_causes.specs.causes.Causes.{Dated, MeetsOther, Stored}
 use Rattle.world_causes.specs.causes.Growth.{question-asks}
 use Rattle.world_causes.specs.causes.Premises.{MessageBears}
 use Rattle.world_causes.specs.causes.Shown.{Causes, IsFirstOf, limit_over}
-use Rattle.world_causes.specs.causes.VerdictTurns.{IsAskFit}
 use Rattle.world_upheld.specs.causing.DateLaws.{epoch-once}
-use Rattle.world_upheld.specs.causing.DatedVerdicts.{AsksFor, AtOwnEpoch, AtSnapshot, IsAskRight}
+use Rattle.world_upheld.specs.causing.DatedVerdicts.{AsksFor, AtOwnEpoch, AtSnapshot, IsAskRight, IsAskFit}
 use Rattle.world_upheld.specs.causing.Dates.{counted-up, counted_as, counts-issued, with_dates}
 use Rattle.world_upheld.specs.causing.OverDates.{CausesOverDates}
 use Rattle.world_upheld.specs.causing.SnapshotReads.{IsDatedRead}
@@ -42,7 +41,8 @@ use Rattle.world_letters.specs.epochs.Epochs.{BearsEpoch, Epochs, HasItsEpoch, I
 use Rattle.world_causes.specs.firsts.Firsts.{GoesWith}
 use Rattle.world_making.specs.freezings.Fetching.{AsksOp, waiters-right}
 use Rattle.world_causes.specs.handing.Targets.{question-target}
-use Rattle.world_legal.specs.shown.Parked.{IsHeldFor, held-for, read-sent}
+use Rattle.world_legal.specs.shown.Parked.{read-sent}
+use Rattle.world_standing.specs.standing.Requests.{IsParkedBy, parked-by}
 use Rattle.world_letters.specs.talks.AskLaws.{asked-read}
 use Rattle.world_letters.specs.talks.Asked.{Asked, AsksRead}
 use Rattle.world_upheld.specs.upheld.Begins.{AreRulesInForm}
@@ -83,20 +83,20 @@ module _ (r : Rules) (o : Opening) (h : History) (stored : Stored) (w : World) (
     among : Contains s.memory.member.parked p
     among = contains-from_has s.memory.member.parked p i
 
-    there : IsHeldFor r w t p.ask
+    there : IsParkedBy r w t p.ask
     there = by p.ask refl
       where
         fetch : (x : AttemptId) × (asker p.ask ≡ Some x)
         fetch = let z = heard.questions.waiting t s p here i in (z.of, z.fetch)
 
-        by : (m : Message) → p.ask ≡ m → IsHeldFor r w t p.ask
+        by : (m : Message) → p.ask ≡ m → IsParkedBy r w t p.ask
         by (message.Fetch x op group ep first tracker q snapshot) it =
-            held-for r w t s p x.client heard.talk here i (ap (is_parked_of x.client) (ap (λ m. record p { ask = m }) it) ∙ same_number x.client)
+            parked-by r w t s p x.client heard.talk here i (ap (is_parked_of x.client) (ap (λ m. record p { ask = m }) it) ∙ same_number x.client)
         by m it = let bad : asker m ≡ Some fetch.0 = ap asker (sym it) ∙ fetch.1 in let no : ⊥ = cc in absurd no
 
     -- it is the present attempt's
     record IsAskOf : Type 0 where
-      z : IsHeldFor r w t p.ask
+      z : IsParkedBy r w t p.ask
       f : FetchRequest
       e : Epoch
       to : z.q.to ≡ target t
@@ -106,7 +106,7 @@ module _ (r : Rules) (o : Opening) (h : History) (stored : Stored) (w : World) (
     ask-of : IsAskOf
     ask-of = by there there.holds
       where
-        by : (z : IsHeldFor r w t p.ask) → HoldsIt z.q (ParkedAt t p.ask) → IsAskOf
+        by : (z : IsParkedBy r w t p.ask) → HoldsIt z.q (ParkedAt t p.ask) → IsAskOf
         by z (ARead u ask f e to says own it) = record { z = z; f = f; e = e; to = to; says = says; it = it }
 
     module _ (y : IsAskOf) where

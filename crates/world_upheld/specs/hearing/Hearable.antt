@@ -28,7 +28,7 @@ use Rattle.dtx_base.specs.Members.{is_written_at, writes_at}
 use Rattle.world_commit.specs.attempts.Asked.{IsCommitNew}
 use Rattle.world_commit.specs.attempts.Attempts.{IsOther, entry_at, entry_in, leader_of, writes_of}
 use Rattle.world_commit.specs.attempts.History.{History}
-use Rattle.world_commit.specs.attempts.Overs.{prepare-to}
+use Rattle.world_commit.specs.attempts.Turning.{prepare-to}
 use Rattle.world_base.specs.declared.letter.Letter.{Letter}
 use Rattle.world_base.specs.declared.target.TargetPlan.{TargetPlan}
 use Rattle.world_base.specs.declared.target.TargetState.{TargetState}
@@ -42,7 +42,7 @@ use Rattle.world_letters.specs.epochs.Epochs.{AsksEpoch, IsReadOf}
 use Rattle.world_commit.specs.fates.Asked.{AskedRight}
 use Rattle.world_commit.specs.fates.Facts.{IsPrepareRight, IsSaidSo}
 use Rattle.world_contents.specs.gots.FormLaws.{ops-form, read-declared, write-declared}
-use Rattle.world_standing.specs.hearable.Hearable.{CanHearOn, cont-declared, heard-in_form, leads-within}
+use Rattle.world_standing.specs.hearable.Hearable.{CanHearOn, cont-declared, heard-in_form, leads-within, CanCommit, CanPrepare, CanStore}
 use Rattle.world_standing.specs.hearable.Sent.{AreSentSo, IsSentSo}
 use Rattle.world_making.specs.makers.Makers.{IsPruneRight, IsToldByMaker}
 use Rattle.world_contents.specs.posts.Forms.{IsInForm, IsReadAsked, is_collecting}
@@ -52,11 +52,9 @@ use Rattle.world_contents.specs.reads.Reads.{IsOfAttempt}
 use Rattle.world_letters.specs.snapshots.Makings.{AsksSo, IsAggregationOf, IsSnapIn, IsSo}
 use Rattle.world_letters.specs.waits.Premises.{is_end}
 use Rattle.world_letters.specs.waits.Requests.{is_lost_request, is_request}
-use Rattle.world_plain.specs.whole.Asking.{question-form}
-use Rattle.world_plain.specs.whole.Begins.{AreEnlisted}
-use Rattle.world_plain.specs.whole.Hearable.{CanCommit, CanPrepare, CanStore}
-use Rattle.world_plain.specs.whole.ScriptForm.{writes-declared}
-use Rattle.world_plain.specs.whole.Sharing.{leader-writes, members-below, others-write}
+use Rattle.world_upheld.specs.upheld.Begins.{AreEnlisted}
+use Rattle.world_contents.specs.posts.ScriptForm.{writes-declared, question-form}
+use Rattle.world_legal.specs.closing.Sharing.{leader-writes, members-below, others-write}
 use Rattle.world_upheld.specs.upheld.Dated.{issued-its}
 use Rattle.world_causes.specs.causes.Causes.{Stored}
 use Rattle.world_causes.specs.causes.Storing.{IsPrepareOf}

@@ -1,5 +1,5 @@
 -- What every change leaves where the lease covers it holds of what targets keep, whatever happens, and wherever a turn is cut.
-use Rattle.std.specs.Prelude.{ℕ, ◌≡◌, ◌≤◌, ◌<◌, ◌/◌, Bool, true, false, not, List, slice_get, Option, Some, refl}
+use Rattle.std.specs.Prelude.{ℕ, ◌≡◌, ◌≤◌, ◌<◌, ◌/◌, Bool, true, false, List, slice_get, Option, Some, refl}
 use Rattle.std.proofs.Common.{inl, inr, sym, ◌∙◌, ap, subst, arith}
 use Rattle.std.proofs.Math.ListN.{set}
 use Rattle.base_types.specs.declared.entry.Settle.TheVariants.{Commit}
@@ -9,7 +9,7 @@ use Rattle.base_types.specs.declared.id.ContId.{ContId}
 use Rattle.base_types.specs.declared.report.Line.{Line}
 use Rattle.base_types.specs.Epochs.{lease_for}
 use Rattle.base_messages.specs.declared.actor.ActorId.{ActorId}
-use Rattle.base_messages.specs.declared.message.Message.{Message, more_of-Message}
+use Rattle.base_messages.specs.declared.message.Message.{Message}
 use Rattle.base_messages.specs.declared.message.Message.TheVariants as message
 use Rattle.daos_model.specs.declared.durable.Durable.{Durable}
 use Rattle.world_base.specs.ChangeLaws.{lease-covers}
@@ -24,13 +24,13 @@ use Rattle.world_base.specs.PathLaws.{path-keeps}
 use Rattle.world_base.specs.Roles.{is_prepared}
 use Rattle.world_base.specs.Snapshots.{is_prune_due, prune_limit}
 use Rattle.world_base.specs.Stops.{AtWork, CutOf, Draws, Fails, Further, GivenUp, Happening, Hearing, IdleWork, IsCut, Opens, Plainly, WorldEvent, swept}
-use Rattle.world_making.specs.making.Making.{CreatesIt, ExtendsLease, FreezesIt, IsCovered as IsCoveredNow, IsOfMaking, MakingNext, MakingStage, Passes, PrunesIt, SettlesFirst, is_of_snapshots, making_begins, making_issues}
+use Rattle.world_making.specs.making.Making.{CreatesIt, ExtendsLease, FreezesIt, IsCovered as IsCoveredNow, MakingNext, MakingStage, Passes, PrunesIt, SettlesFirst, making_begins, making_issues}
 use Rattle.world_making.specs.making.Turns.{cuts-leave as making-cuts-leave, hearings-leave}
-use Rattle.world_contents.specs.posts.Forms.{is_collecting}
 use Rattle.world_contents.specs.reads.EventLaws.{at-or-there}
 use Rattle.world_standing.specs.standing.Covering.{AreAll, StaysCovered, cuts-leave, events-keep}
 use Rattle.world_commit.specs.statuses.Heard.{is_of_attempts}
 use Rattle.world_commit.specs.stops.CutEvents.{is_without_snapshots}
+use Rattle.world_making.specs.making.Kinds.{of-making, cut-making}
 
 -- ---- the statements
 
@@ -50,28 +50,6 @@ CutsLeaveWhatStays = (P : Durable → Type 0) → StaysCoveredOn P → (r : Rule
 -- and each event keeps it of what all targets keep
 abbrev pub EventsKeepWhatStays : Type 1
 EventsKeepWhatStays = (P : Durable → Type 0) → StaysCoveredOn P → (r : Rules) (w v : World) → WorldEvent r w v → AreAll P w → AreAll P v
-
--- ---- what is of snapshots
-
-of-making : (m : Message) → is_of_attempts m ≡ false → IsOfMaking m
-of-making (message.Snap x c name tracker) off = refl
-of-making (message.Freeze x c s) off = refl
-of-making (message.Held x refusal) off = refl
-of-making (message.Prune x c tracker e) off = refl
-of-making (message.Reset' by down place (more_of-Message q rest)) off = inner q off
-  where
-    inner : (q : Message) → not (is_collecting q) ≡ false → is_of_snapshots q ≡ true
-    inner (message.Freeze x c s) is = refl
-    inner (message.Prune x c tracker e) is = refl
-    inner q is = let no : ⊥ = cc in absurd no
-of-making m off = let no : ⊥ = cc in absurd no
-
-cut-making : (m : Message) → is_without_snapshots m ≡ false → IsOfMaking m
-cut-making (message.Snap x c name tracker) ours = refl
-cut-making (message.Freeze x c s) ours = refl
-cut-making (message.Held x refusal) ours = refl
-cut-making (message.Prune x c tracker e) ours = refl
-cut-making m ours = let no : ⊥ = cc in absurd no
 
 -- ---- turns
 

@@ -1,7 +1,6 @@
 -- Whatever becomes of a target keeps the order of real time, of the reads that are served besides.
 use Rattle.std.specs.Prelude.{ℕ, ◌≡◌, ◌++◌, Bool, true, false, List, [], ◌∷◌, slice_get, Contains, Option, Some, refl}
 use Rattle.std.proofs.Common.{sym, ◌∙◌, ap, subst, inl, inr}
-use Rattle.std.proofs.lemmas.List.Elements.{Contains-append_left}
 use Rattle.base_types.specs.declared.epoch.Epoch.{Epoch}
 use Rattle.base_types.specs.declared.id.AttemptId.{AttemptId}
 use Rattle.base_types.specs.declared.operation.MinorWrite.{MinorWrite}
@@ -10,12 +9,10 @@ use Rattle.base_messages.specs.declared.message.Message.{Message, more_of-Messag
 use Rattle.base_messages.specs.declared.message.Message.TheVariants as message
 use Rattle.base_messages.specs.declared.message.Post.{Post}
 use Rattle.base_messages.specs.declared.message.Reply.TheVariants as reply
-use Rattle.daos_model.specs.declared.durable.Durable.{Durable}
 use Rattle.daos_model.specs.declared.durable.Version.{Version}
 use Rattle.daos_model.specs.Attempts.{tries}
 use Rattle.daos_model.specs.BoolLaws.{clash}
 use Rattle.daos_model.specs.Opening.{Opening, top}
-use Rattle.dtx_base.specs.declared.member.Parked.{Parked}
 use Rattle.model_laws.specs.Members.{Has, contains-from_has, has-cases, has-left}
 use Rattle.world_commit.specs.attempts.Counting.{has-taken}
 use Rattle.world_commit.specs.attempts.History.{History, Served}
@@ -26,7 +23,7 @@ use Rattle.world_base.specs.declared.target.TargetState.{TargetState}
 use Rattle.world_base.specs.declared.world.World.{World}
 use Rattle.world_base.specs.Changes.{Kept}
 use Rattle.world_base.specs.Commits as commit
-use Rattle.world_base.specs.Events.{ByClient, ByTarget, Rules, TargetHears, TargetHearsRightly, ToClient, ToTarget, kept, listed, target_plan}
+use Rattle.world_base.specs.Events.{ByClient, ByTarget, Rules, TargetHears, TargetHearsRightly, ToClient, ToTarget, kept, target_plan, rightly}
 use Rattle.world_base.specs.Further.{CommitDown, HearsFurther, IsSpent, IsUnknown}
 use Rattle.world_base.specs.Requests.{fetch_message}
 use Rattle.world_base.specs.Statuses.{status_refusal}
@@ -37,11 +34,10 @@ use Rattle.world_letters.specs.epochs.Epochs.{Epochs, IsReadOf}
 use Rattle.world_standing.specs.external.Kept.{AreInOrder, IsServedBehind, IsStoredBehind, served-on, stored-on}
 use Rattle.world_standing.specs.external.Silent.{ack-silent, one-silent}
 use Rattle.world_commit.specs.fates.Rightly.{letters-tell}
-use Rattle.world_making.specs.fates.Sends.{is_sent_in_making, making-sent}
+use Rattle.world_making.specs.fates.Sends.{making-sent, making-silent}
 use Rattle.world_causes.specs.hearing.Going.{AnswersAreServed, Before}
 use Rattle.world_causes.specs.hearing.Listening.{listens}
-use Rattle.world_causes.specs.hearing.Saying.{AsksState, EndsHeld, EndsLost, MarksAgain, MetUnresolved, SaysFurther, TellsState}
-use Rattle.world_making.specs.losses.Events.{of-attempts}
+use Rattle.world_making.specs.making.Kinds.{of-attempts}
 use Rattle.world_making.specs.making.Making.{tells_of_snapshots}
 use Rattle.world_making.specs.making.Turns.{hearings-leave}
 use Rattle.world_upheld.specs.order.Answers.{IsAnswerBehind, answers-lie-behind}
@@ -54,7 +50,8 @@ use Rattle.world_contents.specs.reads.Adds.{AreAnswered, Heard, IsAnswered, IsAs
 use Rattle.world_contents.specs.reads.Given.{IsFetchRight, IsMessageRight, IsParkedRight}
 use Rattle.world_contents.specs.reads.Reads.{IsOfAttempt}
 use Rattle.world_commit.specs.statuses.Heard.{is_of_attempts}
-use Rattle.world_commit.specs.stops.Happenings.{rightly}
+use Rattle.world_causes.specs.hearing.FurtherTurns.{says-silent}
+use Rattle.world_letters.specs.lives.Issued.{issued-on}
 
 -- ---- the statement
 
@@ -93,31 +90,7 @@ TargetsKeepOrder =
 
 -- ---- what is issued stays so
 
-issued-on : (r : Rules) (w u : World) (e : Happening r w u) → IsOfTarget e → (x : AttemptId) (f : Epoch) → Contains w.issued (x, f) → Contains u.issued (x, f)
-issued-on r w u (Plainly (ByClient g) up) ours x f i = absurd ours
-issued-on r w u (Plainly (ToClient g) up) ours x f i = absurd ours
-issued-on r w u (Plainly (ToTarget g) up) ours x f i = subst (λ (z : World). Contains z.issued (x, f)) (sym g.after) (Contains-append_left w.issued (listed g.did.issued) (x, f) i)
-issued-on r w u (Plainly (ByTarget g) up) ours x f i = subst (λ (z : World). Contains z.issued (x, f)) (sym g.after) (Contains-append_left w.issued (listed g.did.issued) (x, f) i)
-issued-on r w u (Further g) ours x f i = subst (λ (z : World). Contains z.issued (x, f)) (sym g.hears.after) (Contains-append_left w.issued (listed g.hears.did.issued) (x, f) i)
-issued-on r w u (IsCut g) ours x f i = subst (λ (z : World). Contains z.issued (x, f)) (sym g.after) (Contains-append_left w.issued g.cut.issued (x, f) i)
-issued-on r w u (Opens g) ours x f i = subst (λ (z : World). Contains z.issued (x, f)) (sym g.after) i
-issued-on r w u (Fails g) ours x f i = subst (λ (z : World). Contains z.issued (x, f)) (sym g.after) i
-issued-on r w u (GivenUp g) ours x f i = subst (λ (z : World). Contains z.issued (x, f)) (sym g.after) i
-issued-on r w u (Draws g) ours x f i = subst (λ (z : World). Contains z.issued (x, f)) (sym g.after) i
-
 -- ---- what comes of stops, snapshots and aggregations answers no read
-
-says-silent : (d : Durable) (parked : List Parked) (m : Message) → SaysFurther d parked m → is_answer m ≡ false
-says-silent d parked m (EndsHeld e how i is) = ap is_answer is
-says-silent d parked m (EndsLost x is) = ap is_answer is
-says-silent d parked m (TellsState x inc how is) = ap is_answer is
-says-silent d parked m (AsksState x inc is) = ap is_answer is
-says-silent d parked m (MarksAgain inc marks is) = ap is_answer is
-says-silent d parked m (MetUnresolved p x op group ep first tracker q snapshot a i asked is) = ap is_answer is
-
-making-silent : (m : Message) → is_sent_in_making m ≡ true → is_answer m ≡ false
-making-silent (message.Fetched x op group own b) sent = let no : ⊥ = cc in absurd no
-making-silent m sent = refl
 
 module _ (r : Rules) (t : ℕ) (s : TargetState) (reading : ℕ) (l : Letter) where
   down-silent : (x : AttemptId) (ep first : Option Epoch) (tracker : Epoch) (ws : List MinorWrite) (stage : commit.CommitStage) (k : Kept) (left : TargetMemory × Did)
@@ -301,17 +274,17 @@ module _ (r : Rules) (o : Opening) (held : ℕ → List Version) (h : History) (
   passes-on later (Plainly (ByClient g) up) ours same also issued = absurd ours
   passes-on later (Plainly (ToClient g) up) ours same also issued = absurd ours
   passes-on later (Plainly (ByTarget g) up) ours same also issued = let e : Happening r w u = Plainly (ByTarget g) up in record
-      { more = []; answered = tt; order = order-then same (issued-on r w u e tt) e [] no-new }
+      { more = []; answered = tt; order = order-then same (issued-on r w u e) e [] no-new }
   passes-on later (IsCut g) ours same also issued = let e : Happening r w u = IsCut g in record
-      { more = []; answered = tt; order = order-then same (issued-on r w u e tt) e [] no-new }
+      { more = []; answered = tt; order = order-then same (issued-on r w u e) e [] no-new }
   passes-on later (Opens g) ours same also issued = let e : Happening r w u = Opens g in record
-      { more = []; answered = tt; order = order-then same (issued-on r w u e tt) e [] no-new }
+      { more = []; answered = tt; order = order-then same (issued-on r w u e) e [] no-new }
   passes-on later (Fails g) ours same also issued = let e : Happening r w u = Fails g in record
-      { more = []; answered = tt; order = order-then same (issued-on r w u e tt) e [] no-new }
+      { more = []; answered = tt; order = order-then same (issued-on r w u e) e [] no-new }
   passes-on later (GivenUp g) ours same also issued = let e : Happening r w u = GivenUp g in record
-      { more = []; answered = tt; order = order-then same (issued-on r w u e tt) e [] no-new }
+      { more = []; answered = tt; order = order-then same (issued-on r w u e) e [] no-new }
   passes-on later (Draws g) ours same also issued = let e : Happening r w u = Draws g in record
-      { more = []; answered = tt; order = order-then same (issued-on r w u e tt) e [] no-new }
+      { more = []; answered = tt; order = order-then same (issued-on r w u e) e [] no-new }
   passes-on later (Further f) ours same also issued =
       let e : Happening r w u = Further f in
       let g = f.hears in
@@ -319,12 +292,12 @@ module _ (r : Rules) (o : Opening) (held : ℕ → List Version) (h : History) (
         more = [];
         answered = none-answered passed g.t g.l.message g.s.memory.member.parked g.did.posts
             (further-silent r g.t g.s g.reading g.l f.number g.new (g.memory, g.did) (tells_of_snapshots g.l.message) refl g.turn);
-        order = order-then same (issued-on r w u e tt) e [] no-new;
+        order = order-then same (issued-on r w u e) e [] no-new;
       }
   passes-on later (Plainly (ToTarget g) up) ours same also issued = record {
     more = c.more;
     answered = answered-so (hearing_rightly g) c.more g.did.posts c.all;
-    order = order-then same (issued-on r w u e tt) e c.more (λ q i. let y = c.each q i in new-read (hearing_rightly g) later.served issued also q y.0 y.1 y.2 y.3);
+    order = order-then same (issued-on r w u e) e c.more (λ q i. let y = c.each q i in new-read (hearing_rightly g) later.served issued also q y.0 y.1 y.2 y.3);
   }
     where
       e : Happening r w u

@@ -41,7 +41,7 @@ use Rattle.world_standing.specs.external.Kept.{IsStoredBehind}
 use Rattle.world_causes.specs.hearing.Going.{Before}
 use Rattle.world_causes.specs.hearing.PlainTurns.{knows}
 use Rattle.world_causes.specs.hearing.Storing.{further-kept, hearing-cut-kept, hears-kept, idle-cut-kept, idle-kept}
-use Rattle.world_making.specs.losses.Events.{of-attempts}
+use Rattle.world_making.specs.making.Kinds.{of-attempts}
 use Rattle.world_making.specs.making.Making.{making_issues, tells_of_snapshots}
 use Rattle.world_making.specs.making.Turns.{cuts-leave, hearings-leave}
 use Rattle.world_upheld.specs.order.Known.{BearsOfWriter, WritersBearFirsts}

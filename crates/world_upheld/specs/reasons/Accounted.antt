@@ -18,9 +18,8 @@ use Rattle.world_causes.specs.stored.Over.{StoringOver}
 use Rattle.world_upheld.specs.stored.Writing.{StoredWrite}
 use Rattle.world_owners.specs.Owners.{AllKeepOwn}
 use Rattle.world_readers.specs.stamps.Stamps.{StampsAreOwn}
-use Rattle.world_upheld.specs.upheld.Begins.{AreRulesInForm, RunBeginsWell}
+use Rattle.world_upheld.specs.upheld.Begins.{AreRulesInForm, RunBeginsWell, no_history}
 use Rattle.world_upheld.specs.upheld.Upheld.{Grounds}
-use Rattle.world_plain.specs.whole.Begins.{no_history}
 
 -- ---- the facts
 

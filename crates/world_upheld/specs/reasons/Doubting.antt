@@ -38,7 +38,7 @@ use Rattle.world_legal.specs.doubts.Turns.{further-own}
 use Rattle.world_letters.specs.lines.FilledLaws.{tries-filled}
 use Rattle.world_letters.specs.lines.Lines.{filled}
 use Rattle.world_causes.specs.losses.ClientHears.{TellsLoss}
-use Rattle.world_making.specs.losses.Events.{of-attempts}
+use Rattle.world_making.specs.making.Kinds.{of-attempts}
 use Rattle.world_making.specs.losses.Tells.{turn-lines-untried}
 use Rattle.world_making.specs.makers.Makers.{MakersTell}
 use Rattle.world_making.specs.making.Making.{IsOfMaking, MakingLeaves, tells_of_snapshots}

@@ -42,7 +42,7 @@ use Rattle.world_upheld.specs.stored.Writing.{StoredWrite}
 use Rattle.world_upheld.specs.upheld.Begins.{AreRulesInForm}
 use Rattle.world_upheld.specs.upheld.Events as stands
 use Rattle.world_upheld.specs.upheld.Upheld.{Grounds}
-use Rattle.world_contents.specs.verdicts.Verdicts.{Agrees}
+use Rattle.world_causes.specs.outcomes.Outcomes.{Agrees}
 use Rattle.world_upheld.specs.reasons.Accounted.{AccountedFor, AllEventsKeepAccounts}
 use Rattle.world_upheld.specs.reasons.Knowing.{all-events-keep_known}
 

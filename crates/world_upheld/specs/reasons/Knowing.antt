@@ -14,7 +14,7 @@ use Rattle.world_base.specs.Stops.{Draws, Fails, Further, GivenUp, Happening, He
 use Rattle.world_commit.specs.fates.Facts.{Attempts}
 use Rattle.world_legal.specs.reasons.Downs.{DownsAreTold, TellsDown}
 use Rattle.world_legal.specs.reasons.Knowing.{DownsAreKnown, happening-known, one-changed}
-use Rattle.world_making.specs.losses.Events.{of-attempts}
+use Rattle.world_making.specs.making.Kinds.{of-attempts}
 use Rattle.world_making.specs.making.Making.{IsOfMaking, MakingLeaves, down_then, tells_of_snapshots}
 use Rattle.world_making.specs.making.Turns.{hearings-leave}
 use Rattle.world_commit.specs.requests.Rows.{CommitsFindNoRow}

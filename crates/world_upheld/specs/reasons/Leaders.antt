@@ -23,11 +23,11 @@ use Rattle.dtx_base.specs.declared.leading.Undecided.{Undecided}
 use Rattle.dtx_base.specs.Leading.{LeaderOf, entry_led, first_down, undecided_of}
 use Rattle.dtx_base.specs.Members.{has_target}
 use Rattle.model_laws.specs.Members.{Has, contains-from_has}
-use Rattle.world_letters.specs.addresses.TurnAddresses.{bit-of}
+use Rattle.world_contents.specs.posts.Members.{bit-of}
 use Rattle.world_commit.specs.attempts.Attempts.{IsOther, entry_in, row_in}
 use Rattle.world_commit.specs.attempts.Asked.{IsCommitNew}
 use Rattle.world_commit.specs.attempts.History.{History}
-use Rattle.world_commit.specs.attempts.MarkTurns.{led-found}
+use Rattle.world_commit.specs.attempts.Stored.{led-found}
 use Rattle.world_base.specs.declared.letter.Letter.{Letter}
 use Rattle.world_base.specs.declared.request.CommitRequest.{CommitRequest}
 use Rattle.world_base.specs.declared.target.TargetState.{TargetState}
@@ -42,7 +42,7 @@ use Rattle.world_causes.specs.causes.Causes.{Dated, Stored, epochs_told}
 use Rattle.world_causes.specs.causes.Lasting.{refusal-shows}
 use Rattle.world_causes.specs.causes.MemberTurns.{IsAck}
 use Rattle.world_causes.specs.causes.ReadTurns.{none-told}
-use Rattle.world_causes.specs.causes.Requests.{found-row}
+use Rattle.world_upheld.specs.reasons.Asked.{found-row}
 use Rattle.world_causes.specs.causes.Shown.{Causes, MeetsUnresolved, MessageStands, OutcomeStands, limit_over}
 use Rattle.world_letters.specs.epochs.Epochs.{IsPresent}
 use Rattle.world_commit.specs.fates.Facts.{IsAskedSo, IsSaidSo}

@@ -16,9 +16,8 @@ use Rattle.world_legal.specs.doubts.Events.{doubts-begin}
 use Rattle.world_legal.specs.doubts.Laws.{IsBeside}
 use Rattle.world_legal.specs.reasons.Accounted.{stored_over}
 use Rattle.world_causes.specs.showing.Happening.{stored_in}
-use Rattle.world_upheld.specs.upheld.Begins.{AreRulesInForm, RunBeginsWell}
+use Rattle.world_upheld.specs.upheld.Begins.{AreRulesInForm, RunBeginsWell, no_history}
 use Rattle.world_upheld.specs.upheld.Events as stands
-use Rattle.world_plain.specs.whole.Begins.{no_history}
 use Rattle.world_upheld.specs.reasons.Accounted.{AccountedFor}
 use Rattle.world_upheld.specs.reasons.Doubting.{all-events-keep_doubts}
 use Rattle.world_upheld.specs.reasons.Events.{accounted-then}

@@ -38,7 +38,8 @@ use Rattle.world_causes.specs.causes.Growth.{question-asks}
 use Rattle.world_causes.specs.causes.Premises.{IsRequest}
 use Rattle.world_causes.specs.causes.PrepareTurns.{IsPrepare}
 use Rattle.world_causes.specs.causes.ReadTurns.{IsFetch}
-use Rattle.world_causes.specs.causes.Requests.{leader-holds, prepare-to, prepared-blocks}
+use Rattle.world_upheld.specs.reasons.Asked.{leader-holds, prepared-blocks}
+use Rattle.world_commit.specs.attempts.Turning.{prepare-to}
 use Rattle.world_causes.specs.causes.Shown.{Causes, IsFirstOf, limit_over}
 use Rattle.world_letters.specs.clients.Snapshots.{is_at_snapshot}
 use Rattle.world_letters.specs.epochs.Asking.{ops-at}
@@ -56,7 +57,7 @@ use Rattle.world_upheld.specs.reasons.Counting.{CountAsDates, first-counts}
 use Rattle.world_legal.specs.reasons.Requests.{request-asked}
 use Rattle.world_letters.specs.talks.AskLaws.{asked-commit, asked-read}
 use Rattle.world_letters.specs.talks.Asked.{AsksCommit, AsksRead, commit_of}
-use Rattle.world_letters.specs.talks.InFlight.{HearsRequest}
+use Rattle.world_letters.specs.talks.Conversation.{HearsRequest}
 use Rattle.world_letters.specs.talks.TalkLaws.{taken-from}
 use Rattle.world_upheld.specs.upheld.Begins.{AreRulesInForm}
 use Rattle.world_upheld.specs.upheld.Heard.{HeardGrounds}
@@ -306,7 +307,7 @@ module _ (r : Rules) (o : Opening) (h : History) (stored : Stored) (w : World) (
     its = λ m j. (has-from_filter (members.is_written_at r.script.targets so.way.member) (writes_of r q.entry.attempt) m (subst (Has m) so.writes j)).0;
     need = ap blocks so.writes ∙ ap (λ u. blocks (members.writes_at r.script.targets u (writes_of r q.entry.attempt))) member-is ∙ prepared-blocks r q.entry.attempt t other;
     unstored =
-        ap (λ y. entry_in y q.entry.attempt) (sym here) ∙ (heard.attempts.on.each q.entry.attempt).awaited.before t l i (prepare-to l t q.entry q.first q.writes q.inc to is);
+        ap (λ y. entry_in y q.entry.attempt) (sym here) ∙ (heard.attempts.on.each q.entry.attempt).awaited.before t l i (prepare-to l t q.entry q.first q.writes q.inc is to);
     target = λ floor cont reason shown. other-is_target r q.entry.attempt t other;
   }
     where

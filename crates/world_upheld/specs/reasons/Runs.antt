@@ -18,10 +18,9 @@ use Rattle.world_causes.specs.losses.Beginning.{losses-begin}
 use Rattle.world_making.specs.losses.RefusalEvents.{freeze-refusals-begin}
 use Rattle.world_causes.specs.stored.Happening.{storing-begins}
 use Rattle.world_upheld.specs.stored.Events.{stored-writes-began}
-use Rattle.world_upheld.specs.upheld.Begins.{AreRulesInForm, RunBeginsWell}
+use Rattle.world_upheld.specs.upheld.Begins.{AreRulesInForm, RunBeginsWell, no_history}
 use Rattle.world_upheld.specs.upheld.Events.{grows-with, later-with}
 use Rattle.world_upheld.specs.upheld.Runs.{grounds-begin, no-tries}
-use Rattle.world_plain.specs.whole.Begins.{no_history}
 use Rattle.world_upheld.specs.reasons.Accounted.{AccountedFor, RunsAreAccountedFor, RunsBeginAccountedFor}
 use Rattle.world_upheld.specs.reasons.Events.{all-events-keep_accounts}
 

@@ -35,12 +35,11 @@ use Rattle.world_letters.specs.lines.LineLaws.{lines-by-counting, lines-by-moves
 use Rattle.world_letters.specs.lines.Lines.{Endings, Lines}
 use Rattle.world_causes.specs.outcomes.ClientLaws as outcomes
 use Rattle.world_causes.specs.outcomes.HearLaws as heard_outcomes
-use Rattle.world_causes.specs.outcomes.Outcomes.{IsEndTrue, IsHandedOver, Outcomes, commits}
+use Rattle.world_causes.specs.outcomes.Outcomes.{IsEndTrue, IsHandedOver, Outcomes, commits, Agrees}
 use Rattle.world_standing.specs.standing.Clients.{lines-heard}
 use Rattle.world_causes.specs.stored.Over.{StoringOver}
 use Rattle.world_letters.specs.talks.TalkLaws.{left-is-among, taken-is-among}
-use Rattle.world_contents.specs.verdicts.TellLaws.{AllRead, MoveTells, NoSnap, Nothing, moved-tells}
-use Rattle.world_contents.specs.verdicts.Verdicts.{Agrees}
+use Rattle.world_causes.specs.outcomes.TellLaws.{AllRead, MoveTells, NoSnap, Nothing, moved-tells}
 use Rattle.world_letters.specs.waits.Waits.{Conversation}
 
 -- What is known before a client does something: what goes about for clients, what ends attempts, what lines tell, what is told of how attempts

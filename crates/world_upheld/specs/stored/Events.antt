@@ -4,14 +4,13 @@ use Rattle.std.proofs.Common.{sym, subst, inl, inr}
 use Rattle.world_commit.specs.attempts.Counting.{has-taken}
 use Rattle.world_commit.specs.attempts.History.{History}
 use Rattle.world_base.specs.declared.world.World.{World}
-use Rattle.world_base.specs.Events.{ByClient, ByTarget, Rules, ToClient, ToTarget}
+use Rattle.world_base.specs.Events.{ByClient, ByTarget, Rules, ToClient, ToTarget, rightly}
 use Rattle.world_base.specs.Stops.{Draws, Fails, Further, GivenUp, Happening, HearsMore, IsCut, Opens, Plainly}
 use Rattle.world_causes.specs.causes.Causes.{Stored, stored_by}
 use Rattle.world_commit.specs.fates.Rightly.{letters-tell}
-use Rattle.world_making.specs.losses.Events.{of-attempts}
+use Rattle.world_making.specs.making.Kinds.{of-attempts}
 use Rattle.world_making.specs.making.Making.{tells_of_snapshots}
 use Rattle.world_causes.specs.showing.Happening.{stored_in}
-use Rattle.world_commit.specs.stops.Happenings.{rightly}
 use Rattle.world_causes.specs.stored.Cutting.{cut-over}
 use Rattle.world_causes.specs.stored.Further.{further-over}
 use Rattle.world_causes.specs.stored.Over.{IsStoringKnown, StoringOver}

@@ -23,7 +23,7 @@ use Rattle.world_making.specs.fates.Sends.{is_sent_in_making}
 use Rattle.world_making.specs.makers.Makers.{IsMaker, IsToldByMaker}
 use Rattle.world_making.specs.making.Making.{AsksAgain, AsksFreezes, AsksPrunes, EndsCollected, EndsIt, MakingSends, SaysFrozen, SaysNothing, SaysPruned, SaysRefused, is_asked_for, is_lost_at, is_told_of}
 use Rattle.world_letters.specs.snapshots.Makings.{IsSo}
-use Rattle.world_contents.specs.verdicts.Verdicts.{HasWrites}
+use Rattle.world_causes.specs.outcomes.Outcomes.{HasWrites}
 
 -- such an attempt has no operations
 pub maker-writes-none : (r : Rules) (x : AttemptId) → IsMaker r x → HasWrites r x → ⊥

@@ -34,7 +34,7 @@ use Rattle.world_causes.specs.showing.CutTurns.{stored_if}
 use Rattle.world_causes.specs.showing.Happening.{stored_in}
 use Rattle.world_causes.specs.causes.StoreTurns.{IsCommitOf}
 use Rattle.world_causes.specs.causes.Storing.{IsPrepareOf}
-use Rattle.world_contents.specs.verdicts.Verdicts.{HasWrites}
+use Rattle.world_causes.specs.outcomes.Outcomes.{HasWrites}
 
 -- it is so of each that is stored somewhere
 abbrev pub StoredWrite : Rules → Stored → Type 0

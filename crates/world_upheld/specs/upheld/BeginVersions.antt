@@ -24,9 +24,8 @@ use Rattle.world_base.specs.Events.{Rules}
 use Rattle.world_commit.specs.attempts.History.{is_decided}
 use Rattle.world_contents.specs.reads.Transactions.{counts_by, transactions}
 use Rattle.world_contents.specs.reads.Versions.{VersionsStand, is_own_in}
-use Rattle.world_plain.specs.whole.BeginLaws.{stand-begins}
-use Rattle.world_plain.specs.whole.Begins.{OpensWith, no_history}
-use Rattle.world_upheld.specs.upheld.Begins.{KeepsSnapshots, KeepsWell, RunBeginsWell, RunBeginsWith, is_settled_version}
+use Rattle.world_upheld.specs.upheld.BeginStands.{stand-begins}
+use Rattle.world_upheld.specs.upheld.Begins.{KeepsSnapshots, KeepsWell, RunBeginsWell, RunBeginsWith, is_settled_version, OpensWith, no_history}
 
 -- without its snapshots it keeps the same rows
 pub same-row : (d : Durable) (c : ContId) → row_of (record d { snaps = [] }) c ≡ row_of d c

@@ -8,7 +8,7 @@ use Rattle.base_types.specs.Scripts.{IsInForm as IsScriptInForm}
 use Rattle.daos_model.specs.declared.cell.CellValue.{CellValue}
 use Rattle.daos_model.specs.declared.durable.Durable.{Durable}
 use Rattle.daos_model.specs.declared.durable.Version.{Version}
-use Rattle.daos_model.specs.Durables.{IsInForm, row_of}
+use Rattle.daos_model.specs.Durables.{IsInForm, row_of, is_enlisted}
 use Rattle.daos_model.specs.Opening.{Opening, kept_map, top}
 use Rattle.world_base.specs.declared.client.ClientState.{ClientState}
 use Rattle.world_base.specs.declared.target.Life.TheVariants.{Running}
@@ -19,7 +19,74 @@ use Rattle.world_base.specs.Events.{Rules}
 use Rattle.world_making.specs.freezings.Freezings.{KeepsFrozen}
 use Rattle.world_making.specs.making.Snapshots.{holds_created}
 use Rattle.world_contents.specs.reads.Versions.{HoldsMap, is_own_in}
-use Rattle.world_plain.specs.whole.Begins.{AreEnlisted, StartsWith, first_tracker, no_joining, no_leading}
+use Rattle.model_laws.specs.Targets.{ArePlaced, is_own}
+use Rattle.model_laws.specs.Dated.{AreSingleInOrder}
+use Rattle.daos_model.specs.declared.cell.Cell.{Cell}
+use Rattle.world_commit.specs.attempts.History.{History}
+use Rattle.dtx_base.specs.declared.leading.LeaderMemory.{LeaderMemory}
+use Rattle.dtx_base.specs.declared.member.MemberMemory.{MemberMemory}
+use Rattle.base_types.specs.declared.script.Script.{Script}
+use Rattle.world_standing.specs.hearable.Hearable.{declared_conts}
+use Rattle.daos_model.specs.Effect.{effects}
+use Rattle.daos_model.specs.Cells.{value_at}
+use Rattle.daos_model.specs.Versions.{writes_in}
+
+-- the opening's versions are of before the run
+abbrev pub AreBefore : Opening → (ℕ → List Version) → Type 0
+AreBefore o held = (t : ℕ) (z : Version) → Contains (held t) z → z.epoch.0 ≤ top o
+
+-- What a target of so many keeps when a run begins: nothing is left to settle, no snapshot is held, no epoch is above the opening's
+-- top, and its versions give what the opening stands for at its own cells.
+pub record OpensWith (targets t : ℕ) (o : Opening) (d : Durable) : Type 0 where
+  pub form : IsInForm d
+  pub single : AreSingleInOrder d.versions
+  pub placed : ArePlaced targets t d.versions
+  pub done : (v : Version) → Contains d.versions v → v.done ≡ true
+  pub entries : d.entries ≡ []
+  pub snaps : d.snaps ≡ []
+  pub lease : d.lease ≤ o.lease
+  pub covered : (v : Version) → Contains d.versions v → (v.epoch.0 ≤ top o) × (v.epoch.0 / 256 ≤ d.lease)
+  pub floors : (cont : ContId) → ((row_of d cont).floor.0 ≤ top o) × ((row_of d cont).aggregated.0 ≤ top o)
+  pub stands : (c : Cell) → is_own targets t c ≡ true → value_at (effects (writes_in d.versions) []) c ≡ value_at o.stand.now c
+
+-- each of them is known where this is kept
+abbrev pub AreEnlisted : Script → Durable → Type 0
+AreEnlisted s d = (c : ContId) → Contains (declared_conts s) c → is_enlisted d c ≡ true
+
+-- what a target knows that has just opened a store without entries: it leads nothing, no Fetch waits, and nothing was asked
+abbrev pub no_leading : LeaderMemory
+no_leading = record { undecided = []; decided = []; named = []; down = 0 }
+
+abbrev pub no_joining : MemberMemory
+no_joining = record { parked = []; inquiries = [] }
+
+-- a target of so many that runs, and has heard nothing yet
+pub record StartsWith (targets t : ℕ) (o : Opening) (s : TargetState) : Type 0 where
+  pub opens : OpensWith targets t o s.durable
+  pub free : o.free t ≤ s.free
+  pub floor : s.opening.0.0 ≤ top o
+  pub runs : s.life ≡ Running
+  pub ticks : s.memory.ticks ≤ o.lease
+  pub stamps : s.memory.stamps ≡ []
+  pub leader : s.memory.leader ≡ no_leading
+  pub member : s.memory.member ≡ no_joining
+  pub collecting : s.memory.collecting ≡ []
+
+-- the tracker of each client covers all epochs of the opening
+abbrev pub first_tracker : Opening → Epoch
+first_tracker o = record { 0 = top o }
+
+-- nothing was decided, nothing aborted, and nothing served
+abbrev pub no_history : History
+no_history = record { decided = []; aborted = []; served = [] }
+
+-- the versions that the targets of a world keep
+abbrev pub versions_in : Option TargetState → List Version
+versions_in None = []
+versions_in (Some s) = s.durable.versions
+
+abbrev pub held_at : World → ℕ → List Version
+held_at w t = versions_in (slice_get w.targets t)
 
 -- ---- the rules
 

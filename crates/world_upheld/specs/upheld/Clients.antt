@@ -15,7 +15,7 @@ use Rattle.world_making.specs.dates.Going.{moved-dates}
 use Rattle.world_making.specs.dates.Heard.{heard-dates}
 use Rattle.world_making.specs.dates.Moves.{quiet-same}
 use Rattle.world_letters.specs.endings.Events as ending
-use Rattle.world_letters.specs.epochs.Epochs.{IsEpochOf, IsIssued, IsOwn, IsSeen}
+use Rattle.world_letters.specs.epochs.Epochs.{IsEpochOf, IsIssued, IsOwn, IsSeen, ClientsStand}
 use Rattle.world_letters.specs.epochs.Talking.{silent-unless}
 use Rattle.world_causes.specs.handing.Fitting.{hears-fitly}
 use Rattle.world_causes.specs.hearing.HappeningEpochs.{talks-once}
@@ -24,9 +24,14 @@ use Rattle.world_letters.specs.lines.LineLaws.{lines-by-counting, lines-by-moves
 use Rattle.world_causes.specs.outcomes.ClientLaws as outcome
 use Rattle.world_causes.specs.outcomes.HearLaws as outcome_heard
 use Rattle.world_standing.specs.standing.Clients.{ClientsSpeak, lines-heard}
-use Rattle.world_contents.specs.verdicts.Verdicts.{Agrees}
+use Rattle.world_causes.specs.outcomes.Outcomes.{Agrees}
 use Rattle.world_letters.specs.waits.ClientLaws as wait
-use Rattle.world_plain.specs.whole.Judged.{lines-stand}
+use Rattle.world_letters.specs.lines.Lines.{Lines}
+use Rattle.world_causes.specs.outcomes.TurnLaws.{told-of}
+
+-- each client is at the command of its number
+pub lines-stand : (r : Rules) (w : World) → Lines r w → ClientsStand r w
+lines-stand r w k n c here = told-of r w n c k here
 
 module _ (r : Rules) (top : ℕ) (h : History) (some : 0 < r.attempts) where
   -- the epoch that a client knows of its attempt is that of its decision: what reads at a snapshot isn't decided

@@ -21,10 +21,13 @@ use Rattle.world_base.specs.Events.{Rules}
 use Rattle.world_base.specs.Stops.{Begins, Goes, WorldEvent, WorldRun}
 use Rattle.world_contents.specs.frozen.Rows.{of-marked_at, of-raised_at}
 use Rattle.world_making.specs.making.Leaving.{IsThereStill, event-left}
-use Rattle.world_plain.specs.whole.Begins.{AreEnlisted}
-use Rattle.world_plain.specs.whole.Whole.{enlisted-same}
-use Rattle.world_upheld.specs.upheld.Begins.{RunBeginsWell}
+use Rattle.world_upheld.specs.upheld.Begins.{RunBeginsWell, AreEnlisted}
 use Rattle.world_upheld.specs.upheld.Events.{event-many}
+
+-- what is enlisted depends on the containers alone
+pub enlisted-same : (d e : Durable) (c : ContId) → e.conts ≡ d.conts → is_enlisted d c ≡ true → is_enlisted e c ≡ true
+unfolding is_enlisted
+enlisted-same d e c same is = ap (list_any (is_row_of c)) same ∙ is
 
 -- ---- the statements
 

@@ -13,7 +13,13 @@ use Rattle.world_base.specs.Requests.{request_epoch}
 use Rattle.world_letters.specs.epochs.Epochs.{Epochs, IsIssued}
 use Rattle.world_letters.specs.epochs.TargetEvents.{issued-ticks}
 use Rattle.world_contents.specs.reads.Given.{HasItsEpoch, IsItsEpoch}
-use Rattle.world_plain.specs.whole.Asking.{same-epoch}
+
+epoch_of : ℕ → Epoch
+epoch_of n = record { 0 = n }
+
+pub same-epoch : (e f : Epoch) → e.0 ≡ f.0 → e ≡ f
+unfolding epoch_of
+same-epoch e f h = ap epoch_of h
 
 module _ (r : Rules) (o : Opening) (w : World) (E : Epochs r (top o) w) where
   -- one that was issued

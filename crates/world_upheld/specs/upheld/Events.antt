@@ -50,7 +50,6 @@ use Rattle.world_commit.specs.statuses.SenderLaws.{senders-stay}
 use Rattle.world_letters.specs.waits.Happenings as wait
 use Rattle.world_letters.specs.waits.Premises.{LeadersKnow, RequestsAreOfClients}
 use Rattle.world_letters.specs.waits.Waits.{Conversation}
-use Rattle.world_plain.specs.whole.Everything.{AreBefore}
 use Rattle.world_upheld.specs.upheld.Clients.{client-goes, client-hears}
 use Rattle.world_upheld.specs.upheld.Heard.{HeardGrounds, all-heard_right}
 use Rattle.world_upheld.specs.upheld.Telling.{all-targets_tell}
@@ -58,6 +57,7 @@ use Rattle.world_contents.specs.reads.Given.{Given}
 use Rattle.world_contents.specs.reads.Growing.{committed_in, grown}
 use Rattle.world_contents.specs.reads.GrowLaws.{grown-grows}
 use Rattle.world_upheld.specs.upheld.Upheld.{AllEventsKeepGrounds, AllEventsUphold, Contents, Grounds, GroundsGoOn, IsUpheldStill}
+use Rattle.world_upheld.specs.upheld.Begins.{AreBefore}
 
 -- ---- lines, and what is told of ends
 

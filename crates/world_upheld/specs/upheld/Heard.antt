@@ -1,7 +1,7 @@
 -- What a target hears is right, whatever a run does: a read is what its client asks of that target, and at a snapshot one that is frozen there;
 -- and writes are those of the attempt.
-use Rattle.std.specs.Prelude.{ℕ, ◌≡◌, ◌≤◌, Bool, true, false, length, List, map, find, slice_get, Contains, Option, Some, None, is_some, refl}
-use Rattle.std.proofs.Common.{sym, ◌∙◌, ap, subst}
+use Rattle.std.specs.Prelude.{ℕ, ◌≡◌, ◌≤◌, Bool, true, false, length, List, map, find, slice_get, Contains, Option, Some, None, is_some, refl, [], ◌∷◌}
+use Rattle.std.proofs.Common.{sym, ◌∙◌, ap, subst, inl, inr}
 use Rattle.base_types.specs.declared.answer.Answer.TheVariants.{Absent}
 use Rattle.base_types.specs.declared.epoch.Epoch.{Epoch}
 use Rattle.base_types.specs.declared.id.AttemptId.{AttemptId}
@@ -53,16 +53,21 @@ use Rattle.world_letters.specs.snapshots.Makings.{IsSnapOf, Makings}
 use Rattle.world_standing.specs.standing.Requests.{IsParkedBy, parked-by, read-asked, writes-asked}
 use Rattle.world_letters.specs.talks.AskLaws.{asked-commit}
 use Rattle.world_letters.specs.talks.Asked.{Asked, commit_of}
-use Rattle.world_letters.specs.talks.Carriers.{is_fetch_of}
+use Rattle.world_letters.specs.talks.Conversation.{is_fetch_of}
 use Rattle.world_letters.specs.waits.Premises.{RequestsAreOfClients}
 use Rattle.world_letters.specs.waits.Requests.{is_request}
 use Rattle.world_letters.specs.waits.Waits.{ARead, Conversation, HoldsIt, ParkedAt}
-use Rattle.world_plain.specs.whole.Asking.{same-epoch, takes-one, writes-fit}
-use Rattle.world_plain.specs.whole.Everything.{AreBefore}
-use Rattle.world_plain.specs.whole.ScriptForm.{ops-few, writes-in-form}
-use Rattle.world_upheld.specs.upheld.Dated.{issued-its, request-its}
+use Rattle.world_upheld.specs.upheld.Begins.{AreBefore}
+use Rattle.world_contents.specs.posts.ScriptForm.{ops-few, writes-in-form, writes-fit}
+use Rattle.world_upheld.specs.upheld.Dated.{issued-its, request-its, same-epoch}
 use Rattle.world_upheld.specs.upheld.Named.{made-named, script_snaps, old-named, one-cont, never-both, read-named}
 use Rattle.world_upheld.specs.upheld.Reading.{read-right}
+
+-- one of the letters in flight can be taken
+pub takes-one : (letters : List Letter) (l : Letter) → Has l letters → (rest : List Letter) × Takes letters l rest
+takes-one [] l i = absurd i
+takes-one (m ∷ ms) l (inl same) = (ms, record { before = []; after = ms; among = ap (λ z. z ∷ ms) (sym same); left = refl })
+takes-one (m ∷ ms) l (inr i) = let t = takes-one ms l i in (m ∷ t.0, record { before = m ∷ t.1.before; after = t.1.after; among = ap (λ z. m ∷ z) t.1.among; left = ap (λ z. m ∷ z) t.1.left })
 
 -- ---- what this stands on
 

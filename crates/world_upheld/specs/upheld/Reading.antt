@@ -33,9 +33,21 @@ use Rattle.world_causes.specs.handing.Groups.{ClientsAskWithin, IsWithin}
 use Rattle.world_contents.specs.reads.Given.{IsFetchRight}
 use Rattle.world_letters.specs.talks.AskLaws.{asked-read}
 use Rattle.world_letters.specs.talks.Asked.{ARead, ASnapshot, AnAggregation, Asked, AsksRead, ItsWrites, group_of_read}
-use Rattle.world_contents.specs.verdicts.TurnLaws.{attempt-ops-here}
-use Rattle.world_plain.specs.whole.Asking.{ReadIsAsked, question-form}
-use Rattle.world_plain.specs.whole.ScriptForm.{read-in-form}
+use Rattle.world_causes.specs.outcomes.TurnLaws.{attempt-ops-here}
+use Rattle.world_contents.specs.posts.ScriptForm.{read-in-form, question-form}
+
+-- what a present attempt of a client that waits has asked of a target
+pub record ReadIsAsked (r : Rules) (w : World) (t : ℕ) (f : FetchRequest) : Type 0 where
+  pub n : ℕ
+  pub c : ClientState
+  pub a : Present
+  pub here : slice_get w.clients n ≡ Some c
+  pub present : c.present ≡ Some a
+  pub k : Epoch
+  pub q : Post
+  pub asked : Asked (client_plan r n) k c a q
+  pub says : q.message ≡ fetch_message f
+  pub to : q.to ≡ target t
 
 -- the group of a read is one of its object
 group-within : (obj : ObjId) (path : Path) (targets n : ℕ) → path.obj ≡ Some obj → ClassFits obj.class targets → (n ≡ 0) ⊎ (n < group_count path.obj path.dkey targets)

@@ -49,12 +49,10 @@ use Rattle.world_letters.specs.snapshots.Events.{makings-begin}
 use Rattle.world_letters.specs.waits.Events.{conversations-begin}
 use Rattle.world_letters.specs.waits.Premises.{WaitersAreClients}
 use Rattle.world_letters.specs.waits.Waits.{HoldsNothing}
-use Rattle.world_plain.specs.whole.BeginLaws.{get-map}
-use Rattle.world_plain.specs.whole.Begins.{held_at, no_history, versions_in}
-use Rattle.world_plain.specs.whole.Everything.{AreBefore}
-use Rattle.world_plain.specs.whole.Judged.{lines-stand}
+use Rattle.world_legal.specs.closing.Kept.{get-map}
+use Rattle.world_upheld.specs.upheld.Clients.{lines-stand}
 use Rattle.world_upheld.specs.upheld.BeginKnown.{known-first}
-use Rattle.world_upheld.specs.upheld.Begins.{AreRulesInForm, RunBeginsWell, RunBeginsWith, StartsWell, client_begins}
+use Rattle.world_upheld.specs.upheld.Begins.{AreRulesInForm, RunBeginsWell, RunBeginsWith, StartsWell, client_begins, held_at, no_history, versions_in, AreBefore}
 use Rattle.world_upheld.specs.upheld.BeginVersions.{begins-well, frozen-before, versions-stand_first}
 use Rattle.world_upheld.specs.upheld.Events.{all-events-uphold, grounds-go_on}
 use Rattle.world_upheld.specs.upheld.Heard.{HeardGrounds, all-heard_right}

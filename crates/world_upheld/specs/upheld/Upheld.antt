@@ -22,8 +22,8 @@ use Rattle.world_contents.specs.reads.Versions.{Versions}
 use Rattle.world_commit.specs.requests.Rows.{RowsStandOnce}
 use Rattle.world_commit.specs.statuses.Events.{told_by}
 use Rattle.world_commit.specs.statuses.Senders.{SendersAreRight}
-use Rattle.world_plain.specs.whole.Everything.{AreBefore}
 use Rattle.world_upheld.specs.upheld.Heard.{HeardGrounds}
+use Rattle.world_upheld.specs.upheld.Begins.{AreBefore}
 
 -- ---- whatever targets kept when the run began
 

@@ -4,7 +4,7 @@ use Rattle.daos_run.specs.Slots.{AreApart, AreSetBack}
 use Rattle.daos_run.proofs.Opened.{are-new, are-stores, called-err, called-ok, each-runs, may-stop, none-again, none-left, take-first}
 use Rattle.run_opening.specs.All.{AreKept, MayBeFound}
 use Rattle.run_starts.specs.Starts.{AreOpened}
-use Rattle.world_plain.specs.whole.Begins.{declared_conts}
+use Rattle.run_targets.specs.Ends.{declared_conts}
 use Rattle.daos_run.proofs.opening.open_parts.Goals as goal
 
 pub open_stores-opened-requires-clause-running : goal.open_stores-opened-requires-clause-running

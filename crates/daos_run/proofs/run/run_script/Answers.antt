@@ -2,10 +2,10 @@ use Rattle.std.specs.Prelude.{◌*◌, ◌-◌, IfOk, length, refl}
 use Rattle.std.proofs.Common.{arith, subst, sym}
 use Rattle.daos_run.specs.Comes.{FindsPlaces}
 use Rattle.daos_run.proofs.Lone.{is-of-lone-client}
-use Rattle.daos_run.proofs.Plain.{all-come, all-free, all-kept, all-open, all-run, are-keyed, are-unused, follows-order, in-form, in-real-time, is-fresh, issued-there, legal, none-down, none-lasts, of-lone, on-ok, only-memory}
+use Rattle.daos_run.proofs.Plain.{all-come, all-free, all-kept, all-open, all-run, are-keyed, follows-order, in-form, in-real-time, is-fresh, issued-there, legal, none-down, of-lone, on-ok, only-memory}
 use Rattle.model_lone.specs.Only.{TellsOfOnlyClient}
 use Rattle.model_reports.specs.Rooms.{HasPlaces}
-use Rattle.run_targets.specs.Ends.{TellsOfLoneClient}
+use Rattle.daos_run.specs.Alone.{TellsOfLoneClient}
 use Rattle.daos_run.proofs.run.run_script.Goals as goal
 
 pub run_on-requires-clause-stores : goal.run_on-requires-clause-stores
@@ -73,7 +73,7 @@ returns-clause-lone g c plain one none =
     let new = c.in_ok-set_all.ensures.set in
     on-ok c.run_on.result (λ q k. is-of-lone-client c.args.script.now c.args.job.now q c.requires.script one k)
     (subst (λ o. IfOk c.run_on.result (TellsOfLoneClient o)) (is-fresh c.args.job.now.targets c.args.job.now.size_mib c.set_all.new.parts new c.run_on.new.parts c.run_on.ensures.set c.run_on.ensures.served c.args.script.now c.args.job.now refl)
-    (of-lone c.args.job.now.targets c.args.job.now.size_mib c.set_all.new.parts new c.run_on.new.parts c.run_on.ensures.set c.run_on.ensures.served c.args.script.now c.args.job.now refl c.run_on.result (all-come c.args.job.now.targets c.args.job.now.size_mib c.set_all.new.parts new c.run_on.new.parts c.run_on.ensures.set c.run_on.ensures.served c.args.script.now c.args.job.now refl c.run_on.result (c.run_on.ensures.comes _ (all-kept c.args.job.now.targets c.args.job.now.size_mib c.set_all.new.parts new) (λ t. c.args.job.now.size_mib * 4096 - 1264) (all-free c.args.job.now.targets c.args.job.now.size_mib c.set_all.new.parts new))) none _ (c.run_on.ensures.lone _ (all-kept c.args.job.now.targets c.args.job.now.size_mib c.set_all.new.parts new) (λ t. c.args.job.now.size_mib * 4096 - 1264) (all-free c.args.job.now.targets c.args.job.now.size_mib c.set_all.new.parts new) (none-lasts c.args.script.now _ (are-unused c.args.job.now.targets c.args.job.now.size_mib c.set_all.new.parts new _ (all-kept c.args.job.now.targets c.args.job.now.size_mib c.set_all.new.parts new))) plain one none)))
+    (of-lone c.args.job.now.targets c.args.job.now.size_mib c.set_all.new.parts new c.run_on.new.parts c.run_on.ensures.set c.run_on.ensures.served c.args.script.now c.args.job.now refl c.run_on.result (all-come c.args.job.now.targets c.args.job.now.size_mib c.set_all.new.parts new c.run_on.new.parts c.run_on.ensures.set c.run_on.ensures.served c.args.script.now c.args.job.now refl c.run_on.result (c.run_on.ensures.comes _ (all-kept c.args.job.now.targets c.args.job.now.size_mib c.set_all.new.parts new) (λ t. c.args.job.now.size_mib * 4096 - 1264) (all-free c.args.job.now.targets c.args.job.now.size_mib c.set_all.new.parts new))) none _ (c.run_on.ensures.lone _ (all-kept c.args.job.now.targets c.args.job.now.size_mib c.set_all.new.parts new) (λ t. c.args.job.now.size_mib * 4096 - 1264) (all-free c.args.job.now.targets c.args.job.now.size_mib c.set_all.new.parts new) plain one none)))
 
 pub returns-clause-refusals : goal.returns-clause-refusals
 returns-clause-refusals g c =

@@ -1,4 +1,4 @@
-use Rattle.std.specs.Prelude.{◌≡◌, ◌<◌, Err, IfErr, IfOk, List, Ok, length, refl}
+use Rattle.std.specs.Prelude.{◌≡◌, ◌<◌, Err, IfErr, IfOk, List, Ok, length}
 use Rattle.std.proofs.Common.{arith, rules, subst, sym}
 use Rattle.base_types.specs.declared.epoch.Epoch.{Epoch}
 use Rattle.base_types.specs.declared.snapshot.Snap.{Snap}
@@ -16,9 +16,8 @@ use Rattle.daos_run.proofs.Whole.{all-tell, break-off, can-start, come-by_clocks
 use Rattle.report_round_trip.specs.Values.{AllTellBytes}
 use Rattle.run_targets.specs.Below.{AllTellInOrder}
 use Rattle.run_opening.specs.All.{MayBeFound}
-use Rattle.run_targets.specs.Ends.{BreaksOffSo, ComesByClocks, ComesTo, stores_of}
+use Rattle.run_targets.specs.Ends.{BreaksOffSo, ComesByClocks, ComesTo, stores_of, declared_conts}
 use Rattle.world_letters.specs.kinds.Fitting.{AllAnswersFit}
-use Rattle.world_plain.specs.whole.Begins.{declared_conts}
 use Rattle.daos_run.proofs.run_on.run_on.Goals as goal
 
 pub open_parts-requires-clause-running : goal.open_parts-requires-clause-running
@@ -209,6 +208,6 @@ pub returns-clause-alone : goal.returns-clause-alone
 returns-clause-alone g c B kept free room one unstopped = (returns-clause-comes g c B kept free room).comes.alone one unstopped
 
 pub returns-clause-lone : goal.returns-clause-lone
-returns-clause-lone g c B kept free room none plain one stopless unstopped =
+returns-clause-lone g c B kept free room plain one stopless unstopped =
     tells-of-lone-client g.S.Store.durable g.S.Store.state g.S.Store.may c.args.script.now c.args.job.now (opening_of c.args.script.now B free) (stores_in c.args.parts.now) (stores_in c.hand_back.new.parts) c.in_ok-ran.field-0 c.requires.script c.requires.least_targets c.requires.least (returns-clause-comes g c B kept free room)
-    c.requires.most_targets B free kept refl none plain one stopless unstopped
+    plain one stopless unstopped

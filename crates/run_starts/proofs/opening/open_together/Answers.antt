@@ -2,7 +2,7 @@ use Rattle.std.proofs.Common.{◌∙◌, subst}
 use Rattle.run_opening.specs.All.{FromTo}
 use Rattle.run_opening.specs.EnlistLaws.{enlisting-sound}
 use Rattle.run_starts.specs.Calls.{WithContainers}
-use Rattle.world_plain.specs.whole.Begins.{declared_conts}
+use Rattle.world_closing.specs.Below.{declared_conts}
 use Rattle.run_starts.proofs.Whole.{adding-left, all-run, few-added, kept-added, none-left, opened-err, opened-ok, then-left, why-opening}
 use Rattle.run_starts.proofs.opening.open_together.Goals as goal
 

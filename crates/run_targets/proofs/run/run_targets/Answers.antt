@@ -1,7 +1,6 @@
 use Rattle.run_targets.proofs.Runs.{all-served, answers-begin, breaks-early, breaks-late, comes, comes-read, ends-begin, goes, put-served, put-unfused}
 use Rattle.run_targets.proofs.Telling.{bytes-last, ends-last, in-order-last, kinds-last, told-last}
-use Rattle.run_loop.specs.Below.{given_by}
-use Rattle.world_plain.specs.ends.Ends.{rules_of}
+use Rattle.run_loop.specs.Below.{given_by, rules_of}
 use Rattle.run_targets.proofs.run.run_targets.Goals as goal
 
 pub returns-in-Err-clause-served : goal.returns-in-Err-clause-served

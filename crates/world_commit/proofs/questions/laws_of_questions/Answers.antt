@@ -1,5 +1,4 @@
 use Rattle.world_commit.specs.questions.Happening.{happenings-keep, questions-begin, sweeping-keeps}
-use Rattle.world_commit.specs.questions.Plain.{questions-plain}
 use Rattle.world_commit.proofs.questions.laws_of_questions.Goals as goal
 
 pub returns : goal.returns
@@ -7,5 +6,4 @@ returns c = record {
   begin = questions-begin;
   happens = λ r h later w v right a e ours plain grows b k. happenings-keep r h later w v right a e ours plain grows b k;
   swept = sweeping-keeps;
-  plain = questions-plain;
 }

@@ -1,6 +1,5 @@
-use Rattle.world_letters.specs.lines.EndingLaws.{spoken-kept}
 use Rattle.world_letters.specs.lines.LastLines.{lines-answered, lines-in-turn}
 use Rattle.world_letters.proofs.lines.laws_of_lines.Goals as goal
 
 pub returns : goal.returns
-returns c = record { kept = spoken-kept; answered = lines-answered; in_turn = lines-in-turn }
+returns c = record { answered = lines-answered; in_turn = lines-in-turn }

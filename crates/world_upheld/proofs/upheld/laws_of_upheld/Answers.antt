@@ -1,6 +1,5 @@
 use Rattle.world_upheld.proofs.upheld.laws_of_upheld.Goals as goal
 use Rattle.world_upheld.specs.upheld.Events.{all-events-uphold}
-use Rattle.world_upheld.specs.upheld.PlainRuns.{plain-runs_begin}
 use Rattle.world_upheld.specs.upheld.Runs.{runs-are_upheld, runs-hear_all_rightly, upheld-begins}
 
 pub returns : goal.returns
@@ -9,5 +8,4 @@ returns c = record {
   begin = upheld-begins;
   runs = runs-are_upheld;
   hear = runs-hear_all_rightly;
-  plain = plain-runs_begin;
 }
