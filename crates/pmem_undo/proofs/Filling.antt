@@ -7,6 +7,7 @@ use Rattle.pmem_undo.specs.declared.span.Span.{Span}
 use Rattle.pmem_undo.specs.Layout.{total_bytes}
 use Rattle.pmem_undo.specs.Log.{number_bytes, range_bytes, ranges_bytes, log_bytes}
 use Rattle.pmem_undo.specs.Spans.{spans_length, old_span, old_spans}
+use Rattle.pmem_undo.proofs.Parsing.{length-push}
 use Rattle.pmem_undo.proofs.Settling.{length-ranges}
 use Rattle.pmem_undo.proofs.Phases.{take_one_more}
 
@@ -38,10 +39,6 @@ body_more f spans k head before after h a b =
     let rs = old_spans f (take k spans) in
     b ∙ (ap (λ (z : List ℕ). z ++ range_bytes r) a ∙ (append_assoc head (ranges_bytes rs) (range_bytes r)
     ∙ (ap (λ (z : List ℕ). head ++ z) (sym (ranges-push rs r)) ∙ ap (λ (z : List Range). head ++ ranges_bytes z) (sym (spans_more f spans k h)))))
-
-length-push : (spans : List Span) (s : Span) → spans_length (spans ++ s ∷ []) ≡ spans_length spans + s.length
-length-push [] s = omega arith
-length-push (q ∷ spans) s = let e = length-push spans s in omega arith
 
 pub length_more : (spans : List Span) (k : ℕ) → k < length spans → spans_length (take (k + 1) spans) ≡ spans_length (take k spans) + (get_or spans k (record { place = 0; start = 0; length = 0 })).length
 length_more spans k h =

@@ -9,7 +9,7 @@ use Rattle.base_outside.specs.Images.{Image, Range, bytes_at}
 use Rattle.pmem_undo.specs.declared.span.Span.{Span}
 use Rattle.pmem_undo.specs.Layout.{are_content, log_place}
 use Rattle.pmem_undo.specs.Log.{number_in, ranges_in, cons_range, behind, is_log_size, log_in, logged_count, logged_length}
-use Rattle.pmem_undo.specs.Spans.{IsSpan, range_of, ranges_of}
+use Rattle.pmem_undo.specs.Spans.{IsSpan, range_of, ranges_of, spans_length}
 
 drop_none : (n : ℕ) → drop n (let none : List ℕ = [] in none) ≡ []
 drop_none zero = refl
@@ -87,6 +87,11 @@ behind_none (r ∷ rs) = ap (cons_range r) (behind_none rs)
 pub behind_all : (rs : List Range) → behind rs (Some []) ≡ Some rs
 behind_all [] = refl
 behind_all (r ∷ rs) = ap (cons_range r) (behind_all rs)
+
+-- how many bytes have the spans with one pushed behind them
+pub length-push : (spans : List Span) (s : Span) → spans_length (spans ++ s ∷ []) ≡ spans_length spans + s.length
+length-push [] s = omega arith
+length-push (t ∷ spans) s = let k = length-push spans s in omega (arith, k)
 
 -- a span pushed behind others
 pub ranges-push : (bytes : List ℕ) (spans : List Span) (span : Span) (more : Option (List Range)) → behind (ranges_of bytes (spans ++ span ∷ [])) more ≡ behind (ranges_of bytes spans) (cons_range (range_of bytes span) more)

@@ -14,7 +14,7 @@ use Rattle.pmem_undo.specs.Spans.{IsSpan, range_of, ranges_of, spans_length}
 use Rattle.pmem_undo.specs.Undo.{IsUndo, HasBuffers, IsTooMuch, HasRoom}
 use Rattle.pmem_undo.proofs.Attaching.{spans_content, settled_shut}
 use Rattle.pmem_undo.proofs.Committing.{total_is}
-use Rattle.pmem_undo.proofs.Parsing.{ranges_front}
+use Rattle.pmem_undo.proofs.Parsing.{length-push, ranges_front}
 
 pub is_undo : (size : ℕ) (tells : Bool) (image : Image) (may : Image → Type 0) (staged : List ℕ) (spans : List Span) (spans_room bytes_room body : ℕ) (stopped : Bool) → HasBuffers size spans spans_room (length staged) bytes_room body → (IsTrue tells → stopped ≡ false → IsAtRest image may) → (IsTrue tells → (c : Image) → may c → IsAttachable size c) → IsUndo size tells image may (ranges_of staged spans) stopped
 is_undo size tells image may staged spans spans_room bytes_room body stopped b rest attachable =
@@ -43,10 +43,6 @@ either_attachable size f news c (inr after) = after.attachable
 
 pub attachable_at : (size size' : ℕ) (may : Image → Type 0) → size ≡ size' → ((c : Image) → may c → IsAttachable size c) → (c : Image) → may c → IsAttachable size' c
 attachable_at size size' may e all = subst (λ (n : ℕ). (c : Image) → may c → IsAttachable n c) e all
-
-length-push : (spans : List Span) (s : Span) → spans_length (spans ++ s ∷ []) ≡ spans_length spans + s.length
-length-push [] s = omega arith
-length-push (q ∷ spans) s = let e = length-push spans s in omega arith
 
 more_room : (size room more : ℕ) (spans : List Span) → room ≤ more → All (IsSpan size room) spans → All (IsSpan size more) spans
 more_room size room more spans le all k d below =

@@ -1,6 +1,6 @@
 -- What attaching makes of an image, and what a crash leaves of a commit.
 use Rattle.std.specs.Prelude.{◌≡◌, ◌≢◌, ◌⊎◌, ℕ, zero, suc, cond, ◌==◌, List, [], ◌∷◌, ◌++◌, IsSome, ◌^◌, ◌<◌, ◌≤◌, length}
-use Rattle.base_outside.specs.Images.{Image, Range, over, all_over, Only, NoMore, LeavesOnly, Call}
+use Rattle.base_outside.specs.Images.{Image, Range, over, all_over, Only, NoMore, LeavesOnly, Call, Runs}
 use Rattle.base_outside.specs.Images.Call.{Read, Write, Flush}
 use Rattle.pmem_undo.specs.Layout.{gate, gate_byte, log_place, most_ranges, most_bytes, SameContent, AreContent, total_bytes}
 use Rattle.pmem_undo.specs.Log.{log_in, log_bytes, old_ranges, logged}
@@ -64,6 +64,26 @@ commit_calls body ranges =
 abbrev pub reads : ℕ → List Call
 reads zero = []
 reads (suc n) = Read ∷ reads n
+
+-- the calls that write ranges back, the last of them first
+abbrev pub writes_back : List Range → List Call
+writes_back [] = []
+writes_back (r ∷ rs) = writes_back rs ++ Write r ∷ []
+
+-- What a log may tell: at most 1,024 ranges of at most 256,000 bytes together, each of them content.
+pub record IsLogged (size : ℕ) (ranges : List Range) : Type 0 where
+  pub content : AreContent size ranges
+  pub few : length ranges ≤ most_ranges
+  pub short : total_bytes ranges ≤ most_bytes
+
+-- the calls that undo a log: so many reads of it, its ranges written back, and the gate closed
+abbrev pub undo_calls : ℕ → List Range → List Call
+undo_calls looks ranges = reads looks ++ (writes_back ranges ++ Flush ∷ Write (gate_byte 0) ∷ Flush ∷ [])
+
+-- the calls of whoever reads a gate: no more where it is closed, and else those that undo what a log may tell
+abbrev pub IsUndoneBy : {S : Type 0} → (S → Call → S → Type 0) → ℕ → List Call → S → S → Type 0
+IsUndoneBy did size before old new =
+    Runs did before old new ⊎ ((looks : ℕ) × ((ranges : List Range) × (IsLogged size ranges × Runs did (before ++ undo_calls looks ranges) old new)))
 
 -- What a run of reads leaves: the image, and no more that a crash may leave.
 pub record OnlyLooks (f g : Image) (may_leave may_leave_now : Image → Type 0) (before now : ℕ) (past since : ℕ → Image → Type 0) : Type 0 where

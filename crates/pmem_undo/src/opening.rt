@@ -1,9 +1,10 @@
 // An undo region is begun, or attached to a region that has one.
-ghost use Rattle.std.specs.Prelude.{◌≡◌, ◌⊎◌, ◌^◌, ◌<◌, ◌≤◌, length, IfOk, IfErr, OnOk, IsTrue, vec_capacity};
+ghost use Rattle.std.specs.Prelude.{◌≡◌, ◌⊎◌, ◌^◌, ◌<◌, ◌≤◌, [], ◌∷◌, length, IfOk, IfErr, OnOk, IsTrue, vec_capacity};
 ghost use Rattle.base_outside.specs.Causes.{HasEitherCause};
 ghost use Rattle.base_outside.specs.Images.{Image, over, LeavesOnly};
+ghost use Rattle.base_outside.specs.Images.Call.{Read, Flush};
 ghost use Rattle.pmem_undo.specs.Layout.{gate_byte};
-ghost use Rattle.pmem_undo.specs.Settled.{settled, IsAttachable, IsAtRest, StandsFor};
+ghost use Rattle.pmem_undo.specs.Settled.{settled, IsAttachable, IsAtRest, IsUndoneBy, StandsFor};
 ghost use Rattle.pmem_undo.specs.Undo.{IsUndo};
 ghost use Rattle.pmem_undo.specs.Opening.{IsBegun, IsGivenBack};
 ghost use Rattle.pmem_undo.specs.declared.opening.UndoCause.{UndoCause};
@@ -75,7 +76,9 @@ impl<R: Region> UndoRegion<R> {
     /// Attaches to a region, which it flushes first. Where its gate is open it has the bytes from before
     /// the commit that was cut, which are written back, the last range first. A crash at any moment of the
     /// call leaves an image that stands for the same content, or one that could be left before the call,
-    /// where something wasn't flushed then.
+    /// where something wasn't flushed then. Also of a region that doesn't tell its bytes only ranges are
+    /// written back that a log may tell: at most 1,024 of at most 256,000 bytes together, each inside the
+    /// region, outside the gate byte and the log body.
     ///
     /// # Errors
     ///
@@ -90,6 +93,7 @@ impl<R: Region> UndoRegion<R> {
         ensures image { IfOk result (λ u. IsTrue R.tells → R.image u.region ≡ settled (R.extent region) (R.image region)) }
         ensures any_moment { IfOk result (λ u. IsTrue R.tells → LeavesOnly (R.moment region) (R.moment u.region) (R.left_since region) (R.left_since u.region)
             (StandsFor (R.extent region) (settled (R.extent region) (R.image region)))) }
+        ensures calls { IfOk result (λ u. IsUndoneBy R.did (R.extent region) (Flush ∷ Read ∷ []) region u.region) }
         ensures given_back { IfErr result (λ e. IsGivenBack R.extent R.count R.burns region e.region e.cause) }
         ensures memory { IfErr result (λ e. e.cause ≡ UndoCause.Memory → e.region ≡ region) }
         ensures any_moment_err { IfErr result (λ e. IsTrue R.tells → LeavesOnly (R.moment region) (R.moment e.region) (R.left_since region) (R.left_since e.region)
@@ -140,6 +144,7 @@ fn flush_and_restore<R: Region>(
     ensures left { IsTrue R.tells → (c : Image) → R.may_leave region.new c →
         R.may_leave region.old c ⊎ StandsFor (R.extent region.old) (settled (R.extent region.old) (R.image region.old)) c }
     ensures room_left { 1024 ≤ vec_capacity spans.new }
+    ensures calls { OnOk result (IsUndoneBy R.did (R.extent region.old) (Flush ∷ Read ∷ []) region.old region.new) }
 {
     region.flush()?;
     restore(region, spans, body)

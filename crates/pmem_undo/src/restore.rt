@@ -1,11 +1,12 @@
 // The log is read, and its old bytes are written back.
-ghost use Rattle.std.specs.Prelude.{◌≡◌, ◌≢◌, ◌↔◌, ℕ, ◌+◌, ◌*◌, ◌^◌, ◌<◌, ◌≤◌, [], ◌∷◌, length, drop, All, OnOk, IfOk, IfSome, IfNone, IsTrue, IsFalse, Some, None, vec_len, vec_capacity, if◌then◌else◌};
+ghost use Rattle.std.specs.Prelude.{◌≡◌, ◌≢◌, ◌↔◌, ℕ, ◌+◌, ◌*◌, ◌^◌, ◌<◌, ◌≤◌, List, [], ◌∷◌, ◌++◌, length, drop, All, OnOk, IfOk, IfSome, IfNone, IsTrue, IsFalse, Some, None, vec_len, vec_capacity, if◌then◌else◌};
 ghost use Rattle.base_outside.specs.Causes.{HasEitherCause};
-ghost use Rattle.base_outside.specs.Images.{Image, bytes_at, Only, Tears, Torn, LeavesOnly};
-ghost use Rattle.pmem_undo.specs.Layout.{gate, IsContent, are_content};
+ghost use Rattle.base_outside.specs.Images.{Image, Range, bytes_at, Only, Tears, Torn, LeavesOnly, Runs};
+ghost use Rattle.base_outside.specs.Images.Call.{Read, Write, Flush};
+ghost use Rattle.pmem_undo.specs.Layout.{gate, gate_byte, IsContent, are_content};
 ghost use Rattle.pmem_undo.specs.Log.{number_in, ranges_in, cons_range, is_log_size, logged, log_in};
-ghost use Rattle.pmem_undo.specs.Settled.{OnlyLooks, IsAtRest, IsAttachable, StandsFor, settled, rolled};
-ghost use Rattle.pmem_undo.specs.Spans.{IsSpan, range_of, ranges_of};
+ghost use Rattle.pmem_undo.specs.Settled.{OnlyLooks, IsAtRest, IsAttachable, IsLogged, IsUndoneBy, StandsFor, reads, rolled, settled, undo_calls, writes_back};
+ghost use Rattle.pmem_undo.specs.Spans.{IsSpan, range_of, ranges_of, spans_length};
 
 use crate::span::Span;
 use crate::{GATE, LOG, LOG_END};
@@ -43,6 +44,7 @@ fn lies_in_content(size: u64, place: u64, length: u64) -> bool
 fn next_span(size: u64, bytes: &[u8], at: usize) -> Option<Span>
     requires { at ≤ length bytes.now }
     ensures sound { IfSome result (λ span. IsSpan size (length bytes.now) span) }
+    ensures behind { IfSome result (λ span. span.start ≡ at + 8) }
     ensures told { IfSome result (λ span. (n : ℕ) → ranges_in size (n + 1) (drop at bytes.now) ≡
         cons_range (range_of bytes.now span) (ranges_in size n (drop (span.start + span.length) bytes.now))) }
     ensures none { IfNone result ((n : ℕ) → ranges_in size (n + 1) (drop at bytes.now) ≡ None) }
@@ -74,6 +76,8 @@ fn parse(size: u64, count: u32, bytes: &[u8], spans: &mut Vec<Span>) -> bool
     ensures none { IsFalse result → ranges_in size count bytes.now ≡ None }
     ensures room_left { vec_capacity spans.old ≤ vec_capacity spans.new }
     ensures few { vec_len spans.new ≤ count }
+    ensures whole { IsTrue result → length spans.new.items ≡ count }
+    ensures short { IsTrue result → 8 * length spans.new.items + spans_length spans.new.items ≡ length bytes.now }
 {
     let mut at = 0;
     for _range in 0..count {
@@ -103,6 +107,7 @@ fn read_number<R: Region>(region: &mut R, place: u64) -> Result<u32, Failed>
     ensures looks { IsTrue R.tells → OnlyLooks (R.image region.old) (R.image region.new) (R.may_leave region.old) (R.may_leave region.new)
         (R.moment region.old) (R.moment region.new) (R.left_since region.old) (R.left_since region.new) }
     ensures number { IfOk result (λ n. IsTrue R.tells → n ≡ number_in (bytes_at (R.image region.old) place 4)) }
+    ensures call { OnOk result (R.did region.old Read region.new) }
 {
     let mut four = [0; 4];
     region.read(place, &mut four)?;
@@ -121,6 +126,9 @@ fn read_log<R: Region>(region: &mut R, spans: &mut Vec<Span>, body: &mut [u8]) -
     ensures sound { All (IsSpan (R.extent region.old) (length body.new)) spans.new.items }
     ensures told { OnOk result (IsTrue R.tells → ranges_of body.new spans.new.items ≡ logged (log_in (R.extent region.old) (R.image region.old))) }
     ensures room_left { 1024 ≤ vec_capacity spans.new }
+    ensures few { OnOk result (length spans.new.items ≤ 1024) }
+    ensures short { OnOk result (spans_length spans.new.items ≤ 256000) }
+    ensures calls { OnOk result ((looks : ℕ) × Runs R.did (reads looks) region.old region.new) }
 {
     spans.clear();
     let count = read_number(region, LOG)?;
@@ -145,6 +153,7 @@ fn write_back<R: Region>(region: &mut R, spans: &[Span], buffer: &[u8]) -> Resul
     ensures crash { IsTrue R.tells → Tears (ranges_of buffer.now spans.now) (R.may_leave region.old) (R.may_leave region.new) }
     ensures time { IsTrue R.tells → LeavesOnly (R.moment region.old) (R.moment region.new) (R.left_since region.old) (R.left_since region.new)
         (λ c. (d : Image) × (R.may_leave region.old d × Torn (ranges_of buffer.now spans.now) d c)) }
+    ensures calls { OnOk result (Runs R.did (writes_back (ranges_of buffer.now spans.now)) region.old region.new) }
 {
     let mut left = spans.len();
     while left > 0 {
@@ -169,6 +178,7 @@ fn roll_back<R: Region>(region: &mut R, spans: &[Span], body: &[u8]) -> Result<(
     ensures only { OnOk result (IsTrue R.tells → Only (R.image region.new) (R.may_leave region.new)) }
     ensures any_moment { IsTrue R.tells → LeavesOnly (R.moment region.old) (R.moment region.new) (R.left_since region.old) (R.left_since region.new)
         (StandsFor (R.extent region.old) (settled (R.extent region.old) (R.image region.old))) }
+    ensures calls { OnOk result (Runs R.did (writes_back (ranges_of body.now spans.now) ++ Flush ∷ Write (gate_byte 0) ∷ Flush ∷ []) region.old region.new) }
 {
     write_back(region, spans, body)?;
     region.flush()?;
@@ -184,6 +194,7 @@ fn gate_byte<R: Region>(region: &mut R) -> Result<u8, Failed>
     ensures looks { IsTrue R.tells → OnlyLooks (R.image region.old) (R.image region.new) (R.may_leave region.old) (R.may_leave region.new)
         (R.moment region.old) (R.moment region.new) (R.left_since region.old) (R.left_since region.new) }
     ensures byte { IfOk result (λ byte. IsTrue R.tells → byte ≡ R.image region.old gate) }
+    ensures call { OnOk result (R.did region.old Read region.new) }
 {
     let mut byte = [0];
     region.read(GATE, &mut byte)?;
@@ -205,6 +216,7 @@ fn undo<R: Region>(region: &mut R, spans: &mut Vec<Span>, body: &mut [u8]) -> Re
     ensures any_moment { IsTrue R.tells → LeavesOnly (R.moment region.old) (R.moment region.new) (R.left_since region.old) (R.left_since region.new)
         (StandsFor (R.extent region.old) (settled (R.extent region.old) (R.image region.old))) }
     ensures room_left { 1024 ≤ vec_capacity spans.new }
+    ensures calls { OnOk result ((looks : ℕ) × ((ranges : List Range) × (IsLogged (R.extent region.old) ranges × Runs R.did (undo_calls looks ranges) region.old region.new))) }
 {
     read_log(region, spans, body)?;
     roll_back(region, spans, body)
@@ -230,6 +242,7 @@ pub(crate) fn restore<R: Region>(
     ensures left { IsTrue R.tells → (c : Image) → R.may_leave region.new c →
         StandsFor (R.extent region.old) (settled (R.extent region.old) (R.image region.old)) c }
     ensures room_left { 1024 ≤ vec_capacity spans.new }
+    ensures calls { OnOk result (IsUndoneBy R.did (R.extent region.old) (Read ∷ []) region.old region.new) }
 {
     let byte = gate_byte(region)?;
     if byte == 0 {

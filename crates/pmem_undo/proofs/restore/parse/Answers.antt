@@ -2,11 +2,12 @@ use Rattle.std.proofs.Common.{◌≡◌, ◌<◌, ◌+◌, ◌-◌, ◌∙◌, �
 use Rattle.std.specs.Prelude.{All}
 use Rattle.std.proofs.lemmas.Bool.Decides.{nat_tests}
 use Rattle.std.proofs.lemmas.Grind.{common_steps}
+use Rattle.std.proofs.lemmas.List.{length-append}
 use Rattle.std.proofs.lemmas.List.Elements.{All-push}
 use Rattle.pmem_undo.specs.declared.span.Span.{Span}
 use Rattle.pmem_undo.specs.Log.{ranges_in, behind}
-use Rattle.pmem_undo.specs.Spans.{IsSpan, ranges_of}
-use Rattle.pmem_undo.proofs.Parsing.{ranges-push, behind_none, behind_all, end_read, end_left}
+use Rattle.pmem_undo.specs.Spans.{IsSpan, ranges_of, spans_length}
+use Rattle.pmem_undo.proofs.Parsing.{length-push, ranges-push, behind_none, behind_all, end_read, end_left}
 use Rattle.pmem_undo.proofs.restore.parse.Goals as goal
 
 -- with no range told behind, there are none in all
@@ -27,10 +28,14 @@ loop-range-preserved c =
     let span : Span = c.in-Some.span in
     let pushed : c.push.new.self.items ≡ spans ++ span ∷ [] = grind (arith, common_steps) in
     let end : ℕ = c.in-Some.span.start + c.in-Some.span.length in
+    let longer : spans_length c.push.new.self.items ≡ spans_length spans + span.length = ap spans_length pushed ∙ length-push spans span in
+    let counted : length c.push.new.self.items ≡ length spans + 1 = ap length pushed ∙ length-append spans (span ∷ []) in
     record {
       at_place = c.in-Some.ensures.sound.fits;
       sound = subst (λ (z : List Span). All (IsSpan c.args.size (length bytes)) z) (sym pushed) (All-push (IsSpan c.args.size (length bytes)) spans span c.loop-range.invariant.sound c.in-Some.ensures.sound);
       few = grind (arith, common_steps);
+      whole = grind (arith, common_steps, counted);
+      short = omega (arith, longer, counted, c.loop-range.invariant.short, c.in-Some.ensures.behind);
       room = grind (arith, common_steps);
       room_left = grind (arith, common_steps);
       told = λ left e.

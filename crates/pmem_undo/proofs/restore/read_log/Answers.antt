@@ -1,4 +1,4 @@
-use Rattle.std.proofs.Common.{◌≡◌, ◌+◌, ◌∙◌, ◌++◌, ℕ, length, take, drop, sym, ap, arith, rules, Some, None, false, true}
+use Rattle.std.proofs.Common.{◌≡◌, ◌+◌, ◌∙◌, ◌++◌, ℕ, length, take, drop, refl, sym, ap, arith, rules, Some, None, false, true}
 use Rattle.std.proofs.lemmas.Bool.Decides.{nat_tests}
 use Rattle.std.proofs.lemmas.List.{length-take-le}
 use Rattle.base_outside.specs.Images.{Image, bytes_at}
@@ -43,3 +43,12 @@ returns-else-not-parse-clause-told g c t =
     let size : c.size.result ≡ g.R.Region.extent c.args.region.now = c.size.ensures.size ∙ (c.read.ensures.extent ∙ (c.read_number-2.ensures.extent ∙ c.read_number.ensures.extent)) in
     let read = log_some c.size.result c.in_ok-count.count c.in_ok-total.total f c.read.new.buf (Some (ranges_of c.read.new.buf c.parse.new.spans.items)) (c.in_ok-count.ensures.number t) second good bytes (c.parse.ensures.told (search (rules, c.if-not-parse.false))) in
     ranges_front c.read.new.buf (drop c.in_ok-total.total c.args.body.now) c.size.result c.parse.new.spans.items c.parse.ensures.sound ∙ (sym (ap logged read) ∙ ap (λ (n : ℕ). logged (log_in n f)) size)
+
+pub returns-then-not-is_log_size-clause-calls : goal.returns-then-not-is_log_size-clause-calls
+returns-then-not-is_log_size-clause-calls g c = (2, (_, (c.in_ok-count.ensures.call, (_, (c.in_ok-total.ensures.call, refl)))))
+
+pub returns-then-not-parse-clause-calls : goal.returns-then-not-parse-clause-calls
+returns-then-not-parse-clause-calls g c = (3, (_, (c.in_ok-count.ensures.call, (_, (c.in_ok-total.ensures.call, (_, (c.in_ok-read.ensures.call, refl)))))))
+
+pub returns-else-not-parse-clause-calls : goal.returns-else-not-parse-clause-calls
+returns-else-not-parse-clause-calls g c = (3, (_, (c.in_ok-count.ensures.call, (_, (c.in_ok-total.ensures.call, (_, (c.in_ok-read.ensures.call, refl)))))))

@@ -1,10 +1,11 @@
-use Rattle.std.proofs.Common.{◌∙◌, sym, ap}
+use Rattle.std.proofs.Common.{◌∙◌, ◌∷◌, [], ap, refl, sym}
 use Rattle.base_outside.specs.Images.{Image, over}
+use Rattle.base_outside.specs.Images.Call.{Write, Flush}
 use Rattle.pmem_undo.specs.Layout.{gate_byte}
-use Rattle.pmem_undo.specs.Settled.{StandsFor, settled}
+use Rattle.pmem_undo.specs.Settled.{StandsFor, settled, writes_back}
 use Rattle.pmem_undo.specs.Spans.{ranges_of}
 use Rattle.pmem_undo.proofs.Attaching.{spans_content, makes}
-use Rattle.pmem_undo.proofs.Moments.{sofar_flush}
+use Rattle.pmem_undo.proofs.Moments.{runs_then, sofar_flush}
 use Rattle.pmem_undo.proofs.Phases.{OnOk-map}
 use Rattle.pmem_undo.proofs.Restoring.{ranges_back, gate_shut}
 use Rattle.pmem_undo.proofs.restore.roll_back.Goals as goal
@@ -47,3 +48,9 @@ returns-clause-image g c =
     let content = spans_content size c.args.body.now c.args.spans.now c.requires.spans in
     OnOk-map c.flush-2.result _ _ c.flush-2.ensures.lasting (λ _ t.
     c.flush-2.ensures.image t ∙ (c.in_ok-write.ensures.image t ∙ (ap (over (gate_byte 0)) (c.flush.ensures.image t ∙ c.in_ok-write_back.ensures.image t) ∙ sym (makes size f (ranges_of c.args.body.now c.args.spans.now) (c.requires.log t) (c.requires.ajar t) (c.requires.told t) content))))
+
+pub returns-clause-calls : goal.returns-clause-calls
+returns-clause-calls g c =
+    OnOk-map c.flush-2.result _ _ c.flush-2.ensures.call (λ last.
+    runs_then g.R.Region.did (writes_back (ranges_of c.args.body.now c.args.spans.now)) (Flush ∷ Write (gate_byte 0) ∷ Flush ∷ []) _ _ _ c.in_ok-write_back.ensures.calls
+    (_, (c.in_ok-flush.ensures.call, (_, (c.in_ok-write.ensures.call, (_, (last, refl)))))))

@@ -1,9 +1,10 @@
 use Rattle.std.proofs.Common.{◌-◌, ◌∙◌, List, drop, get_or, sym, ap, subst, arith}
 use Rattle.std.specs.Prelude.{IsTrue}
-use Rattle.base_outside.specs.Images.{Range, over, Tears}
-use Rattle.pmem_undo.specs.Settled.{rolled}
+use Rattle.base_outside.specs.Images.{Range, Runs, over, Tears}
+use Rattle.base_outside.specs.Images.Call.{Write}
+use Rattle.pmem_undo.specs.Settled.{rolled, writes_back}
 use Rattle.pmem_undo.specs.Spans.{range_of, ranges_of}
-use Rattle.pmem_undo.proofs.Moments.{leaves_more}
+use Rattle.pmem_undo.proofs.Moments.{leaves_more, runs_more}
 use Rattle.pmem_undo.proofs.Restoring.{ranges_before, tears_before, spans_behind}
 use Rattle.pmem_undo.proofs.restore.write_back.Goals as goal
 
@@ -35,4 +36,6 @@ loop-left-preserved g c =
       image = λ t. c.in_ok-write.ensures.image t ∙ (ap (over r) (c.loop-left.invariant.image t) ∙ ap (λ (rs : List Range). rolled rs f) (sym m));
       crash = tears;
       time = λ t. leaves_more _ _ _ _ _ _ _ _ (c.loop-left.invariant.time t) (c.write.ensures.time t) (spans_behind buffer spans (left - 1) _ _ (tears t));
+      calls = subst (λ (rs : List Range). Runs g.R.Region.did (writes_back rs) c.args.region.now c.write.new.self) (sym m)
+          (runs_more g.R.Region.did (writes_back (ranges_of buffer (drop left spans))) (Write r) _ _ _ c.loop-left.invariant.calls c.in_ok-write.ensures.call);
     }
