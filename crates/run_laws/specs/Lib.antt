@@ -4,3 +4,4 @@ pub mod steps
 pub mod reports
 pub mod ends
 pub mod turns
+pub mod Below

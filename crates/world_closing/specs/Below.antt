@@ -13,5 +13,5 @@ pub use Rattle.world_upheld.specs.reasons.Runs.{runs-are_accounted}
 pub use Rattle.world_upheld.specs.upheld.BeginVersions.{begins-well}
 pub use Rattle.world_upheld.specs.upheld.Begins.{AreRulesInForm, KeepsSnapshots, RunBeginsWell, RunBeginsWith, client_begins, snaps_held, without_snaps, AreEnlisted, OpensWith, StartsWith, first_tracker, no_joining, no_leading}
 pub use Rattle.world_upheld.specs.upheld.Events.{attempts-happened, grows-with, later-with}
-pub use Rattle.world_upheld.specs.upheld.Runs.{runs-have_grounds}
+pub use Rattle.world_upheld.specs.upheld.Runs.{runs-have_grounds, runs-hear_all_rightly}
 pub use Rattle.world_upheld.specs.upheld.Upheld.{Grounds}

@@ -38,7 +38,7 @@ target-due : (settling : Bool) (p : TargetPlan) (count : ℕ) (o : Option Target
 target-due settling p count None = refl
 target-due settling p count (Some s) = refl
 
-actor-due : (settling : Bool) (r : Rules) (w : World) (a : ActorId) → is_due settling r (but_free w) a ≡ is_due settling r w a
+pub actor-due : (settling : Bool) (r : Rules) (w : World) (a : ActorId) → is_due settling r (but_free w) a ≡ is_due settling r w a
 actor-due settling r w a =
     ap (λ b. if a.client then if_client_due (client_plan r a.number) (count_to a w.messages) (slice_get w.clients a.number) else b)
     (ap (if_target_due settling (target_plan r a.number) (count_to a w.messages)) (slice_get-map target_but_free w.targets a.number)
