@@ -43,9 +43,6 @@ pub record OneEnd {A : Type 0} (xs ys : List A) (x y : A) : Type 0 where
   pub before : xs ≡ ys
   pub last : x ≡ y
 
-
-
-
 pub ends-one : {A : Type 0} (xs ys : List A) (x y : A) → xs ++ x ∷ [] ≡ ys ++ y ∷ [] → OneEnd xs ys x y
 ends-one [] [] x y same = record { before = refl; last = cc }
 ends-one [] (z ∷ zs) x y same = let rest : [] ≡ zs ++ y ∷ [] = cc in absurd (nothing-more zs y rest)

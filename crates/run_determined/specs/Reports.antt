@@ -136,7 +136,7 @@ stores-begin_alike {S} {T} durable state may other others found g free q p xs ys
 at-or_past : (n t : ℕ) → (t < n) ⊎ (n ≤ t)
 at-or_past n t = elim (cases_order t n) [
   | inl same ↦ inr (omega (arith, same))
-  | inr other ↦ elim other [ | inl less ↦ inl less | inr more ↦ inr (omega (arith, more)) ]
+  | inr other ↦ elim other [ inl less ↦ inl less | inr more ↦ inr (omega (arith, more)) ]
 ]
 
 none-more : (n fx bx fy by' : ℕ) → fy ≡ fx → by' ≡ bx → n + fx + bx ≤ fy + by' → n ≡ 0
