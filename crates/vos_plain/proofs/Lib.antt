@@ -1,9 +1,4 @@
 pub mod Kept
 pub mod Prepared
 pub mod Turning
-pub mod Newest
-pub mod Stretches
-pub mod Marking
-pub mod Naming
-pub mod Apart
-pub mod NamePlaces
+pub mod Indexing

@@ -1,11 +1,6 @@
 pub mod Costs
 pub mod Contents
 pub mod Steps
-pub mod Newest
 pub mod Stops
 pub mod Plain
 pub mod Laws
-pub mod Layers
-pub mod Marks
-pub mod Names
-pub mod Paths

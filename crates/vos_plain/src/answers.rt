@@ -5,11 +5,11 @@ ghost use Rattle.daos_model.specs.Answers.{answer};
 ghost use Rattle.std.specs.List.{list_all};
 ghost use Rattle.daos_model.specs.Durables.{is_version_in_form, row_or_new};
 ghost use Rattle.daos_model.specs.Versions.{map_below};
+ghost use Rattle.vos_scan.specs.Indexed.{IsIndexOf};
 ghost use Rattle.vos_store.specs.Answers.{shown_or_none};
 
 use crate::contents::Contents;
 use crate::objects::objects_of;
-use crate::reads::answer_below;
 use crate::rows::first_open_in;
 use crate::tables::{conts_of, copied, has_snap, new_row, row_of};
 use base_types::answer::Answer;
@@ -23,6 +23,8 @@ use base_types::shown::Shown;
 use base_types::snapshot::Snaps;
 use daos_model::durable::{ContRow, Version};
 use std::alloc::Global;
+use vos_scan::index::ReadIndex;
+use vos_scan::reads::answer_indexed;
 use vos_store::listed::{ContIds, ObjIds};
 use vos_store::refusal::{DiscardNo, FetchNo, FreezeNo};
 
@@ -51,12 +53,19 @@ fn row_or_new(cont: ContId, row: Option<&ContRow>) -> ContRow
 }
 
 // The answer of a read on the versions below an epoch.
-fn answered(alloc: Global, rows: &[Version], read: &Read, below: Epoch) -> Result<Answer, FetchNo>
-    requires { list_all is_version_in_form rows.now ≡ true }
+fn answered(
+    alloc: Global,
+    rows: &[Version],
+    index: &ReadIndex,
+    read: &Read,
+    below: Epoch,
+) -> Result<Answer, FetchNo>
+    requires form { list_all is_version_in_form rows.now ≡ true }
+    requires index { IsIndexOf index.now rows.now }
     ensures answer { IfOk result (λ a. a ≡ answer read.now (map_below rows.now below.0)) }
     ensures memory { IfErr result (λ e. e ≡ FetchNo.Memory) }
 {
-    match answer_below(alloc, rows, read, below) {
+    match answer_indexed(alloc, rows, index, read, below) {
         Ok(answer) => Ok(answer),
         Err(_) => Err(FetchNo::Memory),
     }
@@ -133,9 +142,12 @@ impl Contents {
 
     /// The answer of a read below an epoch.
     #[tactic(auto, unfolding(vos_store::specs::Answers::fetched))]
-    pub fn fetch(&self, read: &Read, below: Epoch) -> Result<Answer, FetchNo>
-        ensures answer { says fetch_open result ≡ false → result ≡ fetched read.now below (contents_of self.now) }
+    pub fn fetch(&mut self, read: &Read, below: Epoch) -> Result<Answer, FetchNo>
+        ensures answer { says fetch_open result ≡ false → result ≡ fetched read.now below (contents_of self.old) }
         ensures runs { says fetch_stop result ≡ false }
+        ensures kept { contents_of self.new ≡ contents_of self.old }
+        ensures free { free_of self.new ≡ free_of self.old }
+        ensures lease { self.new.lease ≡ self.old.lease }
     {
         let path = read.path();
         if self.is_past(path.cont, below) {
@@ -145,7 +157,10 @@ impl Contents {
         if let Some(version) = self.rows.first_blocking(path, below) {
             return Err(FetchNo::Unsettled(version.by));
         }
-        answered(self.alloc, self.rows.rows(), read, below)
+        if self.index.extend(self.rows.rows()).is_err() {
+            return Err(FetchNo::Memory);
+        }
+        answered(self.alloc, self.rows.rows(), &self.index, read, below)
     }
 
     /// The write on a path, above one epoch and up to another, that is shown.

@@ -16,6 +16,7 @@ use dtx_entries::table::EntryTable;
 use std::alloc::Global;
 use vos_aggregate::planner::Planner;
 use vos_rows::table::VersionTable;
+use vos_scan::index::ReadIndex;
 use vos_store::refusal::EnlistNo;
 
 impl Contents {
@@ -44,6 +45,7 @@ impl Contents {
             alloc,
             rows: VersionTable::new(alloc),
             planner: Planner::new(alloc),
+            index: ReadIndex::new(alloc)?,
             entries: EntryTable::new(alloc),
             conts: Vec::new(alloc),
             snaps: Vec::with_capacity(alloc, 256)?,
@@ -113,7 +115,8 @@ impl Contents {
         ensures lease { self.new.lease ≡ self.old.lease }
     {
         self.taken += blocks_more(self.rows.coming(), self.capacity);
-        self.rows.put_coming();
+        let same = self.rows.put_coming();
+        self.index.keep(same);
         self.entries.put(entry);
     }
 
@@ -236,6 +239,7 @@ impl Contents {
             upto,
         };
         self.planner.mark_going(&plan);
+        self.index.forget();
         self.rows.sweep(self.planner.marks());
         self.taken = blocks_taken(self.rows.rows(), self.entries.rows(), self.capacity);
     }
@@ -246,6 +250,7 @@ impl Contents {
         ensures free { free_of self.old ≤ free_of self.new }
         ensures lease { self.new.lease ≡ self.old.lease }
     {
+        self.index.forget();
         self.rows.remove_range(cont, lo, hi);
         self.taken = blocks_taken(self.rows.rows(), self.entries.rows(), self.capacity);
     }

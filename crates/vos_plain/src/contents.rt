@@ -2,6 +2,7 @@
 ghost use Rattle.std.specs.Prelude.{◌≡◌, ◌+◌, ◌<◌, ◌≤◌, length, vec_capacity};
 ghost use Rattle.daos_model.specs.Durables.{IsInForm};
 ghost use Rattle.vos_plain.specs.Costs.{taken_blocks};
+ghost use Rattle.vos_scan.specs.Indexed.{IsIndexOf};
 
 use base_types::snapshot::Snap;
 use daos_model::durable::ContRow;
@@ -9,15 +10,17 @@ use dtx_entries::table::EntryTable;
 use std::alloc::Global;
 use vos_aggregate::planner::Planner;
 use vos_rows::table::VersionTable;
+use vos_scan::index::ReadIndex;
 
 /// What a store over lists keeps: its parts in order, memory for plans of prunes of all its versions,
-/// and places for 256 snapshots. Its capacity is in blocks, and the blocks that are taken are counted
+/// an index of the first of them for reads, and places for 256 snapshots. Its capacity is in blocks, and the blocks that are taken are counted
 /// as they change.
 #[derive(Drop)]
 pub struct Contents {
     pub alloc: Global,
     pub rows: VersionTable,
     pub planner: Planner,
+    pub index: ReadIndex,
     pub entries: EntryTable,
     pub conts: Vec<ContRow>,
     pub snaps: Vec<Snap>,
@@ -26,6 +29,7 @@ pub struct Contents {
     pub capacity: u32,
     pub taken: u32,
     ghost formed: { IsInForm (record { versions = rows.items; entries = entries.items; conts = conts.items; snaps = snaps.items; lease = lease; incarnation = incarnation }) },
+    ghost indexed: { IsIndexOf index rows.items },
     ghost planned: { length rows.items ≤ planner.room },
     ghost places: { 256 ≤ vec_capacity snaps },
     ghost counted: { taken ≡ taken_blocks rows.items entries.items },

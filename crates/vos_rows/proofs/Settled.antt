@@ -1,9 +1,9 @@
 -- What isn't sought among the first rows is found behind them.
 use Rattle.std.proofs.Common.{◌≡◌, ℕ, zero, suc, Bool, true, false, ◌&&◌, ◌||◌, not, List, [], ◌∷◌, ◌++◌, Some, map, arith, take, drop, ◌+◌, ◌≤◌, ◌<◌, length, get_or, refl, sym, subst, ◌∙◌, ap}
-use Rattle.std.specs.Prelude.{find, if◌then◌else◌, nat_le, nat_lt}
+use Rattle.std.specs.Prelude.{filter, find, if◌then◌else◌, nat_le, nat_lt}
 use Rattle.std.specs.List.{list_all}
 use Rattle.std.proofs.lemmas.Bool.Decides.{nat_tests}
-use Rattle.std.proofs.lemmas.List.{append-nil, drop_all, length-drop, take_all}
+use Rattle.std.proofs.lemmas.List.{append-nil, drop_all, length-drop, take-take, take_all}
 use Rattle.base_types.specs.declared.id.AttemptId.{AttemptId}
 use Rattle.base_types.specs.declared.path.Path.{Path}
 use Rattle.base_types.specs.Paths.{overlaps}
@@ -12,7 +12,7 @@ use Rattle.daos_model.specs.Answers.{is_before}
 use Rattle.daos_model.specs.BoolLaws.{and_left, and_right, both}
 use Rattle.daos_model.specs.Durables.{same_attempt, version_key}
 use Rattle.daos_model.specs.Ordered.{all_from, is_in_order}
-use Rattle.daos_model.specs.Versions.{blocks_read, done_by, first_between, first_blocking, is_between, version_path}
+use Rattle.daos_model.specs.Versions.{blocks_read, done_by, first_between, first_blocking, is_between, is_not_pending, is_pending, version_path}
 use Rattle.vos_rows.specs.Tables.{is_done, is_upto}
 use Rattle.vos_rows.proofs.Putting.{from-last, in_order-take, last_taken}
 
@@ -120,3 +120,43 @@ done-settled a (suc n) [] h = refl
 done-settled a (suc n) (v ∷ vs) h =
     both (is_done (done_by a v)) (list_all is_done (take n (map (done_by a) vs))) (ap is_done (done-same a v (and_left (is_done v) (list_all is_done (take n vs)) h)) ∙ and_left (is_done v) (list_all is_done (take n vs)) h)
     (done-settled a n vs (and_right (is_done v) (list_all is_done (take n vs)) h))
+
+-- the first rows stay, where one more is put behind them
+pub same-put : (n at : ℕ) (v : Version) (vs : List Version) → n ≤ at → at ≤ length vs → take n (take at vs ++ v ∷ drop at vs) ≡ take n vs
+same-put zero at v vs le within = refl
+same-put (suc n) zero v vs le within = absurd (omega arith)
+same-put (suc n) (suc at) v [] le within = absurd (omega arith)
+same-put (suc n) (suc at) v (x ∷ vs) le within = ap (λ xs. x ∷ xs) (same-put n at v vs (omega arith) (omega arith))
+
+-- and so do fewer of them
+pub same-fewer : (n m : ℕ) (vs us : List Version) → n ≤ m → take m vs ≡ take m us → take n vs ≡ take n us
+same-fewer n m vs us le e = sym (take-take n m vs le) ∙ ap (λ xs. take n xs) e ∙ take-take n m us le
+
+-- so do those that are done, where an attempt's are made done
+pub same-settled : (a : AttemptId) (n : ℕ) (vs : List Version) → list_all is_done (take n vs) ≡ true → take n (map (done_by a) vs) ≡ take n vs
+same-settled a zero vs h = refl
+same-settled a (suc n) [] h = refl
+same-settled a (suc n) (v ∷ vs) h =
+    ap (λ x. x ∷ take n (map (done_by a) vs)) (done-same a v (and_left (is_done v) (list_all is_done (take n vs)) h))
+    ∙ ap (λ xs. v ∷ xs) (same-settled a n vs (and_right (is_done v) (list_all is_done (take n vs)) h))
+
+done-stays : (a : AttemptId) (v : Version) → is_done v ≡ true → is_not_pending a v ≡ true
+unfolding is_pending
+done-stays a v h = ap (λ (b : Bool). not (same_attempt v.by a && not b)) h ∙ by (same_attempt v.by a)
+  where
+    by : (b : Bool) → not (b && false) ≡ true
+    by true = refl
+    by false = refl
+
+-- and where those that aren't go
+pub same-unpending : (a : AttemptId) (n : ℕ) (vs : List Version) → n ≤ length vs → list_all is_done (take n vs) ≡ true → (take n (filter (is_not_pending a) vs) ≡ take n vs) × (n ≤ length (filter (is_not_pending a) vs))
+same-unpending a zero vs le h = (refl, omega arith)
+same-unpending a (suc n) [] le h = absurd (omega arith)
+same-unpending a (suc n) (v ∷ vs) le h =
+    by (is_not_pending a v) (done-stays a v (and_left (is_done v) (list_all is_done (take n vs)) h)) (same-unpending a n vs (omega arith) (and_right (is_done v) (list_all is_done (take n vs)) h))
+  where
+    by : (b : Bool) → b ≡ true
+        → (take n (filter (is_not_pending a) vs) ≡ take n vs) × (n ≤ length (filter (is_not_pending a) vs))
+        → (take (suc n) (if b then v ∷ filter (is_not_pending a) vs else filter (is_not_pending a) vs) ≡ v ∷ take n vs) × (suc n ≤ length (if b then v ∷ filter (is_not_pending a) vs else filter (is_not_pending a) vs))
+    by true e (same, long) = (ap (λ xs. v ∷ xs) same, omega (arith, long))
+    by false e rest = absurd (let m : ⊥ = cc in m)

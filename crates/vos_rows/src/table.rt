@@ -1,5 +1,5 @@
 // A table of versions.
-ghost use Rattle.std.specs.Prelude.{◌≡◌, [], true, filter, length, map, OnErr, OnOk};
+ghost use Rattle.std.specs.Prelude.{◌≡◌, ◌≤◌, [], true, filter, length, map, take, OnErr, OnOk};
 ghost use Rattle.std.specs.Option.{option_copied};
 ghost use Rattle.daos_model.specs.Changes.{is_out_of_range};
 ghost use Rattle.daos_model.specs.Durables.{version_key};
@@ -79,12 +79,16 @@ impl VersionTable {
         Ok(())
     }
 
-    /// Puts the versions that are to come among those that are there, which are in order.
-    pub fn put_coming(&mut self)
+    /// Puts the versions that are to come among those that are there, which are in order, and tells how
+    /// many of the first surely stay as they were.
+    pub fn put_coming(&mut self) -> usize
         requires order { is_in_order version_key self.old.items ≡ true }
         ensures items { self.new.items ≡ puts version_key self.old.coming self.old.items }
+        ensures within { result ≤ length self.new.items }
+        ensures same { take result self.new.items ≡ take result self.old.items }
     {
         self.settled = put_all(&mut self.rows, self.settled, &mut self.coming);
+        self.settled
     }
 
     /// Makes the versions of an attempt done.

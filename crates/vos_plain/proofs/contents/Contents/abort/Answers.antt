@@ -8,6 +8,7 @@ use Rattle.vos_plain.specs.Contents.{contents_of}
 use Rattle.vos_plain.specs.Costs.{versions_blocks}
 use Rattle.vos_plain.proofs.Kept.{aborted_is, all_left, entries-aborted, fewer, fewer_entries, fewer_versions}
 use Rattle.base_types.specs.declared.entry.Settle.TheVariants.{Abort}
+use Rattle.vos_plain.proofs.Indexing.{index-unpended}
 use Rattle.vos_plain.proofs.contents.Contents.abort.Goals as goal
 
 pub invariant_of-self-clause-formed : goal.invariant_of-self-clause-formed
@@ -53,3 +54,6 @@ pub invariant_of-self-clause-planned : goal.invariant_of-self-clause-planned
 invariant_of-self-clause-planned c =
     let few : length c.remove_pending.new.self.items ≤ length c.args.self.now.rows.items = fewer_versions c.args.self.now.rows.items c.remove_pending.new.self.items (is_not_pending c.args.attempt) c.remove_pending.ensures in
     omega (arith, c.args.self.now.planned, few)
+
+pub invariant_of-self-clause-indexed : goal.invariant_of-self-clause-indexed
+invariant_of-self-clause-indexed c = index-unpended c.args.attempt c.args.self.now.index.covered c.args.self.now.index.firsts.items c.args.self.now.rows.items c.remove_pending.new.self.items c.args.self.now.indexed c.remove_pending.ensures

@@ -4,6 +4,7 @@ use Rattle.daos_model.specs.FormLaws.{settled-in_form}
 use Rattle.vos_plain.specs.Contents.{contents_of}
 use Rattle.vos_plain.proofs.Kept.{committed_is, entries-committed, same_taken}
 use Rattle.base_types.specs.declared.entry.Settle.TheVariants.{Commit}
+use Rattle.vos_plain.proofs.Indexing.{index-settled}
 use Rattle.vos_plain.proofs.contents.Contents.commit.Goals as goal
 
 pub invariant_of-self-clause-formed : goal.invariant_of-self-clause-formed
@@ -22,3 +23,6 @@ returns-clause-free c = ap (λ n. c.args.self.now.capacity - n) (same_taken _ _ 
 
 pub invariant_of-self-clause-counted : goal.invariant_of-self-clause-counted
 invariant_of-self-clause-counted c = c.args.self.now.counted ∙ sym (same_taken _ _ _ _ _ c.settle.ensures (entries-committed c.args.attempt c.args.self.now.entries.items c.settle-2.new.self.items c.settle-2.ensures))
+
+pub invariant_of-self-clause-indexed : goal.invariant_of-self-clause-indexed
+invariant_of-self-clause-indexed c = index-settled c.args.attempt c.args.self.now.index.covered c.args.self.now.index.firsts.items c.args.self.now.rows.items c.settle.new.self.items c.args.self.now.indexed c.settle.ensures

@@ -48,3 +48,6 @@ pub invariant_of-self-clause-planned : goal.invariant_of-self-clause-planned
 invariant_of-self-clause-planned c =
     let few : length c.remove_range.new.self.items ≤ length c.args.self.now.rows.items = fewer_versions c.args.self.now.rows.items c.remove_range.new.self.items (is_out_of_range c.args.cont c.args.lo c.args.hi) c.remove_range.ensures in
     omega (arith, c.args.self.now.planned, few)
+
+pub invariant_of-self-clause-indexed : goal.invariant_of-self-clause-indexed
+invariant_of-self-clause-indexed c = c.forget.ensures c.remove_range.new.self.items

@@ -60,3 +60,6 @@ invariant_of-self-clause-planned c =
     let rows : c.sweep.new.self.items ≡ filter (is_staying c.args.cont c.args.upto (contents_of c.args.self.now)) c.args.self.now.rows.items = swept_by c.args.cont c.args.upto (contents_of c.args.self.now) c.rows.result.now c.deref.result.now c.mark_going.new.self.marks c.marks.result.now c.sweep.new.self.items c.mark_going.ensures.marks c.rows.ensures c.deref.ensures.value c.marks.ensures c.sweep.ensures in
     let few : length c.sweep.new.self.items ≤ length c.args.self.now.rows.items = fewer_versions c.args.self.now.rows.items c.sweep.new.self.items (is_staying c.args.cont c.args.upto (contents_of c.args.self.now)) rows in
     omega (arith, c.args.self.now.planned, few, c.mark_going.ensures.room)
+
+pub invariant_of-self-clause-indexed : goal.invariant_of-self-clause-indexed
+invariant_of-self-clause-indexed c = c.forget.ensures c.sweep.new.self.items
