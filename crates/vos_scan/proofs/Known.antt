@@ -1,5 +1,5 @@
 -- What rows of an index make of names.
-use Rattle.std.proofs.Common.{◌≡◌, ℕ, zero, suc, ◌+◌, ◌<◌, ◌≤◌, Bool, true, false, ◌&&◌, ◌||◌, not, List, [], ◌∷◌, ◌++◌, Option, Some, None, length, get_or, take, drop, refl, sym, ◌∙◌, ap, subst, arith, append_assoc}
+use Rattle.std.proofs.Common.{◌≡◌, ℕ, zero, suc, ◌+◌, ◌<◌, ◌≤◌, Bool, true, false, ◌&&◌, ◌||◌, List, [], ◌∷◌, ◌++◌, Option, Some, None, length, get_or, take, drop, refl, sym, ◌∙◌, ap, subst, arith, append_assoc}
 use Rattle.std.specs.Prelude.{◌==◌, nat_le, nat_lt, is_none, if◌then◌else◌}
 use Rattle.std.specs.List.{list_all, list_any}
 use Rattle.std.specs.Option.{option_eq}
@@ -19,7 +19,7 @@ use Rattle.daos_model.specs.BoolLaws.{and_left, and_right, both, clash}
 use Rattle.daos_model.specs.OrderLaws.{before-itself, before-trans}
 use Rattle.daos_model.specs.Prunes.{is_punch}
 use Rattle.daos_model.specs.Versions.{sees}
-use Rattle.vos_scan.specs.Indexed.{AreNamed, IsIndex, both_same, is_below, is_done, picked, same_dkey, stands_for, update_same, updated}
+use Rattle.vos_scan.specs.Indexed.{AreNamed, IsIndex, both_same, is_below, is_done, picked, stands_for, update_same, updated}
 use Rattle.vos_scan.specs.Names.{dkey_by, dkey_in, is_seen_punch, names_from}
 
 -- ---- a name that is there

@@ -1,5 +1,4 @@
 use Rattle.std.proofs.Common.{arith}
-use Rattle.std.proofs.lemmas.Bool.Decides.{nat_tests}
 use Rattle.vos_scan.proofs.Known.{index-kept}
 use Rattle.vos_scan.proofs.index.ReadIndex.keep.Goals as goal
 

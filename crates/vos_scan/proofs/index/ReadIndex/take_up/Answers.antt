@@ -1,5 +1,4 @@
-use Rattle.std.proofs.Common.{◌≡◌, true, ◌∙◌, sym, rules}
-use Rattle.std.specs.Prelude.{if◌then◌else◌}
+use Rattle.std.proofs.Common.{◌≡◌, true, rules}
 use Rattle.vos_scan.proofs.Known.{index-next}
 use Rattle.vos_scan.proofs.index.ReadIndex.take_up.Goals as goal
 
