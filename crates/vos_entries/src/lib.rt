@@ -1,0 +1,2 @@
+// Entries of attempts on trees.
+#![tactic(auto)]

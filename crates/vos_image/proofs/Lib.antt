@@ -1,0 +1,9 @@
+pub mod Steps
+pub mod Trees
+pub mod Chains
+pub mod Codecs
+pub mod Levels
+pub mod Objects
+pub mod Lists
+pub mod Entries
+pub mod Whole

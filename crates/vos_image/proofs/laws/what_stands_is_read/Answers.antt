@@ -1,0 +1,8 @@
+use Rattle.vos_image.proofs.Whole.{stands_kept, stands_read}
+use Rattle.vos_image.proofs.laws.what_stands_is_read.Goals as goal
+
+pub returns-clause-read : goal.returns-clause-read
+returns-clause-read c = stands_read
+
+pub returns-clause-kept : goal.returns-clause-kept
+returns-clause-kept c = stands_kept

@@ -1,0 +1,29 @@
+-- What stands in an image is what is read of it.
+use Rattle.std.specs.Prelude.{◌≡◌, ◌==◌, ℕ, List, [], ◌∷◌, ◌++◌, Ok, if◌then◌else◌}
+use Rattle.base_outside.specs.Images.{Image}
+use Rattle.pmem_pages.specs.Owners.{Holds}
+use Rattle.vos_levels.specs.Levels.{hung_root}
+use Rattle.vos_image.specs.Content.{content_of, shown}
+use Rattle.vos_image.specs.Fits.{AllFit}
+use Rattle.vos_image.specs.Kept.{Stored, durable_of, kept, read_content, stored_owner}
+use Rattle.vos_image.specs.Places.{Header, Places, read_places}
+
+-- the blocks of the two roots, where there are such, the later first
+abbrev pub root_blocks : Header → List ℕ
+root_blocks h = (if h.entries == 0 then [] else h.entries ∷ []) ++ (if h.objects == 0 then [] else h.objects ∷ [])
+
+-- A content has these fixed places, and all this stands in its blocks, below the two roots and as the layout asks.
+pub record Stands (target size : ℕ) (f : Image) (p : Places) (x : Stored) : Type 0 where
+  pub places : read_places target (content_of size f) [] ≡ Ok (p, root_blocks p.header)
+  pub holds : Holds stored_owner (shown (content_of size f)) x
+  pub objects : p.header.objects ≡ hung_root x.0
+  pub entries : p.header.entries ≡ hung_root x.1
+  pub fits : AllFit (content_of size f) x.0 x.1
+
+-- what stands is read, exactly
+abbrev pub WhatStandsIsRead : Type 0
+WhatStandsIsRead = (target size : ℕ) (f : Image) (p : Places) (x : Stored) → Stands target size f p x → read_content target size f ≡ Ok (record { places = p; stored = x })
+
+-- and is what the content keeps
+abbrev pub WhatStandsIsKept : Type 0
+WhatStandsIsKept = (target size : ℕ) (f : Image) (p : Places) (x : Stored) → Stands target size f p x → kept target size f ≡ durable_of (record { places = p; stored = x })

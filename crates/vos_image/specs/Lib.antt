@@ -1,0 +1,9 @@
+pub mod Steps
+pub mod Content
+pub mod Nodes
+pub mod Trees
+pub mod Kinds
+pub mod Places
+pub mod Kept
+pub mod Fits
+pub mod Laws
