@@ -1,5 +1,6 @@
 -- Entries of attempts in the order of attempts, each with the chain that lists the blocks of its nodes.
-use Rattle.std.specs.Prelude.{◌≡◌, ◌<◌, ◌^◌, ℕ, true, List, [], ◌∷◌, ◌++◌, map}
+use Rattle.std.specs.Prelude.{◌≡◌, ◌<◌, ◌+◌, ◌^◌, ℕ, Bool, true, bit_or, length, List, [], ◌∷◌, ◌++◌, map}
+use Rattle.std.specs.List.{list_any}
 use Rattle.base_types.specs.declared.entry.Entry.{Entry}
 use Rattle.base_types.specs.declared.id.AttemptId.{AttemptId}
 use Rattle.byteorder.specs.Endian.{big_bytes}
@@ -9,7 +10,8 @@ use Rattle.pmem_pages.specs.declared.node.Value.{Value}
 use Rattle.vos_values.specs.declared.values.EntryMark.{EntryMark}
 use Rattle.vos_values.specs.Keys.{IsAttempt, attempt_key}
 use Rattle.vos_values.specs.Values.{IsEntryMark, entry_value}
-use Rattle.vos_levels.specs.Levels.{Hung, Level, hung, in_part, things}
+use Rattle.vos_levels.specs.Changes.{same_attempt, sum_those}
+use Rattle.vos_levels.specs.Levels.{Hung, Level, hung, in_part, map_those, things, without_those}
 use Rattle.vos_chain.specs.Chains.{Chain, chain_owner, first_of}
 
 -- an entry, the blocks of the nodes that its attempt has in other trees, and the blocks of the chain that lists them
@@ -26,8 +28,12 @@ list_bytes (n ∷ ns) = big_bytes 4 n ++ list_bytes ns
 abbrev pub list_of : Stored → Chain
 list_of s = record { blocks = s.blocks; bytes = list_bytes s.nodes }
 
+-- what the tree says of an entry whose list begins at a block
+abbrev pub mark_with : Entry → ℕ → EntryMark
+mark_with e chain = record { committed = e.committed; leader = e.leader; members = e.members; confirmed = e.confirmed; epoch = e.epoch; chain = chain }
+
 abbrev pub mark_of : Stored → EntryMark
-mark_of s = record { committed = s.entry.committed; leader = s.entry.leader; members = s.entry.members; confirmed = s.entry.confirmed; epoch = s.entry.epoch; chain = first_of s.blocks }
+mark_of s = mark_with s.entry (first_of s.blocks)
 
 abbrev pub key_of_stored : Stored → TreeKey
 key_of_stored s = attempt_key s.entry.attempt
@@ -60,3 +66,64 @@ entry_of s = s.entry
 -- the entries that stand there
 abbrev pub entries_in : Entries → List Entry
 entries_in g = map entry_of (things g)
+
+-- ---- what is said of entries
+
+-- an entry, and the blocks of the nodes that it lists
+pub record Listing : Type 0 where
+  pub entry : Entry
+  pub nodes : List ℕ
+
+abbrev pub listing_of : Stored → Listing
+listing_of s = record { entry = s.entry; nodes = s.nodes }
+
+abbrev pub listings : Entries → List Listing
+listings g = map listing_of (things g)
+
+-- that of an attempt
+abbrev pub is_listing_at : AttemptId → Listing → Bool
+is_listing_at a l = same_attempt l.entry.attempt a
+
+abbrev pub is_at : AttemptId → Stored → Bool
+is_at a s = same_attempt s.entry.attempt a
+
+abbrev pub has_entry_at : AttemptId → List Stored → Bool
+has_entry_at a xs = list_any (is_at a) xs
+
+-- committed, it lists nothing
+abbrev pub committed : Listing → Listing
+committed l = record { entry = record { attempt = l.entry.attempt; epoch = l.entry.epoch; leader = l.entry.leader; members = l.entry.members; confirmed = l.entry.confirmed; committed = true }; nodes = [] }
+
+-- with one more confirmed member
+abbrev pub confirmed_by : ℕ → Listing → Listing
+confirmed_by t l = record { entry = record { attempt = l.entry.attempt; epoch = l.entry.epoch; leader = l.entry.leader; members = l.entry.members; confirmed = bit_or l.entry.confirmed (2 ^ t); committed = l.entry.committed }; nodes = l.nodes }
+
+-- what the tree says then
+abbrev pub committed_mark : EntryMark → EntryMark
+committed_mark m = record { committed = true; leader = m.leader; members = m.members; confirmed = m.confirmed; epoch = m.epoch; chain = 0 }
+
+abbrev pub confirmed_mark : ℕ → EntryMark → EntryMark
+confirmed_mark t m = record { committed = m.committed; leader = m.leader; members = m.members; confirmed = bit_or m.confirmed (2 ^ t); epoch = m.epoch; chain = m.chain }
+
+-- the entry of an attempt became committed, or confirmed by a member, or went
+abbrev pub IsCommittedAt : AttemptId → List Listing → List Listing → Type 0
+IsCommittedAt a xs ys = ys ≡ map_those (is_listing_at a) committed xs
+
+abbrev pub IsConfirmedAt : AttemptId → ℕ → List Listing → List Listing → Type 0
+IsConfirmedAt a t xs ys = ys ≡ map_those (is_listing_at a) (confirmed_by t) xs
+
+abbrev pub IsGoneAt : AttemptId → List Listing → List Listing → Type 0
+IsGoneAt a xs ys = ys ≡ without_those (is_listing_at a) xs
+
+-- how many blocks the list of an attempt's entry stands in, and those and the entry's own
+abbrev pub blocks_in_list : Stored → ℕ
+blocks_in_list s = length s.blocks
+
+abbrev pub blocks_of_entry : Stored → ℕ
+blocks_of_entry s = length s.blocks + 1
+
+abbrev pub list_blocks_at : AttemptId → List Stored → ℕ
+list_blocks_at a xs = sum_those (is_at a) blocks_in_list xs
+
+abbrev pub entry_blocks_at : AttemptId → List Stored → ℕ
+entry_blocks_at a xs = sum_those (is_at a) blocks_of_entry xs

@@ -17,6 +17,7 @@ use Rattle.vos_values.proofs.Reading.{chosen_test}
 use Rattle.vos_chain.specs.Chains.{Chain, Links, first_of}
 use Rattle.vos_chain.specs.Made.{chain_blocks}
 use Rattle.vos_chain.proofs.Reading.{first_low}
+use Rattle.vos_entries.proofs.Lists.{blocks_counted}
 use Rattle.vos_image.specs.Steps.{Step, ◌>>=◌, give, rule, zeros}
 use Rattle.vos_image.specs.Content.{Content, block, is_taken, link, shown}
 use Rattle.vos_image.specs.Kinds.{read_chain, read_links}
@@ -62,23 +63,13 @@ link_rest next part low few =
     all_zero (drop (8 + length part) bs)
     (last_of_three (big_number 1 bs == 8) (list_all is_zero (take 3 (drop 1 bs))) zeros_behind (chosen_test (is_link (length part) bs) (big_number 4 (drop 4 bs)) next (link_again next part low few)))
 
--- ---- how many blocks a chain has
+-- ---- the first part of the bytes
 
 first_part : (xs : List ℕ) → length (take 248 xs) ≡ min (length xs) 248
 first_part xs = elim (cases_lt (length xs) 248) [
   | inl less ↦ ap length (take_all 248 xs (omega arith)) ∙ omega arith
   | inr more ↦ length-take-le 248 xs (omega arith) ∙ omega arith
 ]
-
-one_block_more : (n : ℕ) → 0 < n → div_ceil n 248 ≡ suc (div_ceil (n - 248) 248)
-one_block_more n some = omega arith
-
-pub blocks_counted : (c : Content) (bs bytes : List ℕ) → Links (shown c) bs bytes → length bs ≡ chain_blocks (length bytes)
-blocks_counted c [] bytes s = let e = ap length s in rw e refl
-blocks_counted c (b ∷ bs) bytes s =
-    let rest = blocks_counted c bs (drop 248 bytes) s.1.1.1.1 in
-    let e = one_block_more (length bytes) s.1.1.0 in
-    ap suc (rest ∙ ap chain_blocks (length-drop 248 bytes)) ∙ sym e
 
 -- ---- reading
 
@@ -141,4 +132,4 @@ links_read c (b ∷ bs) bytes s apart =
 pub chain_read : (c : Content) (x : Chain) → Links (shown c) x.blocks x.bytes → ((q : ℕ) → times q x.blocks ≤ 1) → Passes (read_chain c (first_of x.blocks) (length x.bytes)) x (root_tally (first_of x.blocks)) (λ q. times q x.blocks)
 unfolding read_chain
 chain_read c x s apart =
-    subst (λ z. Passes (read_links c z (first_of x.blocks) (length x.bytes)) x (root_tally (first_of x.blocks)) (λ q. times q x.blocks)) (blocks_counted c x.blocks x.bytes s) (links_read c x.blocks x.bytes s apart)
+    subst (λ z. Passes (read_links c z (first_of x.blocks) (length x.bytes)) x (root_tally (first_of x.blocks)) (λ q. times q x.blocks)) (blocks_counted (shown c) x.blocks x.bytes s) (links_read c x.blocks x.bytes s apart)

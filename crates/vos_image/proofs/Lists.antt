@@ -16,6 +16,7 @@ use Rattle.vos_values.specs.Links.{link_bytes}
 use Rattle.vos_chain.specs.Chains.{Chain, Links, chain_taken, first_of}
 use Rattle.vos_chain.proofs.Reading.{first_low}
 use Rattle.vos_entries.specs.Entries.{AreListed, list_bytes}
+use Rattle.vos_entries.proofs.Lists.{length_list}
 use Rattle.vos_image.specs.Steps.{Step, ◌>>=◌, give, is_among, rule, zeros}
 use Rattle.vos_image.specs.Content.{Content, block, is_taken, link, shown}
 use Rattle.vos_image.specs.Kinds.{Listed, read_list, read_numbers, read_part}
@@ -62,10 +63,6 @@ numbers_read is_node last (suc n) at k (x ∷ xs) so_far led few good nodes once
     rw (number, ne, node, new, rest) (more ∙ ap (λ z. Ok (z, led)) (append_assoc so_far (x ∷ []) xs))
 
 -- ---- the numbers of a block
-
-length_list : (ns : List ℕ) → length (list_bytes ns) ≡ 4 * length ns
-length_list [] = refl
-length_list (n ∷ ns) = omega (arith, length-append (big_bytes 4 n) (list_bytes ns), length-bytes_high_first 4 n, length_list ns)
 
 pub list_front : (k : ℕ) (ns : List ℕ) → take (4 * k) (list_bytes ns) ≡ list_bytes (take k ns)
 list_front zero ns = refl
