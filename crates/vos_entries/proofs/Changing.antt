@@ -68,6 +68,9 @@ more_listings s xs ys h = record {
   after_is = ap (map listing_of) h.after_is ∙ map_append h.left (s ∷ h.right);
 }
 
+pub missing_at : (a : AttemptId) (key : TreeKey) (m : Blocks) (g : Entries) → IsAttempt a → key ≡ attempt_key a → Holds entries_owner m g → has_entry_at a (things g) ≡ false → entry_at key (entries g.0) ≡ None
+missing_at a key m g fits is h none = ap (λ k. entry_at k (entries g.0)) is ∙ missing_key entry_level (attempt_key a) (is_at a) (tells_at a fits) m g h none
+
 module _ (a : AttemptId) (fits : IsAttempt a) (m : Blocks) (g : Entries) (h : Holds entries_owner m g) where
   pub mark_found : option_and_then entry_in (value_of (entry_at (attempt_key a) (entries g.0))) ≡ option_map mark_of (find (is_at a) (things g))
   mark_found =

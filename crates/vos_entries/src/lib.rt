@@ -1,4 +1,5 @@
-// Entries of attempts on trees: how they stand, and the lists of the nodes that their attempts have in other trees.
+// Entries of attempts on trees, each with the list of the nodes that its attempt has in other trees.
 #![tactic(auto)]
 
+pub mod entries;
 pub mod list;
