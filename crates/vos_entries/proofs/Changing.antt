@@ -1,5 +1,5 @@
 -- An entry comes, is committed, confirmed or removed.
-use Rattle.std.proofs.Common.{◌≡◌, ℕ, ◌+◌, ◌*◌, ◌≤◌, ◌<◌, ◌^◌, ◌⊎◌, ◌==◌, ◌&&◌, Bool, true, false, Option, Some, None, List, [], ◌∷◌, ◌++◌, length, map, refl, sym, ap, ◌∙◌, subst, arith, inl, inr}
+use Rattle.std.proofs.Common.{◌≡◌, ℕ, ◌+◌, ◌<◌, ◌^◌, ◌⊎◌, ◌==◌, ◌&&◌, true, false, Some, None, List, [], ◌∷◌, ◌++◌, map, refl, sym, ap, ◌∙◌, subst, arith, inl, inr}
 use Rattle.std.specs.Prelude.{bit_or}
 use Rattle.std.specs.List.{find, list_any}
 use Rattle.std.specs.Ordering.{nat_cmp, ordering_then}
@@ -9,12 +9,13 @@ use Rattle.std.proofs.lemmas.Bool.{cases_lt}
 use Rattle.std.proofs.lemmas.Bool.Decides.{nat_tests}
 use Rattle.base_types.specs.declared.id.AttemptId.{AttemptId}
 use Rattle.base_types.specs.declared.entry.Entry as stored_entry
-use Rattle.pmem_pages.specs.Blocks.{Blocks}
+use Rattle.pmem_pages.specs.Blocks.{Blocks, Budget, IsSpent}
 use Rattle.pmem_pages.specs.Counts.{times_none}
 use Rattle.pmem_pages.specs.Owners.{Changed, Holds, maybe, times}
-use Rattle.pmem_pages.specs.Shape.{Entry, IsTree, blocks_of, chosen, entries, entry_at}
+use Rattle.pmem_pages.specs.Shape.{Entry, IsTree, Shape, chosen, entries, entry_at}
 use Rattle.pmem_pages.specs.declared.node.TreeKey.{TreeKey}
 use Rattle.pmem_pages.proofs.Shapes.{is_tree_on}
+use Rattle.pmem_tree.specs.Calls.{StagesAtMost, TooFew}
 use Rattle.pmem_tree.specs.Changes.{Inserts, Puts, Removes}
 use Rattle.pmem_tree_base.specs.Find.{value_of}
 use Rattle.vos_values.specs.declared.values.EntryMark.{EntryMark}
@@ -23,17 +24,16 @@ use Rattle.vos_values.specs.Values.{IsEntryMark, entry_in, entry_value}
 use Rattle.vos_values.proofs.KeyLaws.{attempts_order}
 use Rattle.vos_values.proofs.ValueLaws.{entries_exact}
 use Rattle.vos_levels.specs.Calls.{Becomes}
-use Rattle.vos_levels.specs.Changes.{same_attempt, sum_those}
+use Rattle.vos_levels.specs.Changes.{sum_those}
 use Rattle.vos_levels.specs.Levels.{HasMore, TellsKey, hung_root, map_those, things, without_those}
 use Rattle.vos_levels.proofs.Changing.{hung_less, hung_more, hung_other, hung_tree, stays}
 use Rattle.vos_levels.proofs.Settling.{Says, becomes_shown, given_part, made_part, missing_key, says, says_none, shown_changed, spot_apart, spot_at, spot_stands, stays_part, still_thing, sum_none, sum_spot}
 use Rattle.vos_levels.proofs.Spots.{Spot, mapped_none, value_found, without_none}
 use Rattle.vos_levels.proofs.Testing.{all_good, found_good, read_option}
-use Rattle.vos_chain.specs.Chains.{Chain, chain_owner, first_of}
-use Rattle.vos_chain.specs.Made.{MadeChain}
-use Rattle.vos_chain.proofs.Reading.{first_low}
-use Rattle.vos_entries.specs.Entries.{AreListed, Entries, IsCommittedAt, IsConfirmedAt, IsGoneAt, IsStored, Listing, Stored, blocks_in_list, blocks_of_entry, committed, committed_mark, confirmed_by, confirmed_mark, entries_owner, entry_blocks_at, entry_level, has_entry_at, is_at, is_listing_at, list_blocks_at, list_bytes, list_of, listing_of, listings, mark_of, mark_with}
-use Rattle.vos_entries.specs.Lists.{IsListAt}
+use Rattle.vos_chain.specs.Chains.{chain_owner}
+use Rattle.vos_chain.specs.Made.{HasFewer, MadeChain}
+use Rattle.vos_entries.specs.Entries.{AreListed, Entries, IsCommittedAt, IsConfirmedAt, IsGoneAt, IsStored, Listing, Stored, committed, committed_mark, confirmed_by, confirmed_mark, entries_owner, entry_level, has_entry_at, is_at, is_listing_at, list_bytes, list_of, listing_of, listings, mark_of, mark_with}
+use Rattle.vos_entries.specs.Lists.{FewerThan, FewerToRemove, IsListAt, StagesToRemove}
 
 -- ---- keys
 
@@ -70,6 +70,33 @@ more_listings s xs ys h = record {
 
 pub missing_at : (a : AttemptId) (key : TreeKey) (m : Blocks) (g : Entries) → IsAttempt a → key ≡ attempt_key a → Holds entries_owner m g → has_entry_at a (things g) ≡ false → entry_at key (entries g.0) ≡ None
 missing_at a key m g fits is h none = ap (λ k. entry_at k (entries g.0)) is ∙ missing_key entry_level (attempt_key a) (is_at a) (tells_at a fits) m g h none
+
+-- ---- sums
+
+pub few_list : (n : ℕ) (b : Budget) → HasFewer n n b → FewerThan n b
+few_list n b h = elim h [ inl r ↦ inl (omega (arith, r)) | inr r ↦ inr (omega (arith, r)) ]
+
+pub few_then : (n : ℕ) (b c : Budget) → IsSpent n n b c → (c.ranges < 1) ⊎ (c.bytes < 256) → FewerThan n b
+few_then n b c s h = elim h [ inl r ↦ inl (omega (arith, r, s.ranges_most)) | inr r ↦ inr (omega (arith, r, s.bytes_most)) ]
+
+pub spent_then : (n : ℕ) (a b c : Budget) → IsSpent n n a b → IsSpent 1 256 b c → IsSpent (n + 1) (n + 256) a c
+spent_then n a b c s r = record { ranges_most = omega (arith, s.ranges_most, r.ranges_most); ranges_least = omega (arith, s.ranges_least, r.ranges_least); bytes_most = omega (arith, s.bytes_most, r.bytes_most); bytes_least = omega (arith, s.bytes_least, r.bytes_least) }
+
+pub spent_none : (n k : ℕ) (a b : Budget) → b ≡ a → IsSpent n k a b
+spent_none n k a b e = let r = ap (λ (z : Budget). z.ranges) e in let s = ap (λ (z : Budget). z.bytes) e in record { ranges_most = omega (arith, r); ranges_least = omega (arith, r); bytes_most = omega (arith, s); bytes_least = omega (arith, s) }
+
+pub few_removed : (n : ℕ) (t : Shape) (b : Budget) → TooFew t b → FewerToRemove n t b
+few_removed n t b h d few = elim (h d few) [ inl r ↦ inl (omega (arith, r)) | inr r ↦ inr (omega (arith, r)) ]
+
+pub few_given : (n : ℕ) (t : Shape) (b c : Budget) → StagesAtMost 8 16 t b c → HasFewer n n c → FewerToRemove n t b
+few_given n t b c s h d few =
+    let r = s d few in
+    elim h [ inl x ↦ inl (omega (arith, x, r.ranges_most)) | inr x ↦ inr (omega (arith, x, r.bytes_most)) ]
+
+pub stages_given : (n : ℕ) (t : Shape) (a b c : Budget) → StagesAtMost 8 16 t a b → IsSpent n n b c → StagesToRemove n t a c
+stages_given n t a b c r s d few =
+    let x = r d few in
+    record { ranges_most = omega (arith, s.ranges_most, x.ranges_most); ranges_least = omega (arith, s.ranges_least, x.ranges_least); bytes_most = omega (arith, s.bytes_most, x.bytes_most); bytes_least = omega (arith, s.bytes_least, x.bytes_least) }
 
 module _ (a : AttemptId) (fits : IsAttempt a) (m : Blocks) (g : Entries) (h : Holds entries_owner m g) where
   pub mark_found : option_and_then entry_in (value_of (entry_at (attempt_key a) (entries g.0))) ≡ option_map mark_of (find (is_at a) (things g))

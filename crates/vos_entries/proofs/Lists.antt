@@ -1,13 +1,12 @@
 -- A list that is written, and one that is given back.
 use Rattle.std.proofs.Common.{◌≡◌, ◌≢◌, ℕ, zero, suc, ◌+◌, ◌-◌, ◌*◌, ◌≤◌, ◌<◌, ◌^◌, min, List, [], ◌∷◌, ◌++◌, length, take, drop, get_or, Some, None, refl, sym, ap, ◌∙◌, subst, arith, inl, inr, append_assoc}
-use Rattle.std.specs.Prelude.{slice_index}
 use Rattle.std.specs.Int.{div_ceil}
 use Rattle.std.specs.List.{list_all}
 use Rattle.std.proofs.lemmas.Bool.Decides.{eqb_tells}
 use Rattle.std.proofs.lemmas.List.{append-nil, drop_all, length-append, length-drop}
 use Rattle.byteorder.specs.Endian.{big_bytes, big_number}
 use Rattle.byteorder.specs.Numbers.{big_number-reads_back, length-bytes_high_first}
-use Rattle.pmem_pages.specs.Blocks.{Blocks, Budget, IsSpent, put}
+use Rattle.pmem_pages.specs.Blocks.{Blocks, put}
 use Rattle.pmem_pages.specs.Counts.{at_most, times_none, times_one, times_other}
 use Rattle.pmem_pages.specs.Owners.{Changed, maybe, times}
 use Rattle.vos_values.specs.Fields.{padded}

@@ -15,9 +15,10 @@ ghost use Rattle.vos_levels.specs.Calls.{Becomes, HasThing, OfThing};
 ghost use Rattle.vos_levels.specs.Levels.{HasMore, hung_root, things};
 ghost use Rattle.vos_chain.specs.Made.{chain_blocks};
 ghost use Rattle.vos_versions.specs.Marks.{StagesFor, TooFewFor};
-ghost use Rattle.vos_entries.specs.Entries.{AreListed, IsConfirmedAt, confirmed_mark, entries_owner, has_entry_at, is_at, listings, mark_of, mark_with};
+ghost use Rattle.vos_entries.specs.Entries.{AreListed, IsCommittedAt, IsConfirmedAt, IsGoneAt, committed_mark, confirmed_mark, entries_owner, entry_blocks_at, has_entry_at, is_at, list_blocks_at, listings, mark_of, mark_with};
+ghost use Rattle.vos_entries.specs.Lists.{FewerThan, FewerToRemove, StagesToRemove};
 
-use crate::list::write_list;
+use crate::list::{give_list, write_list};
 use base_types::entry::Entry;
 use base_types::epoch::TargetId;
 use base_types::id::AttemptId;
@@ -58,6 +59,20 @@ fn mark_with(entry: Entry, chain: u32) -> EntryMark
         confirmed: entry.confirmed,
         epoch: entry.epoch,
         chain,
+    }
+}
+
+// Committed, it has no list.
+fn committed_mark(mark: EntryMark) -> EntryMark
+    ensures { result ≡ committed_mark mark }
+{
+    EntryMark {
+        committed: true,
+        leader: mark.leader,
+        members: mark.members,
+        confirmed: mark.confirmed,
+        epoch: mark.epoch,
+        chain: 0,
     }
 }
 
@@ -211,5 +226,70 @@ impl EntryTree {
             return Ok(());
         };
         self.put_mark(pages, attempt, confirmed_mark(mark, target), steps)
+    }
+
+    /// Commits the entry of an attempt, where there is one: its list is given back.
+    ///
+    /// # Errors
+    ///
+    /// `TooMuch` comes only where fewer ranges or bytes are left to stage than the list has blocks, and one
+    /// range of 256 bytes besides; `Stopped` only where the pages answered it, and `NoBlock` never. After one
+    /// the stage has to be dropped.
+    pub fn commit<P: Pages, L: Ledger>(
+        &mut self,
+        pages: &mut P,
+        attempt: AttemptId,
+        steps: &mut Steps<L>,
+    ) -> Result<(), TreeNo>
+        requires kind { self.old.tree.kind ≡ 7 }
+        requires here { HasThing P.tells entries_owner hung_root (P.blocks pages.old) self.old.tree.root (λ g. ⊤) }
+        ensures committed { OnOk result (OfThing P.tells entries_owner hung_root (P.blocks pages.old) self.old.tree.root (λ g. Becomes entries_owner hung_root listings (P.blocks pages.old) g (P.blocks pages.new) self.new.tree.root (IsCommittedAt attempt))) }
+        ensures kept { self.new ≡ self.old }
+        ensures no_block { IsErrOf result TreeNo.NoBlock → ⊥ }
+        ensures too_much { IsErrOf result TreeNo.TooMuch → OfThing P.tells entries_owner hung_root (P.blocks pages.old) self.old.tree.root (λ g. FewerThan (list_blocks_at attempt (things g)) (P.budget pages.old)) }
+        ensures staged { OnOk result (OfThing P.tells entries_owner hung_root (P.blocks pages.old) self.old.tree.root (λ g. IsSpent (list_blocks_at attempt (things g) + 1) (list_blocks_at attempt (things g) + 256) (P.budget pages.old) (P.budget pages.new))) }
+        ensures free { OnOk result (OfThing P.tells entries_owner hung_root (P.blocks pages.old) self.old.tree.root (λ g. (P.budget pages.new).free ≡ (P.budget pages.old).free + list_blocks_at attempt (things g))) }
+        ensures goes { Goes P.stopped P.count P.burns pages.old pages.new }
+        ensures stopped { IsErrOf result TreeNo.Stopped → P.stopped pages.new ≡ true }
+        ensures went_on { OnOk result (P.stopped pages.new ≡ P.stopped pages.old) }
+    {
+        let Some(mark) = self.find(pages, attempt, steps)? else {
+            return Ok(());
+        };
+        give_list(pages, mark.chain, steps)?;
+        self.put_mark(pages, attempt, committed_mark(mark), steps)
+    }
+
+    /// Removes the entry of an attempt with its list, where there is one: it was aborted, or is forgotten.
+    ///
+    /// # Errors
+    ///
+    /// `TooMuch` comes only where fewer ranges or bytes are left to stage than the tree may want and the list
+    /// has blocks; `Stopped` only where the pages answered it, and `NoBlock` never. After one the stage has to
+    /// be dropped.
+    pub fn remove<P: Pages, L: Ledger>(
+        &mut self,
+        pages: &mut P,
+        attempt: AttemptId,
+        steps: &mut Steps<L>,
+    ) -> Result<(), TreeNo>
+        requires kind { self.old.tree.kind ≡ 7 }
+        requires here { HasThing P.tells entries_owner hung_root (P.blocks pages.old) self.old.tree.root (λ g. ⊤) }
+        ensures removed { OnOk result (OfThing P.tells entries_owner hung_root (P.blocks pages.old) self.old.tree.root (λ g. Becomes entries_owner hung_root listings (P.blocks pages.old) g (P.blocks pages.new) self.new.tree.root (IsGoneAt attempt))) }
+        ensures kind { self.new.tree.kind ≡ 7 }
+        ensures no_block { IsErrOf result TreeNo.NoBlock → ⊥ }
+        ensures too_much { IsErrOf result TreeNo.TooMuch → OfThing P.tells entries_owner hung_root (P.blocks pages.old) self.old.tree.root (λ g. FewerToRemove (list_blocks_at attempt (things g)) g.0 (P.budget pages.old)) }
+        ensures staged { OnOk result (OfThing P.tells entries_owner hung_root (P.blocks pages.old) self.old.tree.root (λ g. StagesToRemove (list_blocks_at attempt (things g)) g.0 (P.budget pages.old) (P.budget pages.new))) }
+        ensures free { OnOk result (OfThing P.tells entries_owner hung_root (P.blocks pages.old) self.old.tree.root (λ g. (P.budget pages.new).free ≡ (P.budget pages.old).free + entry_blocks_at attempt (things g))) }
+        ensures goes { Goes P.stopped P.count P.burns pages.old pages.new }
+        ensures stopped { IsErrOf result TreeNo.Stopped → P.stopped pages.new ≡ true }
+        ensures went_on { OnOk result (P.stopped pages.new ≡ P.stopped pages.old) }
+    {
+        let Some(mark) = self.find(pages, attempt, steps)? else {
+            return Ok(());
+        };
+        let key = key_at(attempt);
+        self.tree.remove(pages, &key, steps)?;
+        give_list(pages, mark.chain, steps)
     }
 }

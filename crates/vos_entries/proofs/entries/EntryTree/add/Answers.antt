@@ -1,5 +1,4 @@
-use Rattle.std.proofs.Common.{rules, refl, ◌≡◌, ◌∙◌, ◌+◌, ◌*◌, ap, sym, subst, arith, length, false, Err, IsErrOf}
-use Rattle.pmem_pages.specs.Shape.{IsTree, entries, entry_at}
+use Rattle.std.proofs.Common.{rules, refl, ◌≡◌, ◌∙◌, ◌*◌, ap, subst, length, Err, IsErrOf}
 use Rattle.pmem_tree.specs.Changes.{Inserts}
 use Rattle.pmem_tree_base.specs.declared.refusal.TreeNo.TheVariants.{TooMuch}
 use Rattle.vos_values.specs.Keys.{attempt_key}

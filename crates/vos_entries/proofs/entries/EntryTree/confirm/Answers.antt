@@ -1,4 +1,4 @@
-use Rattle.std.proofs.Common.{◌≡◌, ◌∙◌, ◌<◌, ◌^◌, None, Some, refl, sym, ap, subst, arith}
+use Rattle.std.proofs.Common.{◌≡◌, ◌∙◌, ◌<◌, ◌^◌, None, refl, sym, subst}
 use Rattle.std.specs.Prelude.{bit_or}
 use Rattle.std.specs.List.{find}
 use Rattle.std.specs.Option.{option_map}

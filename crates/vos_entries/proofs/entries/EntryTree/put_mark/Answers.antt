@@ -1,4 +1,4 @@
-use Rattle.std.proofs.Common.{◌≡◌, ◌∙◌, Some, sym, ap, subst}
+use Rattle.std.proofs.Common.{◌∙◌, sym, ap, subst}
 use Rattle.pmem_pages.specs.Shape.{IsTree, entries, entry_at}
 use Rattle.pmem_tree.specs.Changes.{Puts}
 use Rattle.vos_values.specs.Keys.{attempt_key}
