@@ -1,27 +1,25 @@
 -- A chain that stands is read.
-use Rattle.std.proofs.Common.{◌≡◌, ◌≢◌, ℕ, zero, suc, ◌+◌, ◌-◌, ◌*◌, ◌/◌, ◌%◌, ◌≤◌, ◌<◌, ◌^◌, min, ◌==◌, ◌&&◌, not, Bool, true, false, List, [], ◌∷◌, ◌++◌, length, take, drop, Some, None, refl, sym, ap, ◌∙◌, subst, arith, inl, inr}
+use Rattle.std.proofs.Common.{◌≡◌, ◌≢◌, ℕ, zero, suc, ◌+◌, ◌-◌, ◌*◌, ◌≤◌, ◌<◌, ◌^◌, min, ◌==◌, ◌&&◌, not, Bool, true, false, List, [], ◌∷◌, ◌++◌, length, take, drop, refl, sym, ap, ◌∙◌, subst, arith, inl, inr}
 use Rattle.std.specs.Prelude.{if◌then◌else◌, slice_index}
-use Rattle.std.specs.Int.{div_ceil}
 use Rattle.std.specs.List.{list_all}
 use Rattle.std.proofs.lemmas.Bool.{cases_lt, ne_eqb}
-use Rattle.std.proofs.lemmas.Bool.Decides.{eqb_tells, nat_tests}
+use Rattle.std.proofs.lemmas.Bool.Decides.{nat_tests}
 use Rattle.std.proofs.lemmas.List.{length-drop, length-take-le, take-append-drop, take_all}
-use Rattle.byteorder.specs.Endian.{big_bytes, big_number}
+use Rattle.byteorder.specs.Endian.{big_number}
 use Rattle.byteorder.specs.Numbers.{big_number-reads_back}
-use Rattle.pmem_pages.specs.Counts.{times_none, times_one, times_own}
+use Rattle.pmem_pages.specs.Counts.{times_none, times_one}
 use Rattle.pmem_pages.specs.Owners.{times}
 use Rattle.vos_values.specs.Fields.{padded}
-use Rattle.vos_values.specs.Links.{is_link, is_zero, link_bytes, next_in, part_in}
+use Rattle.vos_values.specs.Links.{is_link, is_zero, link_bytes, next_in}
 use Rattle.vos_values.proofs.LinkLaws.{link_again, part_again}
 use Rattle.vos_values.proofs.Reading.{chosen_test}
 use Rattle.vos_chain.specs.Chains.{Chain, Links, first_of}
-use Rattle.vos_chain.specs.Made.{chain_blocks}
 use Rattle.vos_chain.proofs.Reading.{first_low}
 use Rattle.vos_entries.proofs.Lists.{blocks_counted}
-use Rattle.vos_image.specs.Steps.{Step, ◌>>=◌, give, rule, zeros}
-use Rattle.vos_image.specs.Content.{Content, block, is_taken, link, shown}
+use Rattle.vos_image.specs.Steps.{give}
+use Rattle.vos_image.specs.Content.{Content, is_taken, link, shown}
 use Rattle.vos_image.specs.Kinds.{read_chain, read_links}
-use Rattle.vos_image.proofs.Steps.{Passes, Tally, beside, given, kept, linked, none, recounted, root_tally, ruled, shown_there, some_block, go_on, zeros_hold}
+use Rattle.vos_image.proofs.Steps.{Passes, Tally, beside, given, kept, linked, none, recounted, root_tally, ruled, shown_there, go_on, zeros_hold}
 
 -- ---- a block of a chain
 

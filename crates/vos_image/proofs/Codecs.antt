@@ -1,34 +1,33 @@
 -- What is read of keys and values, field by field, is what they were made of.
-use Rattle.std.proofs.Common.{◌≡◌, ◌≢◌, ℕ, ◌+◌, ◌≤◌, ◌<◌, ◌==◌, ◌&&◌, ◌||◌, not, nat_le, nat_lt, Bool, true, false, List, [], ◌∷◌, ◌++◌, length, drop, Option, Some, None, Ok, refl, sym, ap, ◌∙◌, arith, inl, inr}
+use Rattle.std.proofs.Common.{◌≡◌, ◌≢◌, ℕ, ◌+◌, ◌≤◌, ◌==◌, ◌&&◌, ◌||◌, not, nat_le, nat_lt, Bool, true, false, List, length, drop, Option, Some, None, Ok, refl, sym, ap, ◌∙◌, arith}
 use Rattle.std.specs.Prelude.{if◌then◌else◌}
 use Rattle.std.proofs.lemmas.Bool.{ne_eqb}
 use Rattle.std.proofs.lemmas.Bool.Decides.{nat_tests}
 use Rattle.byteorder.specs.Endian.{big_number}
-use Rattle.base_types.specs.declared.id.AttemptId.{AttemptId}
 use Rattle.base_types.specs.declared.key.KeyNo.{KeyNo}
 use Rattle.base_types.specs.declared.key.KeyNo.TheVariants.{Empty, TooLong}
 use Rattle.pmem_pages.specs.declared.node.TreeKey.{TreeKey}
 use Rattle.pmem_pages.specs.Owners.{times}
 use Rattle.vos_values.specs.declared.keys.ExtentKey.{ExtentKey}
 use Rattle.vos_values.specs.declared.keys.Layout.{Layout}
-use Rattle.vos_values.specs.declared.keys.Layout.TheVariants.{One, Two}
+use Rattle.vos_values.specs.declared.keys.Layout.TheVariants.{Two}
 use Rattle.vos_values.specs.declared.keys.Moment.{Moment}
 use Rattle.vos_values.specs.declared.keys.ObjectKey.{ObjectKey}
 use Rattle.vos_values.specs.declared.values.AkeyRoots.{AkeyRoots}
 use Rattle.vos_values.specs.declared.values.LogMark.{LogMark}
 use Rattle.vos_values.specs.declared.values.Roots.{Roots}
 use Rattle.vos_values.specs.declared.values.VersionMark.{VersionMark}
-use Rattle.vos_values.specs.Fields.{key_of, packed, total, widths_of}
-use Rattle.vos_values.specs.Keys.{IsExtentKey, IsMoment, IsName, IsObjectKey, extent_fields, extent_in, extent_key, moment_fields, moment_in, moment_key, name_in, name_key, object_fields, object_in, object_key, class_of, has_sizes, is_said_size, is_size, object_of_class, sized_object}
-use Rattle.vos_values.specs.Values.{IsAkeyRoots, IsLogMark, IsRoots, IsVersionMark, akey_in, akey_value, is_state, log_in, log_value, roots_in, roots_value, version_in, version_value}
+use Rattle.vos_values.specs.Fields.{key_of, total, widths_of}
+use Rattle.vos_values.specs.Keys.{IsExtentKey, IsMoment, IsName, IsObjectKey, extent_fields, extent_in, extent_key, moment_fields, moment_in, moment_key, name_key, object_fields, object_in, object_key, class_of, has_sizes, is_said_size, is_size, object_of_class, sized_object}
+use Rattle.vos_values.specs.Values.{IsAkeyRoots, IsLogMark, IsRoots, IsVersionMark, akey_value, is_state, log_in, log_value, roots_value, version_in, version_value}
 use Rattle.vos_values.proofs.KeyLaws.{extents_exact, moments_exact, names_exact}
 use Rattle.vos_values.proofs.ObjectLaws.{objects_exact}
 use Rattle.vos_values.proofs.Reading.{chosen_is, chosen_test, length_packed}
 use Rattle.vos_values.proofs.ValueLaws.{akeys_exact, logs_exact, roots_exact, singles_exact}
-use Rattle.vos_image.specs.Steps.{Step, ◌>>=◌, give, rule, says}
+use Rattle.vos_image.specs.Steps.{◌>>=◌, rule, says}
 use Rattle.vos_image.specs.Content.{Content, is_taken, link}
 use Rattle.vos_image.specs.Kinds.{is_class, is_name_length, is_object_length, read_akey_roots, read_extent, read_mark, read_moment, read_name, read_object, read_roots, read_version}
-use Rattle.vos_image.proofs.Steps.{Passes, Tally, beside, given, kept, linked, none, recounted, root_tally, ruled, said, silent, some_block, go_on}
+use Rattle.vos_image.proofs.Steps.{Passes, Tally, beside, given, linked, none, root_tally, ruled, said, some_block, go_on}
 
 pub at_most_test : (a b : ℕ) → a ≤ b → nat_le a b ≡ true
 at_most_test a b h = grind (arith, nat_tests)

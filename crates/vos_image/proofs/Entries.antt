@@ -1,8 +1,7 @@
 -- Entries are read, with their lists.
-use Rattle.std.proofs.Common.{◌≡◌, ◌≢◌, ℕ, ◌+◌, ◌*◌, ◌/◌, ◌≤◌, ◌<◌, ◌^◌, min, ◌==◌, ◌&&◌, not, nat_le, nat_lt, Bool, true, false, List, [], ◌∷◌, ◌++◌, length, drop, Some, None, Ok, refl, sym, ap, ◌∙◌, subst, arith, inl, inr}
-use Rattle.std.specs.Prelude.{All, if◌then◌else◌}
+use Rattle.std.proofs.Common.{◌≡◌, ◌≢◌, ℕ, ◌+◌, ◌/◌, ◌≤◌, ◌<◌, ◌==◌, ◌&&◌, nat_le, nat_lt, Bool, true, false, List, [], length, drop, Ok, refl, ap, ◌∙◌, arith}
+use Rattle.std.specs.Prelude.{All}
 use Rattle.std.specs.List.{list_any}
-use Rattle.std.specs.Int.{bit_at}
 use Rattle.std.proofs.lemmas.Bool.Decides.{nat_tests}
 use Rattle.byteorder.specs.Endian.{big_number}
 use Rattle.base_types.specs.declared.id.AttemptId.{AttemptId}
@@ -10,7 +9,7 @@ use Rattle.pmem_pages.specs.Counts.{at_most, times_none}
 use Rattle.pmem_pages.specs.Owners.{Holds, times}
 use Rattle.vos_values.specs.declared.values.EntryMark.{EntryMark}
 use Rattle.vos_values.specs.Fields.{key_of}
-use Rattle.vos_values.specs.Keys.{IsAttempt, attempt_fields, attempt_in, attempt_key}
+use Rattle.vos_values.specs.Keys.{IsAttempt, attempt_fields, attempt_key}
 use Rattle.vos_values.specs.Values.{IsEntryMark, entry_in, entry_value, is_state}
 use Rattle.vos_values.proofs.KeyLaws.{attempts_exact}
 use Rattle.vos_values.proofs.Reading.{chosen_is, chosen_test, length_packed}
@@ -18,16 +17,16 @@ use Rattle.vos_values.proofs.ValueLaws.{entries_exact}
 use Rattle.vos_levels.specs.Levels.{hung_root, things}
 use Rattle.vos_chain.specs.Chains.{chain_owner, chain_taken, first_of}
 use Rattle.vos_entries.specs.Entries.{Entries, Stored, entries_owner, entry_level, list_bytes, list_of, mark_of}
-use Rattle.vos_image.specs.Steps.{Step, ◌>>=◌, give, rule, says}
-use Rattle.vos_image.specs.Content.{Content, is_taken, link, shown}
+use Rattle.vos_image.specs.Steps.{says}
+use Rattle.vos_image.specs.Content.{Content, is_taken, shown}
 use Rattle.vos_image.specs.Fits.{EntryFits}
-use Rattle.vos_image.specs.Kinds.{Listed, entries, fits_targets, read_attempt, read_entry, read_list, stored_entry}
+use Rattle.vos_image.specs.Kinds.{entries, fits_targets, read_attempt, read_entry, read_list}
 use Rattle.vos_image.specs.Nodes.{Node, is_of}
 use Rattle.vos_image.specs.Trees.{read_tree}
-use Rattle.vos_image.proofs.Chains.{first_taken, root_is_first}
+use Rattle.vos_image.proofs.Chains.{first_taken}
 use Rattle.vos_image.proofs.Codecs.{at_most_test}
 use Rattle.vos_image.proofs.Lists.{list_read}
-use Rattle.vos_image.proofs.Steps.{Passes, Tally, given, go_on, linked, none, recounted, root_tally, ruled, said, shown_there, some_block}
+use Rattle.vos_image.proofs.Steps.{Passes, given, go_on, linked, none, root_tally, ruled, said, shown_there, some_block}
 use Rattle.vos_image.proofs.Trees.{Takes, tree_read}
 
 same : (a b : ℕ) → a ≡ b → (a == b) ≡ true

@@ -1,30 +1,25 @@
 -- Each kind of trees reads its level.
-use Rattle.std.proofs.Common.{◌≡◌, ◌≢◌, ℕ, ◌+◌, ◌≤◌, ◌<◌, ◌^◌, ◌==◌, ◌&&◌, nat_le, Bool, true, false, List, [], ◌∷◌, ◌++◌, length, Some, refl, sym, ap, ◌∙◌, subst, arith}
-use Rattle.std.specs.Prelude.{All, if◌then◌else◌}
+use Rattle.std.proofs.Common.{◌≡◌, ◌≢◌, ℕ, ◌+◌, ◌≤◌, ◌<◌, ◌^◌, ◌==◌, ◌&&◌, nat_le, Bool, true, false, List, [], ◌∷◌, ◌++◌, length, refl, ap, arith}
+use Rattle.std.specs.Prelude.{All}
 use Rattle.std.proofs.lemmas.Bool.Decides.{nat_tests}
 use Rattle.daos_model.specs.Forms.{fits_records}
 use Rattle.pmem_pages.specs.Counts.{times_none}
 use Rattle.pmem_pages.specs.Owners.{Holds, Owner, both, times, times-append}
-use Rattle.pmem_pages.specs.Shape.{root_of}
 use Rattle.pmem_pages.proofs.Shapes.{root_fits}
-use Rattle.vos_values.specs.declared.keys.Moment.{Moment}
-use Rattle.vos_values.specs.declared.values.AkeyRoots.{AkeyRoots}
-use Rattle.vos_values.specs.declared.values.Roots.{Roots}
 use Rattle.vos_values.specs.Values.{is_length}
 use Rattle.vos_levels.specs.Levels.{Hung, Level, hung, hung_root, things}
 use Rattle.vos_chain.specs.Chains.{Chain, chain_owner, first_of}
-use Rattle.vos_ilog.specs.declared.ilog.LogEntry.{LogEntry}
 use Rattle.vos_ilog.specs.Logs.{Log, log_level, log_owner, mark_of as mark_of_entry, moment_of as moment_of_entry}
-use Rattle.vos_single.specs.Singles.{Singles, Stored as StoredSingle, chain_of as single_chain, mark_of as single_mark, moment_of as single_moment, single_level, single_owner}
-use Rattle.vos_extent.specs.Extents.{Extents, Stored as StoredExtent, chain_of as extent_chain, extent_level, extent_owner, mark_of as extent_mark, place_of}
-use Rattle.vos_path.specs.Objects.{Akey, Below, Branch, Dkey, Object, Objects, Values, akey_level, below_owner, below_roots, branch_level, dkey_level, object_level, objects_owner, values_owner, values_roots}
+use Rattle.vos_single.specs.Singles.{Stored as StoredSingle, chain_of as single_chain, mark_of as single_mark, moment_of as single_moment, single_level}
+use Rattle.vos_extent.specs.Extents.{Stored as StoredExtent, chain_of as extent_chain, extent_level, mark_of as extent_mark, place_of}
+use Rattle.vos_path.specs.Objects.{Below}
 use Rattle.vos_image.specs.Steps.{Step, ◌>>=◌, give}
 use Rattle.vos_image.specs.Content.{Content, is_taken, shown}
-use Rattle.vos_image.specs.Fits.{AkeyFits, ExtentFits, LogFits, SingleFits}
-use Rattle.vos_image.specs.Kinds.{akeys, any_length, extents, logs, read_chain, singles}
-use Rattle.vos_image.specs.Trees.{Kind, read_tree}
-use Rattle.vos_image.proofs.Chains.{chain_read, first_taken, root_is_first}
-use Rattle.vos_image.proofs.Codecs.{akey_roots_read, extent_length, extent_read, mark_read, moment_length, moment_read, name_read, roots_read, version_read}
+use Rattle.vos_image.specs.Fits.{ExtentFits, LogFits, SingleFits}
+use Rattle.vos_image.specs.Kinds.{any_length, extents, logs, read_chain, singles}
+use Rattle.vos_image.specs.Trees.{read_tree}
+use Rattle.vos_image.proofs.Chains.{chain_read, first_taken}
+use Rattle.vos_image.proofs.Codecs.{extent_length, extent_read, mark_read, moment_length, moment_read, version_read}
 use Rattle.vos_image.proofs.Steps.{Passes, Tally, beside, given, none, recounted, root_tally, silent, some_block, go_on}
 use Rattle.vos_image.proofs.Trees.{Takes, root_shown, tree_read}
 

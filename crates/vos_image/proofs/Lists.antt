@@ -1,27 +1,26 @@
 -- The list of an entry is read.
-use Rattle.std.proofs.Common.{◌≡◌, ◌≢◌, ℕ, zero, suc, ◌+◌, ◌-◌, ◌*◌, ◌/◌, ◌≤◌, ◌<◌, ◌^◌, min, ◌==◌, ◌&&◌, not, nat_lt, nat_le, Bool, true, false, List, [], ◌∷◌, ◌++◌, length, take, drop, replicate, Some, None, Ok, refl, sym, ap, ◌∙◌, subst, arith, inl, inr, append_assoc}
-use Rattle.std.specs.Prelude.{All, if◌then◌else◌, slice_index}
+use Rattle.std.proofs.Common.{◌≡◌, ℕ, zero, suc, ◌+◌, ◌-◌, ◌*◌, ◌≤◌, ◌<◌, ◌^◌, ◌==◌, not, Bool, true, false, List, [], ◌∷◌, ◌++◌, length, take, drop, replicate, Ok, refl, sym, ap, ◌∙◌, subst, arith, inl, inr, append_assoc}
+use Rattle.std.specs.Prelude.{All, slice_index}
 use Rattle.std.proofs.lemmas.Bool.{cases_lt, ne_eqb}
-use Rattle.std.proofs.lemmas.Bool.Decides.{eqb_tells, nat_tests}
 use Rattle.std.proofs.Math.Seq.{take-append-add}
-use Rattle.std.proofs.lemmas.List.{append-nil, drop-drop, drop_all, drop_at, length-append, get_or-replicate, get_or_past, length-drop, length-replicate, length-take, length-take-le, take-append-drop, take_all}
+use Rattle.std.proofs.lemmas.List.{append-nil, drop-drop, drop_all, drop_at, get_or-replicate, get_or_past, length-drop, length-replicate, length-take, take-append-drop, take_all}
 use Rattle.std.proofs.lemmas.List.Elements.{All-cons, All-head, All-nil, All-tail}
 use Rattle.byteorder.specs.Endian.{big_bytes, big_number}
 use Rattle.byteorder.specs.Numbers.{big_number-reads_back, length-bytes_high_first}
 use Rattle.pmem_pages.specs.Blocks.{Blocks}
-use Rattle.pmem_pages.specs.Counts.{at_most, times_none, times_one, times_own}
+use Rattle.pmem_pages.specs.Counts.{times_none, times_one, times_own}
 use Rattle.pmem_pages.specs.Owners.{times, times-append}
 use Rattle.vos_values.specs.Fields.{padded}
 use Rattle.vos_values.specs.Links.{link_bytes}
-use Rattle.vos_chain.specs.Chains.{Chain, Links, chain_taken, first_of}
+use Rattle.vos_chain.specs.Chains.{Links, first_of}
 use Rattle.vos_chain.proofs.Reading.{first_low}
 use Rattle.vos_entries.specs.Entries.{AreListed, list_bytes}
 use Rattle.vos_entries.proofs.Lists.{length_list}
-use Rattle.vos_image.specs.Steps.{Step, ◌>>=◌, give, is_among, rule, zeros}
-use Rattle.vos_image.specs.Content.{Content, block, is_taken, link, shown}
+use Rattle.vos_image.specs.Steps.{◌>>=◌, give, is_among, rule}
+use Rattle.vos_image.specs.Content.{Content, block, link, shown}
 use Rattle.vos_image.specs.Kinds.{Listed, read_list, read_numbers, read_part}
 use Rattle.vos_image.proofs.Chains.{first_taken, link_kind, link_next, link_zeros, root_is_first, zero_three}
-use Rattle.vos_image.proofs.Steps.{Passes, Tally, beside, given, kept, linked, none, not_among, recounted, root_tally, ruled, shown_there, some_block, go_on, zeros_hold}
+use Rattle.vos_image.proofs.Steps.{Passes, Tally, beside, given, kept, linked, none, not_among, recounted, root_tally, ruled, shown_there, go_on, zeros_hold}
 
 -- ---- numbers
 

@@ -1,29 +1,23 @@
 -- Akeys, dkeys and objects are read, with all that is below them.
-use Rattle.std.proofs.Common.{◌≡◌, ◌≢◌, ℕ, ◌+◌, ◌≤◌, ◌<◌, ◌^◌, ◌==◌, ◌&&◌, ◌||◌, nat_le, nat_lt, Bool, true, false, List, [], ◌∷◌, ◌++◌, length, drop, Option, Some, None, Ok, refl, sym, ap, ◌∙◌, subst, arith, inl, inr}
-use Rattle.std.specs.Prelude.{All, if◌then◌else◌}
-use Rattle.std.proofs.lemmas.Bool.Decides.{nat_tests}
-use Rattle.byteorder.specs.Endian.{big_number}
-use Rattle.base_types.specs.Keys.{key_fault}
+use Rattle.std.proofs.Common.{◌≡◌, ℕ, ◌+◌, ◌≤◌, List, ◌++◌, refl, arith}
+use Rattle.std.specs.Prelude.{All}
 use Rattle.pmem_pages.specs.Owners.{Holds, both, times, times-append}
-use Rattle.pmem_pages.specs.declared.node.TreeKey.{TreeKey}
-use Rattle.vos_values.specs.declared.keys.ObjectKey.{ObjectKey}
-use Rattle.vos_values.specs.Fields.{key_of}
-use Rattle.vos_values.specs.Keys.{IsName, name_key}
+use Rattle.vos_values.specs.Keys.{IsName}
 use Rattle.vos_values.specs.Values.{roots_value}
 use Rattle.vos_levels.specs.Levels.{Hung, Level, hung, hung_root, things}
 use Rattle.vos_ilog.specs.Logs.{Log, log_owner}
 use Rattle.vos_single.specs.Singles.{mark_of as single_mark, moment_of as single_moment, single_level, single_owner}
 use Rattle.vos_extent.specs.Extents.{extent_level, extent_owner, mark_of as extent_mark, place_of}
 use Rattle.vos_chain.specs.Chains.{first_of}
-use Rattle.vos_path.specs.Objects.{Akey, Below, Branch, Dkey, Object, Objects, Values, akey_level, below_owner, below_roots, branch_level, dkey_level, object_level, objects_owner, values_owner, values_roots}
+use Rattle.vos_path.specs.Objects.{Akey, Below, Dkey, Object, Objects, Values, akey_level, below_owner, below_roots, dkey_level, object_level, objects_owner, values_owner, values_roots}
 use Rattle.vos_image.specs.Steps.{Step, ◌>>=◌, give}
-use Rattle.vos_image.specs.Content.{Content, is_taken, shown}
+use Rattle.vos_image.specs.Content.{Content, shown}
 use Rattle.vos_image.specs.Fits.{AkeyFits, DkeyFits, ExtentFits, LogFits, ObjectFits, SingleFits}
 use Rattle.vos_image.specs.Kinds.{akeys, dkeys, extents, logs, objects, read_roots, singles}
-use Rattle.vos_image.specs.Trees.{Kind, read_tree}
+use Rattle.vos_image.specs.Trees.{read_tree}
 use Rattle.vos_image.proofs.Codecs.{akey_roots_read, name_length, name_read, object_length, object_read, roots_read}
 use Rattle.vos_image.proofs.Levels.{below_blocks, below_split, below_tally, both_read, extents_taken, first_holds, log_read, root_small, root_taken, second_holds, singles_taken}
-use Rattle.vos_image.proofs.Steps.{Passes, Tally, beside, given, none, recounted, root_tally, some_block, go_on}
+use Rattle.vos_image.proofs.Steps.{Passes, Tally, beside, none, recounted, root_tally, some_block, go_on}
 use Rattle.vos_image.proofs.Trees.{Takes, tree_read}
 
 -- ---- akeys

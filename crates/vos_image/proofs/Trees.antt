@@ -1,5 +1,5 @@
 -- A tree that stands is read, with what its values lead to.
-use Rattle.std.proofs.Common.{◌≡◌, ◌≢◌, ℕ, zero, suc, ◌+◌, ◌*◌, ◌≤◌, ◌<◌, ◌^◌, max, ◌==◌, ◌&&◌, Bool, true, false, List, [], ◌∷◌, ◌++◌, length, drop, Option, Some, None, Ok, refl, sym, ap, ◌∙◌, subst, arith, inl, inr}
+use Rattle.std.proofs.Common.{◌≡◌, ◌≢◌, ℕ, zero, suc, ◌+◌, ◌*◌, ◌≤◌, max, ◌==◌, ◌&&◌, Bool, true, false, List, [], ◌∷◌, ◌++◌, drop, Option, Some, None, Ok, refl, sym, ap, ◌∙◌, subst, arith}
 use Rattle.std.specs.Prelude.{if◌then◌else◌, slice_index, All}
 use Rattle.std.proofs.lemmas.Bool.{ne_eqb}
 use Rattle.std.proofs.lemmas.Bool.Decides.{nat_tests}
@@ -13,17 +13,15 @@ use Rattle.pmem_pages.specs.Owned.{blocks-append}
 use Rattle.pmem_pages.specs.Owners.{Holds, owned_each, stands_each, times, times-append}
 use Rattle.pmem_pages.specs.declared.node.Node.{Node}
 use Rattle.pmem_pages.specs.declared.node.TreeKey.{TreeKey}
-use Rattle.pmem_pages.specs.Node.{IsNode, IsKey, IsValue, ZeroFrom, node_bytes, node_of}
+use Rattle.pmem_pages.specs.Node.{IsNode, IsKey, ZeroFrom, node_bytes, node_of}
 use Rattle.pmem_pages.specs.Shape.{AllAbove, AllBelow, Balanced, Entry, Fork, Leaf, Rises, Shape, Stands, blocks_of, entries, height, node_at, root_of}
-use Rattle.pmem_pages.proofs.Lists.{AllAbove-back, AllAbove-front, Rises-back, Rises-below, Rises-front}
+use Rattle.pmem_pages.proofs.Lists.{Rises-back, Rises-below, Rises-front}
 use Rattle.pmem_pages.proofs.Nodes.{node_again}
 use Rattle.pmem_pages.proofs.Shapes.{node_fits, root_fits}
 use Rattle.vos_levels.specs.Levels.{Hung, LeadToAll, LeadsTo, Level, hung}
-use Rattle.vos_levels.proofs.Spots.{halves}
-use Rattle.vos_image.specs.Steps.{Step, ◌>>=◌, give, rule, zeros}
 use Rattle.vos_image.specs.Content.{Content, block, is_taken, link, shown}
-use Rattle.vos_image.specs.Trees.{Fields, Kind, is_above, is_below, is_height, read_below, read_fields, read_tree, stored_height}
-use Rattle.vos_image.proofs.Steps.{IsShown, Passes, Tally, beside, given, kept, linked, none, recounted, root_tally, ruled, shown_there, silent, some_block, go_on, zeros_hold}
+use Rattle.vos_image.specs.Trees.{Kind, is_above, is_below, is_height, read_below, read_fields, read_tree, stored_height}
+use Rattle.vos_image.proofs.Steps.{Passes, Tally, beside, given, kept, linked, none, recounted, root_tally, ruled, shown_there, go_on, zeros_hold}
 
 -- ---- a node
 

@@ -1,22 +1,20 @@
 -- All that stands in an image is read.
-use Rattle.std.proofs.Common.{◌≡◌, ℕ, ◌+◌, ◌≤◌, ◌<◌, List, [], ◌∷◌, ◌++◌, Ok, refl, sym, ap, ◌∙◌, subst, arith}
-use Rattle.base_outside.specs.Images.{Image}
-use Rattle.pmem_pages.specs.Owners.{Holds, both, times, times-append}
-use Rattle.vos_levels.specs.Levels.{hung_root}
+use Rattle.std.proofs.Common.{◌≡◌, ℕ, List, [], Ok, refl, sym, ap, subst, arith}
+use Rattle.pmem_pages.specs.Owners.{times, times-append}
 use Rattle.vos_path.specs.Objects.{Objects, objects_owner}
 use Rattle.vos_entries.specs.Entries.{Entries, entries_owner}
-use Rattle.vos_image.specs.Steps.{Step, ◌>>=◌, give, read_of}
-use Rattle.vos_image.specs.Content.{Content, content_of, shown}
-use Rattle.vos_image.specs.Kept.{Stored, Whole, durable_of, kept, kept_of, read_content, read_whole, stored_owner}
+use Rattle.vos_image.specs.Steps.{◌>>=◌, read_of}
+use Rattle.vos_image.specs.Content.{Content, content_of}
+use Rattle.vos_image.specs.Kept.{kept, kept_of, read_content, read_whole}
 use Rattle.vos_image.specs.Kinds.{entries, objects}
-use Rattle.vos_image.specs.Laws.{Stands, WhatStandsIsKept, WhatStandsIsRead, root_blocks}
+use Rattle.vos_image.specs.Laws.{WhatStandsIsKept, WhatStandsIsRead, root_blocks}
 use Rattle.vos_image.specs.Nodes.{nodes_in}
 use Rattle.vos_image.specs.Places.{Places, read_places}
 use Rattle.vos_image.specs.Trees.{read_tree}
 use Rattle.vos_image.proofs.Entries.{entries_read}
 use Rattle.vos_image.proofs.Levels.{first_holds, second_holds}
 use Rattle.vos_image.proofs.Objects.{objects_read}
-use Rattle.vos_image.proofs.Steps.{Passed, Passes, Tally, root_tally, some_block}
+use Rattle.vos_image.proofs.Steps.{Passes, root_tally, some_block}
 
 -- three steps, one after another
 steps : (target : ℕ) (c : Content) (p : Places) (led1 : List ℕ) (o : Objects) (led2 : List ℕ) (e : Entries) (led3 : List ℕ)

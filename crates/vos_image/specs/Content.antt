@@ -1,5 +1,5 @@
 -- What a reading stands on: the content of an image, and what it says of itself that later fields go by.
-use Rattle.std.specs.Prelude.{ℕ, Bool, ◌≡◌, ◌+◌, ◌*◌, ◌/◌, ◌%◌, ◌==◌, ◌&&◌, not, nat_le, nat_lt, cond, min, ◌∷◌, Option, Some, None, Ok, Err, if◌then◌else◌}
+use Rattle.std.specs.Prelude.{ℕ, Bool, ◌+◌, ◌*◌, ◌/◌, ◌%◌, ◌==◌, ◌&&◌, not, nat_le, nat_lt, cond, min, ◌∷◌, Some, None, Ok, Err, if◌then◌else◌}
 use Rattle.std.specs.Int.{bit_at}
 use Rattle.base_outside.specs.Images.{Image, bytes_at}
 use Rattle.byteorder.specs.Endian.{big_number}

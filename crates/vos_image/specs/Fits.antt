@@ -8,7 +8,7 @@ use Rattle.vos_levels.specs.Levels.{things}
 use Rattle.vos_ilog.specs.declared.ilog.LogEntry.{LogEntry}
 use Rattle.vos_single.specs.Singles.{Stored as StoredSingle}
 use Rattle.vos_extent.specs.Extents.{Stored as StoredExtent}
-use Rattle.vos_path.specs.Objects.{Akey, Dkey, Object, Objects, Values}
+use Rattle.vos_path.specs.Objects.{Akey, Dkey, Object, Objects}
 use Rattle.vos_entries.specs.Entries.{Entries, Stored as StoredEntry}
 use Rattle.vos_image.specs.Content.{Content}
 use Rattle.vos_image.specs.Kinds.{fits_targets}

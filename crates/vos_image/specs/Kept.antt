@@ -1,5 +1,5 @@
 -- What an image stands for.
-use Rattle.std.specs.Prelude.{◌≡◌, ℕ, Bool, ◌==◌, ◌&&◌, ◌||◌, not, List, [], filter, Option, Some, None, Result, Ok, Err}
+use Rattle.std.specs.Prelude.{◌≡◌, ℕ, Bool, ◌==◌, ◌&&◌, ◌||◌, not, List, [], filter, Result, Ok, Err}
 use Rattle.std.specs.List.{list_any}
 use Rattle.base_outside.specs.Images.{Image}
 use Rattle.base_types.specs.declared.entry.Entry.{Entry}

@@ -19,9 +19,9 @@ use Rattle.vos_values.specs.Values.{akey_in, entry_in, is_state, log_in, roots_i
 use Rattle.vos_chain.specs.Chains.{Chain}
 use Rattle.vos_chain.specs.Made.{chain_blocks}
 use Rattle.vos_ilog.specs.declared.ilog.LogEntry.{LogEntry}
-use Rattle.vos_ilog.specs.Logs.{Log, entry_from}
-use Rattle.vos_single.specs.Singles.{Singles, Stored as StoredSingle}
-use Rattle.vos_extent.specs.Extents.{Extents, Stored as StoredExtent}
+use Rattle.vos_ilog.specs.Logs.{entry_from}
+use Rattle.vos_single.specs.Singles.{Stored as StoredSingle}
+use Rattle.vos_extent.specs.Extents.{Stored as StoredExtent}
 use Rattle.vos_path.specs.Objects.{Akey, Dkey, Object}
 use Rattle.vos_entries.specs.Entries.{Stored as StoredEntry}
 use Rattle.vos_image.specs.Steps.{Step, ◌>>=◌, fail, give, is_among, rule, says, zeros}

@@ -8,7 +8,7 @@ use Rattle.base_types.specs.declared.outcome.FloorWhy.TheVariants.{Aggregate, Op
 use Rattle.base_types.specs.declared.snapshot.Snap.{Snap}
 use Rattle.daos_model.specs.declared.durable.ContRow.{ContRow}
 use Rattle.daos_model.specs.Durables.{is_row_of, is_snap_at}
-use Rattle.vos_image.specs.Steps.{Step, ◌>>=◌, fail, give, rule, zeros}
+use Rattle.vos_image.specs.Steps.{Step, ◌>>=◌, give, rule, zeros}
 use Rattle.vos_image.specs.Content.{Content, link, number}
 
 -- ---- what an image says of itself
