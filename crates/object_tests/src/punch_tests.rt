@@ -4,7 +4,7 @@ ghost use Rattle.base_types.specs.Operations.{write_path};
 ghost use Rattle.base_types.specs.Paths.{record_size};
 ghost use Rattle.daos_model.specs.Forms.{ends_at_akey, ends_at_dkey, ends_at_object, is_path_in_form, is_read_in_form, is_unit, is_write_in_form};
 ghost use Rattle.vos_path.specs.Writes.{NamesAreKeys, is_update};
-ghost use Rattle.vos_object.specs.Settling.{IsNamed};
+ghost use Rattle.vos_settle.specs.Names.{IsNamed};
 ghost use Rattle.vos_settle.specs.Versions.{fits_kind};
 
 use crate::store::Store;
@@ -20,7 +20,7 @@ use pmem_pages::steps::Steps;
 use std::alloc::Global;
 use std::marker::Brand;
 use std::sync::ledger::{Blank, Ledger};
-use vos_object::settle::WriteName;
+use vos_settle::name::WriteName;
 use vos_settle::task::WriteKind;
 
 /// Where something is: all of the container, one of its objects, a dkey, or an akey.

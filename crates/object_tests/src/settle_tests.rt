@@ -3,7 +3,8 @@ ghost use Rattle.std.specs.Prelude.{◌≡◌, ◌<◌, true, IfSome};
 ghost use Rattle.base_types.specs.Paths.{record_size};
 ghost use Rattle.daos_model.specs.Forms.{ends_at_akey, is_read_in_form, is_unit};
 ghost use Rattle.vos_path.specs.Writes.{NamesAreKeys, is_update};
-ghost use Rattle.vos_object.specs.Settling.{IsNamed, decides};
+ghost use Rattle.vos_settle.specs.Names.{IsNamed};
+ghost use Rattle.vos_object.specs.Settling.{decides};
 ghost use Rattle.vos_object.specs.Updates.{IsWritable, listing};
 
 use crate::store::{BY, Store};
@@ -20,8 +21,8 @@ use pmem_tree::tree::Tree;
 use std::alloc::Global;
 use std::marker::Brand;
 use std::sync::ledger::{Blank, Ledger};
-use vos_object::settle::WriteName;
 use vos_prune::remove::find_writer;
+use vos_settle::name::WriteName;
 use vos_settle::task::WriteKind;
 use vos_values::keys::Moment;
 

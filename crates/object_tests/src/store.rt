@@ -1,7 +1,7 @@
 // Objects on trees in memory.
 ghost use Rattle.std.specs.Prelude.{◌≡◌, true, false};
 ghost use Rattle.vos_path.specs.Writes.{is_update};
-ghost use Rattle.vos_object.specs.Settling.{IsNamed};
+ghost use Rattle.vos_settle.specs.Names.{IsNamed};
 ghost use Rattle.vos_object.specs.Updates.{IsWritable};
 
 use base_types::entry::Settle;
@@ -15,8 +15,8 @@ use pmem_tree::tree::Tree;
 use std::alloc::Global;
 use std::sync::ledger::Ledger;
 use vos_object::object::Objects;
-use vos_object::settle::WriteName;
 use vos_punches::punches::Punches;
+use vos_settle::name::WriteName;
 use vos_settle::task::WriteKind;
 use vos_values::keys::Moment;
 

@@ -73,8 +73,8 @@ fn start_key(low: u32) -> TreeKey
     name_key(&low.to_be_bytes())
 }
 
-// The key of a place.
-fn key_at(at: ExtentKey) -> TreeKey
+/// The key of a place.
+pub fn key_at(at: ExtentKey) -> TreeKey
     ensures key { result ≡ extent_key at }
     ensures is { IsKey result }
 {
@@ -85,6 +85,7 @@ fn key_at(at: ExtentKey) -> TreeKey
 fn placed_of(pair: &Pair) -> Option<Placed>
     ensures placed { result ≡ placed_in_pair pair.now }
     ensures short { IfSome result (λ p. p.mark.length ≤ 1024) }
+    ensures minor { IfSome result (λ p. p.at.minor < 64) }
 {
     let at = read_extent(&pair.key)?;
     let mark = read_version(&pair.value)?;
@@ -95,6 +96,7 @@ fn placed_of(pair: &Pair) -> Option<Placed>
 fn placed_in(pair: Option<Pair>) -> Option<Placed>
     ensures placed { result ≡ option_and_then placed_in_pair pair }
     ensures short { IfSome result (λ p. p.mark.length ≤ 1024) }
+    ensures minor { IfSome result (λ p. p.at.minor < 64) }
 {
     match pair {
         Some(pair) => placed_of(&pair),
@@ -151,8 +153,12 @@ fn pieces_of(alloc: Global, unit: u8, cells: &[Option<Cell>]) -> Result<Vec<Piec
 }
 
 impl Extents {
-    // What the tree says of the first extent above a key.
-    fn next_over<P: Pages, L: Ledger>(
+    /// What the tree says of the first extent above a key.
+    ///
+    /// # Errors
+    ///
+    /// `Stopped` comes only where the pages answered it.
+    pub fn next_over<P: Pages, L: Ledger>(
         &self,
         pages: &mut P,
         key: &TreeKey,
@@ -163,6 +169,7 @@ impl Extents {
         requires here { HasThing P.tells extent_owner hung_root (P.blocks pages.old) self.now.tree.root (λ g. ⊤) }
         ensures found { IfOk result (λ v. OfThing P.tells extent_owner hung_root (P.blocks pages.old) self.now.tree.root (λ g. v ≡ option_and_then placed_in_pair (pair_of (first_above key.now (entries g.0))))) }
         ensures short { IfOk result (λ v. IfSome v (λ p. p.mark.length ≤ 1024)) }
+        ensures minor { IfOk result (λ v. IfSome v (λ p. p.at.minor < 64)) }
         ensures steps { OfThing P.tells extent_owner hung_root (P.blocks pages.old) self.now.tree.root (λ g. StepsAtMost 2 0 g.0 steps.old steps.new) }
         ensures kept { IsTrue P.tells → P.blocks pages.new ≡ P.blocks pages.old }
         ensures budget { P.budget pages.new ≡ P.budget pages.old }

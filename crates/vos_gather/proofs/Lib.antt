@@ -1,2 +1,5 @@
-mod Gathering
-mod Walked
+pub mod Listing
+pub mod Gathering
+pub mod Walked
+pub mod Places
+pub mod Updates

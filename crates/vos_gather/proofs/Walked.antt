@@ -1,4 +1,4 @@
--- A walk up over the things of a level, whose punches come to an index.
+-- A walk up over the things of a level, the names of whose writes are listed.
 use Rattle.std.proofs.Common.{◌≡◌, ℕ, ◌+◌, Bool, true, List, [], ◌∷◌, ◌++◌, Option, Some, refl, sym, ap, ◌∙◌, subst, arith, ◌≤◌, length}
 use Rattle.std.specs.declared.cmp.Ordering.TheVariants.{Less}
 use Rattle.std.specs.Cmp.Lexicographic.{slice_cmp}
@@ -25,11 +25,11 @@ use Rattle.vos_ilog.specs.declared.ilog.LogEntry.{LogEntry}
 use Rattle.vos_ilog.specs.Logs.{IsLogEntry, entry_in_pair, entry_when, entry_with, key_of_entry, log_level, mark_of, moment_of}
 use Rattle.vos_path.specs.Objects.{together}
 use Rattle.vos_path.proofs.Lists.{together_append}
-use Rattle.vos_punches.specs.Punches.{PunchesAt}
 use Rattle.vos_lists.specs.Stands.{names_of}
 use Rattle.vos_lists.proofs.Walking.{Ahead, Coming, ahead_first}
-use Rattle.vos_gather.specs.Gathered.{Gathered}
-use Rattle.vos_gather.proofs.Gathering.{gathered_none, gathered_then}
+use Rattle.vos_settle.specs.declared.name.WriteName.{WriteName}
+use Rattle.vos_gather.specs.Wanted.{Listed, Want}
+use Rattle.vos_gather.proofs.Listing.{listed_none, listed_then}
 
 abbrev pub every : {A : Type 0} → A → Bool
 every a = true
@@ -41,26 +41,26 @@ names_all : {A : Type 0} (xs : List A) → names_of every whole xs ≡ xs
 names_all [] = refl
 names_all (x ∷ xs) = ap (λ z. x ∷ z) (names_all xs)
 
--- Things up to a key were seen, and the punches among their versions came to the index.
-pub record SoFar {A : Type 0} (L : Level A) (versions : A → List Version) (g : Hung A) (key : TreeKey) (passed : ℕ) (f now : PunchesAt) : Type 0 where
+-- Things up to a key were seen, and the wanted names among their versions were listed.
+pub record SoFar {A : Type 0} (w : Want) (L : Level A) (versions : A → List Version) (g : Hung A) (key : TreeKey) (passed : ℕ) (f now : List WriteName) : Type 0 where
   pub seen : List A
   pub ahead : Ahead {N = A} L every whole g key seen passed
-  pub gathered : Gathered (together versions seen) f now
+  pub listed : Listed w (together versions seen) f now
 
-module _ {A X : Type 0} (L : Level A) (parse : Pair → Option X) (shown : A → X) (m : Blocks) (again : (a : A) → L.Good a → Holds L.owner m a → parse (pair_of_thing L a) ≡ Some (shown a)) (g : Hung A) (held : Holds (hung L) m g) (versions : A → List Version) where
-  pub so_far_first : (key : TreeKey) → ((a : A) → L.Good a → key_cmp key (L.key a) ≡ Less) → (f : PunchesAt) → SoFar L versions g key 0 f f
-  so_far_first key low f = record { seen = []; ahead = ahead_first {N = A} L every whole parse shown m again g held key low; gathered = gathered_none f }
+module _ {A X : Type 0} (w : Want) (L : Level A) (parse : Pair → Option X) (shown : A → X) (m : Blocks) (again : (a : A) → L.Good a → Holds L.owner m a → parse (pair_of_thing L a) ≡ Some (shown a)) (g : Hung A) (held : Holds (hung L) m g) (versions : A → List Version) where
+  pub so_far_first : (key : TreeKey) → ((a : A) → L.Good a → key_cmp key (L.key a) ≡ Less) → (f : List WriteName) → SoFar w L versions g key 0 f f
+  so_far_first key low f = record { seen = []; ahead = ahead_first {N = A} L every whole parse shown m again g held key low; listed = listed_none w f }
 
-  pub so_far_next : (key : TreeKey) (passed : ℕ) (x : X) (f now later : PunchesAt) (s : SoFar L versions g key passed f now) (next : Coming {N = A} L every whole parse shown m again g held key s.seen passed x)
-      → Gathered (versions next.thing) now later → SoFar L versions g (L.key next.thing) (passed + 1) f later
+  pub so_far_next : (key : TreeKey) (passed : ℕ) (x : X) (f now later : List WriteName) (s : SoFar w L versions g key passed f now) (next : Coming {N = A} L every whole parse shown m again g held key s.seen passed x)
+      → Listed w (versions next.thing) now later → SoFar w L versions g (L.key next.thing) (passed + 1) f later
   so_far_next key passed x f now later s next h = record {
     seen = s.seen ++ next.thing ∷ [];
     ahead = next.taken refl;
-    gathered = subst (λ z. Gathered z f later) (ap (λ z. together versions s.seen ++ z) (sym (append-nil (versions next.thing))) ∙ sym (together_append versions s.seen (next.thing ∷ []))) (gathered_then (together versions s.seen) (versions next.thing) f now later s.gathered h);
+    listed = subst (λ z. Listed w z f later) (ap (λ z. together versions s.seen ++ z) (sym (append-nil (versions next.thing))) ∙ sym (together_append versions s.seen (next.thing ∷ []))) (listed_then w (together versions s.seen) (versions next.thing) f now later s.listed h);
   }
 
-pub so_far_all : {A : Type 0} (versions : A → List Version) (seen xs : List A) (f now : PunchesAt) → seen ≡ names_of every whole xs → Gathered (together versions seen) f now → Gathered (together versions xs) f now
-so_far_all versions seen xs f now is h = subst (λ z. Gathered (together versions z) f now) (is ∙ names_all xs) h
+pub so_far_all : {A : Type 0} (w : Want) (versions : A → List Version) (seen xs : List A) (f now : List WriteName) → seen ≡ names_of every whole xs → Listed w (together versions seen) f now → Listed w (together versions xs) f now
+so_far_all w versions seen xs f now is h = subst (λ z. Listed w (together versions z) f now) (is ∙ names_all xs) h
 
 -- ---- entries of logs
 

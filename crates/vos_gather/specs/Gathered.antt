@@ -1,5 +1,5 @@
--- What comes to an index where the punches of some versions are gathered into it.
-use Rattle.std.specs.Prelude.{◌≡◌, ◌||◌, ℕ, List, ◌++◌, filter, map, Some, None}
+-- What comes to an index where punches are gathered into it, and what stands below a path.
+use Rattle.std.specs.Prelude.{◌≡◌, ◌||◌, ◌&&◌, Bool, ℕ, List, ◌++◌, filter, map, Some, None}
 use Rattle.std.specs.List.{list_any}
 use Rattle.base_types.specs.declared.operation.Write.{Write}
 use Rattle.base_types.specs.declared.operation.Write.TheVariants.{PunchDkey}
@@ -10,13 +10,21 @@ use Rattle.vos_levels.specs.Levels.{Hung, things}
 use Rattle.vos_ilog.specs.declared.ilog.LogEntry.{LogEntry}
 use Rattle.vos_path.specs.Objects.{Akey, Below, Dkey, is_punch, punch_version, punches, together, values_versions}
 use Rattle.vos_punches.specs.Moments.{AreInOrder, has_moment}
-use Rattle.vos_punches.specs.Punches.{PunchesAt, is_punch_of}
+use Rattle.vos_punches.specs.Punches.{PunchesAt}
+use Rattle.vos_levels.specs.Moments.{same_moment}
+use Rattle.base_types.specs.Paths.{same_path}
+use Rattle.vos_settle.specs.declared.name.WriteName.{WriteName}
+use Rattle.vos_settle.specs.Names.{moment_of}
 
--- The punches of some versions came to an index: at a path stands a moment exactly where it stood there before, or one of
--- the versions is a punch of the path, made then.
-pub record Gathered (vs : List Version) (f g : PunchesAt) : Type 0 where
+-- a name of a punch of a path, made then
+abbrev pub is_name_of : Path → Moment → WriteName → Bool
+is_name_of p m n = same_path n.path p && same_moment (moment_of n) m
+
+-- Punches came to an index by their names: at a path stands a moment exactly where it stood there before, or one of them was
+-- made of the path then.
+pub record Gathered (ns : List WriteName) (f g : PunchesAt) : Type 0 where
   pub order : (p : Path) → AreInOrder (f p) → AreInOrder (g p)
-  pub exact : (p : Path) (m : Moment) → has_moment m (g p) ≡ (has_moment m (f p) || list_any (is_punch_of p m) vs)
+  pub exact : (p : Path) (m : Moment) → has_moment m (g p) ≡ (has_moment m (f p) || list_any (is_name_of p m) ns)
 
 -- ---- what stands below a path, by the names on the way
 

@@ -1,1 +1,3 @@
 pub mod Gathered
+pub mod Wanted
+pub mod Updates

@@ -1,17 +1,20 @@
-// The punches of the akeys of a dkey.
-ghost use Rattle.std.specs.Prelude.{◌≡◌, true, ℕ, List, Some, OnOk, IsErrOf, IsTrue, ⊤};
+// The names of writes below the akeys of a dkey.
+ghost use Rattle.std.specs.Prelude.{◌≡◌, is_some, true, All, ℕ, List, Some, OnOk, IsErrOf, IsTrue, ⊤};
 ghost use Rattle.pmem_tree_base.specs.Calls.{Goes};
 ghost use Rattle.vos_levels.specs.Calls.{HasThing, OfThing};
 ghost use Rattle.vos_levels.specs.Levels.{hung, hung_root};
 ghost use Rattle.vos_chain.specs.declared.refusal.PiecesNo.TheVariants.{Stopped as stopped_no};
 ghost use Rattle.vos_path.specs.Calls.{HasAt, OfAt};
 ghost use Rattle.vos_path.specs.Objects.{akey_level, values_owner, values_roots, values_versions};
-ghost use Rattle.vos_punches.specs.Rows.{moments_at};
+ghost use Rattle.vos_settle.specs.Names.{IsNamed};
 ghost use Rattle.vos_lists.specs.Entries.{name_of};
-ghost use Rattle.vos_gather.specs.Gathered.{Gathered, akeys_in, at_akey};
+ghost use Rattle.vos_gather.specs.Gathered.{akeys_in, at_akey};
+ghost use Rattle.vos_gather.specs.Wanted.{IsPlace, Listed, want_of};
 
-use crate::log::gather_log;
+use crate::log::list_log;
 use crate::paths::{at_akey, name_in};
+use crate::values::{list_extents, list_singles};
+use crate::wanted::Wanted;
 use base_types::path::Path;
 use pmem_pages::pages::Pages;
 use pmem_pages::steps::Steps;
@@ -20,19 +23,23 @@ use std::alloc::Global;
 use std::sync::ledger::Ledger;
 use vos_chain::refusal::PiecesNo;
 use vos_lists::entry::{AkeyEntry, PAIRS, least_key, next_akey};
-use vos_punches::punches::Punches;
+use vos_settle::name::WriteName;
 
-// Adds the punches of an akey of the dkey of a path.
-fn gather_akey<P: Pages, L: Ledger>(
+// Puts the names of the wanted writes of an akey of the dkey of a path behind others.
+fn list_akey<P: Pages, L: Ledger>(
     akey: AkeyEntry,
     pages: &mut P,
     alloc: Global,
     above: &Path,
-    index: &mut Punches,
+    wanted: &Wanted,
+    names: &mut Vec<WriteName>,
     steps: &mut Steps<L>,
 ) -> Result<(), PiecesNo>
+    requires place { IsPlace above.now }
+    requires dkey { is_some above.now.dkey ≡ true }
     requires here { HasAt P.tells values_owner values_roots (P.blocks pages.old) akey.roots (λ g. ⊤) }
-    ensures gathered { OnOk result (OfAt P.tells values_owner values_roots (P.blocks pages.old) akey.roots (λ g. (name : List ℕ) → name_of akey.key ≡ Some name → Gathered (values_versions (at_akey above.now name) g) (moments_at index.old) (moments_at index.new))) }
+    ensures listed { OnOk result (OfAt P.tells values_owner values_roots (P.blocks pages.old) akey.roots (λ g. (name : List ℕ) → name_of akey.key ≡ Some name → Listed (want_of wanted.now) (values_versions (at_akey above.now name) g) names.old.items names.new.items)) }
+    ensures named { All IsNamed names.old.items → All IsNamed names.new.items }
     ensures kept { IsTrue P.tells → P.blocks pages.new ≡ P.blocks pages.old }
     ensures budget { P.budget pages.new ≡ P.budget pages.old }
     ensures goes { Goes P.stopped P.count P.burns pages.old pages.new }
@@ -43,24 +50,33 @@ fn gather_akey<P: Pages, L: Ledger>(
         return Ok(());
     };
     let path = at_akey(above, name)?;
-    gather_log(akey.roots.log, pages, alloc, &path, index, steps)
+    list_log(akey.roots.log, pages, &path, wanted, names, steps)?;
+    if !wanted.updates {
+        return Ok(());
+    }
+    list_singles(akey.roots.singles, pages, &path, wanted, names, steps)?;
+    list_extents(akey.roots.extents, pages, &path, wanted, names, steps)
 }
 
-/// Adds the punches of the akeys below a root to an index: of those of the dkey of a path.
+/// Puts the names of the wanted writes of the akeys below a root behind others: of those of the dkey of a path.
 ///
 /// # Errors
 ///
 /// `Stopped` comes only where the pages answered it.
-pub(crate) fn gather_akeys<P: Pages, L: Ledger>(
+pub(crate) fn list_akeys<P: Pages, L: Ledger>(
     root: u32,
     pages: &mut P,
     alloc: Global,
     above: &Path,
-    index: &mut Punches,
+    wanted: &Wanted,
+    names: &mut Vec<WriteName>,
     steps: &mut Steps<L>,
 ) -> Result<(), PiecesNo>
+    requires place { IsPlace above.now }
+    requires dkey { is_some above.now.dkey ≡ true }
     requires here { HasThing P.tells (hung akey_level) hung_root (P.blocks pages.old) root (λ g. ⊤) }
-    ensures gathered { OnOk result (OfThing P.tells (hung akey_level) hung_root (P.blocks pages.old) root (λ g. Gathered (akeys_in above.now g) (moments_at index.old) (moments_at index.new))) }
+    ensures listed { OnOk result (OfThing P.tells (hung akey_level) hung_root (P.blocks pages.old) root (λ g. Listed (want_of wanted.now) (akeys_in above.now g) names.old.items names.new.items)) }
+    ensures named { All IsNamed names.old.items → All IsNamed names.new.items }
     ensures kept { IsTrue P.tells → P.blocks pages.new ≡ P.blocks pages.old }
     ensures budget { P.budget pages.new ≡ P.budget pages.old }
     ensures goes { Goes P.stopped P.count P.burns pages.old pages.new }
@@ -73,7 +89,7 @@ pub(crate) fn gather_akeys<P: Pages, L: Ledger>(
         let Some(akey) = next_akey(akeys, pages, &key, steps)? else {
             return Ok(());
         };
-        gather_akey(akey, pages, alloc, above, index, steps)?;
+        list_akey(akey, pages, alloc, above, wanted, names, steps)?;
         key = akey.key;
     }
     Ok(())

@@ -1,18 +1,20 @@
-// The punches of the dkeys of an object.
-ghost use Rattle.std.specs.Prelude.{◌≡◌, true, ℕ, List, Some, OnOk, IsErrOf, IsTrue, ⊤};
+// The names of writes below the dkeys of an object.
+ghost use Rattle.std.specs.Prelude.{◌≡◌, true, All, ℕ, List, Some, OnOk, IsErrOf, IsTrue, ⊤};
 ghost use Rattle.pmem_tree_base.specs.Calls.{Goes};
 ghost use Rattle.vos_levels.specs.Calls.{HasThing, OfThing};
 ghost use Rattle.vos_levels.specs.Levels.{hung, hung_root};
 ghost use Rattle.vos_chain.specs.declared.refusal.PiecesNo.TheVariants.{Stopped as stopped_no};
 ghost use Rattle.vos_path.specs.Calls.{HasAt, OfAt};
 ghost use Rattle.vos_path.specs.Objects.{akey_level, below_owner, below_roots, dkey_level};
-ghost use Rattle.vos_punches.specs.Rows.{moments_at};
+ghost use Rattle.vos_settle.specs.Names.{IsNamed};
 ghost use Rattle.vos_lists.specs.Entries.{name_of};
-ghost use Rattle.vos_gather.specs.Gathered.{Gathered, at_dkey, below_dkey_in, dkeys_in};
+ghost use Rattle.vos_gather.specs.Gathered.{at_dkey, below_dkey_in, dkeys_in};
+ghost use Rattle.vos_gather.specs.Wanted.{IsPlace, Listed, want_of};
 
-use crate::akeys::gather_akeys;
-use crate::log::gather_log;
+use crate::akeys::list_akeys;
+use crate::log::list_log;
 use crate::paths::{at_dkey, name_in};
+use crate::wanted::Wanted;
 use base_types::path::Path;
 use pmem_pages::pages::Pages;
 use pmem_pages::steps::Steps;
@@ -21,19 +23,22 @@ use std::alloc::Global;
 use std::sync::ledger::Ledger;
 use vos_chain::refusal::PiecesNo;
 use vos_lists::entry::{DkeyEntry, PAIRS, least_key, next_dkey};
-use vos_punches::punches::Punches;
+use vos_settle::name::WriteName;
 
-// Adds the punches of a dkey of the object of a path, and those of its akeys.
-fn gather_dkey<P: Pages, L: Ledger>(
+// Puts the names of the wanted writes of a dkey of the object of a path, and of its akeys, behind others.
+fn list_dkey<P: Pages, L: Ledger>(
     dkey: DkeyEntry,
     pages: &mut P,
     alloc: Global,
     above: &Path,
-    index: &mut Punches,
+    wanted: &Wanted,
+    names: &mut Vec<WriteName>,
     steps: &mut Steps<L>,
 ) -> Result<(), PiecesNo>
+    requires place { IsPlace above.now }
     requires here { HasAt P.tells (below_owner akey_level) below_roots (P.blocks pages.old) dkey.roots (λ g. ⊤) }
-    ensures gathered { OnOk result (OfAt P.tells (below_owner akey_level) below_roots (P.blocks pages.old) dkey.roots (λ g. (name : List ℕ) → name_of dkey.key ≡ Some name → Gathered (below_dkey_in (at_dkey above.now name) g) (moments_at index.old) (moments_at index.new))) }
+    ensures listed { OnOk result (OfAt P.tells (below_owner akey_level) below_roots (P.blocks pages.old) dkey.roots (λ g. (name : List ℕ) → name_of dkey.key ≡ Some name → Listed (want_of wanted.now) (below_dkey_in (at_dkey above.now name) g) names.old.items names.new.items)) }
+    ensures named { All IsNamed names.old.items → All IsNamed names.new.items }
     ensures kept { IsTrue P.tells → P.blocks pages.new ≡ P.blocks pages.old }
     ensures budget { P.budget pages.new ≡ P.budget pages.old }
     ensures goes { Goes P.stopped P.count P.burns pages.old pages.new }
@@ -44,26 +49,29 @@ fn gather_dkey<P: Pages, L: Ledger>(
         return Ok(());
     };
     let path = at_dkey(above, name);
-    gather_log(dkey.roots.log, pages, alloc, &path, index, steps)?;
-    gather_akeys(dkey.roots.below, pages, alloc, &path, index, steps)
+    list_log(dkey.roots.log, pages, &path, wanted, names, steps)?;
+    list_akeys(dkey.roots.below, pages, alloc, &path, wanted, names, steps)
 }
 
-/// Adds the punches of the dkeys below a root, and of their akeys, to an index: of those of the object of a
-/// path.
+/// Puts the names of the wanted writes of the dkeys below a root, and of their akeys, behind others: of those
+/// of the object of a path.
 ///
 /// # Errors
 ///
 /// `Stopped` comes only where the pages answered it.
-pub(crate) fn gather_dkeys<P: Pages, L: Ledger>(
+pub(crate) fn list_dkeys<P: Pages, L: Ledger>(
     root: u32,
     pages: &mut P,
     alloc: Global,
     above: &Path,
-    index: &mut Punches,
+    wanted: &Wanted,
+    names: &mut Vec<WriteName>,
     steps: &mut Steps<L>,
 ) -> Result<(), PiecesNo>
+    requires place { IsPlace above.now }
     requires here { HasThing P.tells (hung dkey_level) hung_root (P.blocks pages.old) root (λ g. ⊤) }
-    ensures gathered { OnOk result (OfThing P.tells (hung dkey_level) hung_root (P.blocks pages.old) root (λ g. Gathered (dkeys_in above.now g) (moments_at index.old) (moments_at index.new))) }
+    ensures listed { OnOk result (OfThing P.tells (hung dkey_level) hung_root (P.blocks pages.old) root (λ g. Listed (want_of wanted.now) (dkeys_in above.now g) names.old.items names.new.items)) }
+    ensures named { All IsNamed names.old.items → All IsNamed names.new.items }
     ensures kept { IsTrue P.tells → P.blocks pages.new ≡ P.blocks pages.old }
     ensures budget { P.budget pages.new ≡ P.budget pages.old }
     ensures goes { Goes P.stopped P.count P.burns pages.old pages.new }
@@ -76,7 +84,7 @@ pub(crate) fn gather_dkeys<P: Pages, L: Ledger>(
         let Some(dkey) = next_dkey(dkeys, pages, &key, steps)? else {
             return Ok(());
         };
-        gather_dkey(dkey, pages, alloc, above, index, steps)?;
+        list_dkey(dkey, pages, alloc, above, wanted, names, steps)?;
         key = dkey.key;
     }
     Ok(())

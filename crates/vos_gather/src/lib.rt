@@ -1,4 +1,4 @@
-// The punches of objects on trees, gathered into an index.
+// The names of writes that stand in trees of objects, and the punches among them.
 #![tactic(auto)]
 
 mod akeys;
@@ -6,3 +6,6 @@ mod dkeys;
 mod log;
 pub mod objects;
 mod paths;
+pub mod punches;
+mod values;
+pub mod wanted;

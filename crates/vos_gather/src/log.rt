@@ -1,140 +1,110 @@
 // The punches of one log.
-ghost use Rattle.std.specs.Prelude.{◌≡◌, ◌<◌, true, [], ◌∷◌, IfOk, IfSome, OnOk, OnErr, IsErrOf, IsTrue, ⊤};
-ghost use Rattle.std.specs.Option.{option_and_then};
+ghost use Rattle.std.specs.Prelude.{◌≡◌, ◌<◌, ◌++◌, true, [], ◌∷◌, All, IfSome, OnOk, IsErrOf, IsTrue, ⊤};
 ghost use Rattle.base_types.specs.Operations.{write_path};
 ghost use Rattle.base_types.specs.declared.operation.Write.{Write as WriteOf};
 ghost use Rattle.daos_model.specs.Prunes.{is_punch};
-ghost use Rattle.pmem_pages.specs.Node.{IsKey};
-ghost use Rattle.pmem_pages.specs.Shape.{entries, first_above};
 ghost use Rattle.pmem_tree_base.specs.Calls.{Goes};
-ghost use Rattle.pmem_tree_base.specs.Find.{pair_of};
 ghost use Rattle.vos_levels.specs.Calls.{HasThing, OfThing};
 ghost use Rattle.vos_levels.specs.Levels.{hung_root};
 ghost use Rattle.vos_chain.specs.declared.refusal.PiecesNo.TheVariants.{Stopped as stopped_no};
-ghost use Rattle.vos_ilog.specs.Logs.{entry_in_pair, key_of_entry, log_owner};
+ghost use Rattle.vos_ilog.specs.Logs.{log_owner};
 ghost use Rattle.vos_path.specs.Objects.{punches};
-ghost use Rattle.vos_punches.specs.Rows.{moments_at};
-ghost use Rattle.vos_gather.specs.Gathered.{Gathered, entries_punches};
+ghost use Rattle.vos_settle.specs.Names.{IsNamed};
+ghost use Rattle.vos_settle.specs.Versions.{fits_kind};
+ghost use Rattle.vos_gather.specs.Gathered.{entries_punches};
+ghost use Rattle.vos_gather.specs.Wanted.{IsPlace, Listed, want_of};
 
+use crate::wanted::Wanted;
 use base_types::items::Memory;
 use base_types::path::Path;
 use pmem_pages::pages::Pages;
-use pmem_pages::refusal::Stopped;
 use pmem_pages::steps::Steps;
 use pmem_tree::tree::Tree;
-use pmem_tree::{Pair, TreeKey};
-use std::alloc::Global;
 use std::sync::ledger::Ledger;
 use vos_chain::refusal::PiecesNo;
-use vos_ilog::ilog::LogEntry;
+use vos_ilog::ilog::{Ilog, LogEntry, key_of};
 use vos_lists::entry::{PAIRS, least_key};
-use vos_punches::punches::Punches;
-use vos_values::keys::{Moment, moment_key, read_moment};
-use vos_values::values::read_log;
+use vos_settle::name::WriteName;
+use vos_settle::task::WriteKind;
+use vos_values::keys::Moment;
 
-// The entry that a key and a value say, if they say one.
-fn entry_of(pair: &Pair) -> Option<LogEntry>
-    ensures entry { result ≡ entry_in_pair pair.now }
-    ensures minor { IfSome result (λ e. e.minor < 64) }
+/// Puts the name of a write of a path behind others.
+pub(crate) fn add_name(
+    path: &Path,
+    kind: WriteKind,
+    at: Moment,
+    names: &mut Vec<WriteName>,
+) -> Result<(), Memory>
+    requires minor { at.minor < 64 }
+    requires fits { fits_kind kind path.now ≡ true }
+    requires place { IsPlace path.now }
+    ensures added { OnOk result (names.new.items ≡ names.old.items ++ record { path = path.now; kind = kind; epoch = at.epoch; minor = at.minor } ∷ []) }
+    ensures named { All IsNamed names.old.items → All IsNamed names.new.items }
 {
-    let moment = read_moment(&pair.key)?;
-    let mark = read_log(&pair.value)?;
-    Some(LogEntry {
-        epoch: moment.epoch,
-        minor: moment.minor,
-        punch: mark.punch,
-        by: mark.by,
-        done: mark.done,
-    })
+    let path = path.copy()?;
+    names.push(WriteName {
+        path,
+        kind,
+        epoch: at.epoch,
+        minor: at.minor,
+    })?;
+    Ok(())
 }
 
-// The entry that a pair says, if there is one and it says one.
-fn entry_in(pair: Option<Pair>) -> Option<LogEntry>
-    ensures entry { result ≡ option_and_then entry_in_pair pair }
-    ensures minor { IfSome result (λ e. e.minor < 64) }
-{
-    match pair {
-        Some(pair) => entry_of(&pair),
-        None => None,
-    }
-}
-
-// The first entry above a key.
-fn next_entry<P: Pages, L: Ledger>(
-    log: Tree,
-    pages: &mut P,
-    key: &TreeKey,
-    steps: &mut Steps<L>,
-) -> Result<Option<LogEntry>, Stopped>
-    requires kind { log.kind ≡ 4 }
-    requires key { IsKey key.now }
-    requires here { HasThing P.tells log_owner hung_root (P.blocks pages.old) log.root (λ g. ⊤) }
-    ensures found { IfOk result (λ e. OfThing P.tells log_owner hung_root (P.blocks pages.old) log.root (λ g. e ≡ option_and_then entry_in_pair (pair_of (first_above key.now (entries g.0))))) }
-    ensures minor { IfOk result (λ e. IfSome e (λ x. x.minor < 64)) }
-    ensures kept { IsTrue P.tells → P.blocks pages.new ≡ P.blocks pages.old }
-    ensures budget { P.budget pages.new ≡ P.budget pages.old }
-    ensures goes { Goes P.stopped P.count P.burns pages.old pages.new }
-    ensures stopped { OnErr result (P.stopped pages.new ≡ true) }
-    ensures went_on { OnOk result (P.stopped pages.new ≡ P.stopped pages.old) }
-{
-    Ok(entry_in(log.next_after(pages, key, steps)?))
-}
-
-// The key of an entry.
-fn key_of(entry: LogEntry) -> TreeKey
+// Puts the name of the punch of a path that an entry is, if it is a wanted one, behind others.
+fn note(
+    path: &Path,
+    entry: LogEntry,
+    wanted: &Wanted,
+    names: &mut Vec<WriteName>,
+) -> Result<(), Memory>
     requires minor { entry.minor < 64 }
-    ensures key { result ≡ key_of_entry entry }
-    ensures is { IsKey result }
+    requires place { IsPlace path.now }
+    ensures noted { OnOk result ((w : WriteOf) → is_punch w ≡ true → write_path w ≡ path.now → Listed (want_of wanted.now) (entries_punches w (entry ∷ [])) names.old.items names.new.items) }
+    ensures named { All IsNamed names.old.items → All IsNamed names.new.items }
 {
-    moment_key(Moment {
-        epoch: entry.epoch,
-        minor: entry.minor,
-    })
-}
-
-// Adds the punch of a path that an entry is, if it is one.
-fn note(alloc: Global, path: &Path, entry: LogEntry, index: &mut Punches) -> Result<(), Memory>
-    ensures noted { OnOk result ((w : WriteOf) → is_punch w ≡ true → write_path w ≡ path.now → Gathered (entries_punches w (entry ∷ [])) (moments_at index.old) (moments_at index.new)) }
-{
-    if !entry.punch {
-        return Ok(());
-    }
     let at = Moment {
         epoch: entry.epoch,
         minor: entry.minor,
     };
-    let path = path.copy()?;
-    index.add(alloc, path, at)
+    if !entry.punch || !wanted.wants(path, entry.by, entry.done, at) {
+        return Ok(());
+    }
+    add_name(path, WriteKind::Punch, at, names)
 }
 
-/// Adds the punches of a log to an index. They are punches of this path.
+/// Puts the names of the wanted punches of a log behind others. They are punches of this path.
 ///
 /// # Errors
 ///
 /// `Stopped` comes only where the pages answered it.
-pub(crate) fn gather_log<P: Pages, L: Ledger>(
+pub(crate) fn list_log<P: Pages, L: Ledger>(
     root: u32,
     pages: &mut P,
-    alloc: Global,
     path: &Path,
-    index: &mut Punches,
+    wanted: &Wanted,
+    names: &mut Vec<WriteName>,
     steps: &mut Steps<L>,
 ) -> Result<(), PiecesNo>
+    requires place { IsPlace path.now }
     requires here { HasThing P.tells log_owner hung_root (P.blocks pages.old) root (λ g. ⊤) }
-    ensures gathered { OnOk result (OfThing P.tells log_owner hung_root (P.blocks pages.old) root (λ g. (w : WriteOf) → is_punch w ≡ true → write_path w ≡ path.now → Gathered (punches w g) (moments_at index.old) (moments_at index.new))) }
+    ensures listed { OnOk result (OfThing P.tells log_owner hung_root (P.blocks pages.old) root (λ g. (w : WriteOf) → is_punch w ≡ true → write_path w ≡ path.now → Listed (want_of wanted.now) (punches w g) names.old.items names.new.items)) }
+    ensures named { All IsNamed names.old.items → All IsNamed names.new.items }
     ensures kept { IsTrue P.tells → P.blocks pages.new ≡ P.blocks pages.old }
     ensures budget { P.budget pages.new ≡ P.budget pages.old }
     ensures goes { Goes P.stopped P.count P.burns pages.old pages.new }
     ensures stopped { IsErrOf result stopped_no → P.stopped pages.new ≡ true }
     ensures went_on { OnOk result (P.stopped pages.new ≡ P.stopped pages.old) }
 {
-    let log = Tree { kind: 4, root };
+    let log = Ilog {
+        tree: Tree { kind: 4, root },
+    };
     let mut key = least_key();
     for _ in 0..PAIRS {
-        let Some(entry) = next_entry(log, pages, &key, steps)? else {
+        let Some(entry) = log.next_over(pages, &key, steps)? else {
             return Ok(());
         };
-        note(alloc, path, entry, index)?;
+        note(path, entry, wanted, names)?;
         key = key_of(entry);
     }
     Ok(())

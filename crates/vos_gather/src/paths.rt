@@ -1,5 +1,6 @@
 // The paths of dkeys and akeys, by the keys of trees that say their names.
-ghost use Rattle.std.specs.Prelude.{◌≡◌, IfOk};
+ghost use Rattle.std.specs.Prelude.{◌≡◌, IfOk, IfSome};
+ghost use Rattle.vos_values.specs.Keys.{IsName};
 ghost use Rattle.vos_lists.specs.Entries.{name_of};
 ghost use Rattle.vos_gather.specs.Gathered.{at_akey, at_dkey};
 
@@ -12,7 +13,8 @@ use vos_lists::entry::name_of;
 
 /// The name that a key says, if it says one.
 pub(crate) fn name_in(alloc: Global, key: &TreeKey) -> Result<Option<Key>, Memory>
-    ensures { IfOk result (λ name. name ≡ name_of key.now) }
+    ensures name { IfOk result (λ name. name ≡ name_of key.now) }
+    ensures is { IfOk result (λ name. IfSome name IsName) }
 {
     let Some(text) = name_of(key) else {
         return Ok(None);

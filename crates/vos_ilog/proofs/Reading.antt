@@ -1,5 +1,5 @@
 -- What is found in a log.
-use Rattle.std.proofs.Common.{◌≡◌, ℕ, ◌+◌, ◌*◌, ◌<◌, ◌≤◌, ◌^◌, ◌==◌, true, false, Some, None, length, refl, sym, ap, ◌∙◌, subst, arith}
+use Rattle.std.proofs.Common.{◌≡◌, ℕ, ◌+◌, ◌*◌, ◌≤◌, ◌^◌, true, false, Some, None, length, refl, sym, ap, ◌∙◌, subst, arith}
 use Rattle.std.proofs.Math.Nat.{mul-le-mul_right}
 use Rattle.std.specs.List.{find}
 use Rattle.std.specs.Option.{option_and_then, option_map}
@@ -9,11 +9,10 @@ use Rattle.pmem_pages.specs.Shape.{IsTree, entries, entry_at, last_under}
 use Rattle.pmem_pages.specs.declared.node.TreeKey.{TreeKey}
 use Rattle.pmem_tree_base.specs.Find.{pair_of, value_of}
 use Rattle.vos_values.specs.declared.keys.Moment.{Moment}
-use Rattle.vos_values.specs.Keys.{IsMoment, moment_in, moment_key}
+use Rattle.vos_values.specs.Keys.{IsMoment, moment_key}
 use Rattle.vos_values.specs.Values.{log_in, log_value}
-use Rattle.vos_values.proofs.KeyLaws.{moments_exact, true_below}
+use Rattle.vos_values.proofs.KeyLaws.{moments_exact}
 use Rattle.vos_values.proofs.ValueLaws.{logs_exact}
-use Rattle.vos_values.proofs.Reading.{chosen_is, chosen_test, then_holds}
 use Rattle.vos_levels.specs.Levels.{TellsAbove, find_last, hung_root, pair_of_thing, things}
 use Rattle.vos_levels.proofs.Changing.{hung_tree}
 use Rattle.vos_levels.proofs.Moments.{moment_below}
@@ -22,13 +21,6 @@ use Rattle.vos_levels.proofs.Testing.{all_good, count_most, count_of, few_things
 use Rattle.vos_ilog.specs.declared.ilog.LogEntry.{LogEntry}
 use Rattle.vos_ilog.specs.Logs.{IsLogEntry, Log, entry_in_pair, entry_when, entry_with, is_at, is_punch_below, is_under, log_level, log_owner, mark_of, moment_of, value_of_entry}
 use Rattle.vos_ilog.proofs.Adding.{tells_at}
-
-pub moment_minor : (k : TreeKey) (m : Moment) → moment_in k ≡ Some m → m.minor < 64
-unfolding moment_in
-moment_minor k m e =
-    let test = chosen_test _ _ m e in
-    let is = chosen_is _ _ m e in
-    subst (λ (z : Moment). z.minor < 64) is (true_below _ 64 (then_holds (k.len == 9) _ test))
 
 -- a log's tree
 pub log_tree : (m : Blocks) (kind root : ℕ) (g : Log) → kind ≡ 4 → Holds log_owner m g → root ≡ hung_root g → IsTree m kind root g.0

@@ -4,8 +4,10 @@ ghost use Rattle.std.specs.List.{find};
 ghost use Rattle.std.specs.Option.{option_and_then, option_map};
 ghost use Rattle.pmem_pages.specs.Blocks.{IsSpent};
 ghost use Rattle.pmem_pages.specs.Node.{IsKey, IsValue};
+ghost use Rattle.pmem_pages.specs.Shape.{entries, first_above};
 ghost use Rattle.pmem_tree.specs.Calls.{StagesAtMost, StepsAtMost, TooFew};
 ghost use Rattle.pmem_tree_base.specs.Calls.{Goes};
+ghost use Rattle.pmem_tree_base.specs.Find.{pair_of};
 ghost use Rattle.pmem_tree_base.specs.declared.refusal.TreeNo.{TreeNo};
 ghost use Rattle.vos_values.specs.Keys.{IsAttempt, IsMoment, moment_key};
 ghost use Rattle.vos_values.specs.Values.{log_in};
@@ -46,8 +48,8 @@ pub struct Ilog {
     pub tree: Tree,
 }
 
-// The key of an entry.
-fn key_of(entry: LogEntry) -> TreeKey
+/// The key of an entry.
+pub fn key_of(entry: LogEntry) -> TreeKey
     requires minor { entry.minor < 64 }
     ensures key { result ≡ key_of_entry entry }
     ensures is { IsKey result }
@@ -127,6 +129,32 @@ fn entry_in(pair: Option<Pair>) -> Option<LogEntry>
 }
 
 impl Ilog {
+    /// The first entry above a key.
+    ///
+    /// # Errors
+    ///
+    /// `Stopped` comes only where the pages answered it.
+    pub fn next_over<P: Pages, L: Ledger>(
+        &self,
+        pages: &mut P,
+        key: &TreeKey,
+        steps: &mut Steps<L>,
+    ) -> Result<Option<LogEntry>, Stopped>
+        requires kind { self.now.tree.kind ≡ 4 }
+        requires key { IsKey key.now }
+        requires here { HasThing P.tells log_owner hung_root (P.blocks pages.old) self.now.tree.root (λ g. ⊤) }
+        ensures found { IfOk result (λ e. OfThing P.tells log_owner hung_root (P.blocks pages.old) self.now.tree.root (λ g. e ≡ option_and_then entry_in_pair (pair_of (first_above key.now (entries g.0))))) }
+        ensures minor { IfOk result (λ e. IfSome e (λ x. x.minor < 64)) }
+        ensures steps { OfThing P.tells log_owner hung_root (P.blocks pages.old) self.now.tree.root (λ g. StepsAtMost 2 0 g.0 steps.old steps.new) }
+        ensures kept { IsTrue P.tells → P.blocks pages.new ≡ P.blocks pages.old }
+        ensures budget { P.budget pages.new ≡ P.budget pages.old }
+        ensures goes { Goes P.stopped P.count P.burns pages.old pages.new }
+        ensures stopped { OnErr result (P.stopped pages.new ≡ true) }
+        ensures went_on { OnOk result (P.stopped pages.new ≡ P.stopped pages.old) }
+    {
+        Ok(entry_in(self.tree.next_after(pages, key, steps)?))
+    }
+
     /// Adds an entry, where there is none of its moment.
     ///
     /// # Errors

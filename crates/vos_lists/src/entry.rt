@@ -5,7 +5,8 @@ ghost use Rattle.pmem_pages.specs.Node.{IsKey};
 ghost use Rattle.pmem_pages.specs.Shape.{entries, first_above};
 ghost use Rattle.pmem_tree_base.specs.Calls.{Goes};
 ghost use Rattle.pmem_tree_base.specs.Find.{pair_of};
-ghost use Rattle.vos_values.specs.Keys.{name_key};
+ghost use Rattle.vos_values.specs.Keys.{is_size, name_key};
+ghost use Rattle.vos_values.specs.declared.keys.Layout.TheVariants.{Two};
 ghost use Rattle.vos_levels.specs.Calls.{HasThing, OfThing};
 ghost use Rattle.vos_levels.specs.Levels.{hung, hung_root};
 ghost use Rattle.vos_path.specs.Objects.{akey_level, dkey_level, objects_owner};
@@ -118,6 +119,7 @@ fn dkey_in(pair: Option<Pair>) -> Option<DkeyEntry>
 fn object_of(pair: &Pair) -> Option<ObjectEntry>
     ensures said { result ≡ object_in_pair pair.now }
     ensures key { IfSome result (λ e. IsKey e.key) }
+    ensures size { IfSome result (λ e. is_size Two e.name.obj.unit ≡ true) }
 {
     let name = read_object(Layout::Two, &pair.key)?;
     let roots = read_roots(&pair.value)?;
@@ -132,6 +134,7 @@ fn object_of(pair: &Pair) -> Option<ObjectEntry>
 fn object_in(pair: Option<Pair>) -> Option<ObjectEntry>
     ensures said { result ≡ option_and_then object_in_pair pair }
     ensures key { IfSome result (λ e. IsKey e.key) }
+    ensures size { IfSome result (λ e. is_size Two e.name.obj.unit ≡ true) }
 {
     match pair {
         Some(pair) => object_of(&pair),
@@ -205,6 +208,7 @@ pub fn next_object<P: Pages, L: Ledger>(
     requires here { HasThing P.tells objects_owner hung_root (P.blocks pages.old) objects.root (λ g. ⊤) }
     ensures found { IfOk result (λ e. OfThing P.tells objects_owner hung_root (P.blocks pages.old) objects.root (λ g. e ≡ option_and_then object_in_pair (pair_of (first_above key.now (entries g.0))))) }
     ensures key { IfOk result (λ e. IfSome e (λ x. IsKey x.key)) }
+    ensures size { IfOk result (λ e. IfSome e (λ x. is_size Two x.name.obj.unit ≡ true)) }
     ensures kept { IsTrue P.tells → P.blocks pages.new ≡ P.blocks pages.old }
     ensures budget { P.budget pages.new ≡ P.budget pages.old }
     ensures goes { Goes P.stopped P.count P.burns pages.old pages.new }

@@ -2,15 +2,13 @@
 ghost use Rattle.std.specs.Prelude.{◌≡◌, true, IfOk, OnOk, OnErr, IsTrue, ⊤};
 ghost use Rattle.std.specs.Option.{option_and_then};
 ghost use Rattle.pmem_pages.specs.Node.{IsKey};
-ghost use Rattle.pmem_pages.specs.Shape.{entries, first_above};
 ghost use Rattle.pmem_tree_base.specs.Calls.{Goes};
-ghost use Rattle.pmem_tree_base.specs.Find.{pair_of};
-ghost use Rattle.vos_values.specs.Keys.{IsMoment, extent_key, moment_key};
+ghost use Rattle.vos_values.specs.Keys.{IsMoment, moment_key};
 ghost use Rattle.vos_levels.specs.Calls.{HasThing, OfThing};
 ghost use Rattle.vos_levels.specs.Levels.{hung_root};
 ghost use Rattle.vos_ilog.specs.Logs.{log_owner};
 ghost use Rattle.vos_single.specs.Singles.{single_owner};
-ghost use Rattle.vos_extent.specs.Extents.{extent_owner, placed_in_pair};
+ghost use Rattle.vos_extent.specs.Extents.{extent_owner};
 ghost use Rattle.vos_path.specs.Calls.{HasAt, OfAt};
 ghost use Rattle.vos_path.specs.Objects.{values_owner, values_roots};
 ghost use Rattle.vos_reads.specs.Ways.{start_of};
@@ -26,10 +24,11 @@ use pmem_pages::steps::Steps;
 use pmem_tree::tree::Tree;
 use pmem_tree::{Pair, TreeKey};
 use std::sync::ledger::Ledger;
-use vos_extent::pieces::Placed;
+use vos_extent::extent::Extents;
+use vos_extent::pieces::{Placed, key_at as key_at_place};
 use vos_reads::punch::{hides, is_earlier, later_moment, punched_at};
-use vos_values::keys::{ExtentKey, Moment, extent_key, moment_key, read_extent, read_moment};
-use vos_values::values::{AkeyRoots, read_version};
+use vos_values::keys::{Moment, moment_key, read_moment};
+use vos_values::values::AkeyRoots;
 
 // The first moment of an epoch.
 fn start_of(epoch: Epoch) -> Moment
@@ -119,53 +118,6 @@ fn is_there(view: View, punched: Option<Moment>, placed: &Placed) -> bool
         && !hides(punched, moment)
 }
 
-// What a key and a value say of an extent, if they say something.
-fn placed_of(pair: &Pair) -> Option<Placed>
-    ensures { result ≡ placed_in_pair pair.now }
-{
-    let at = read_extent(&pair.key)?;
-    let mark = read_version(&pair.value)?;
-    Some(Placed { at, mark })
-}
-
-// What a pair says of an extent, if there is one and it says something.
-fn placed_in(pair: Option<Pair>) -> Option<Placed>
-    ensures { result ≡ option_and_then placed_in_pair pair }
-{
-    match pair {
-        Some(pair) => placed_of(&pair),
-        None => None,
-    }
-}
-
-// What the tree says of the first extent above a key.
-fn next_extent<P: Pages, L: Ledger>(
-    extents: Tree,
-    pages: &mut P,
-    key: &TreeKey,
-    steps: &mut Steps<L>,
-) -> Result<Option<Placed>, Stopped>
-    requires kind { extents.kind ≡ 6 }
-    requires key { IsKey key.now }
-    requires here { HasThing P.tells extent_owner hung_root (P.blocks pages.old) extents.root (λ g. ⊤) }
-    ensures found { IfOk result (λ v. OfThing P.tells extent_owner hung_root (P.blocks pages.old) extents.root (λ g. v ≡ option_and_then placed_in_pair (pair_of (first_above key.now (entries g.0))))) }
-    ensures kept { IsTrue P.tells → P.blocks pages.new ≡ P.blocks pages.old }
-    ensures budget { P.budget pages.new ≡ P.budget pages.old }
-    ensures goes { Goes P.stopped P.count P.burns pages.old pages.new }
-    ensures stopped { OnErr result (P.stopped pages.new ≡ true) }
-    ensures went_on { OnOk result (P.stopped pages.new ≡ P.stopped pages.old) }
-{
-    Ok(placed_in(extents.next_after(pages, key, steps)?))
-}
-
-// The key of a place.
-fn key_of_place(at: ExtentKey) -> TreeKey
-    ensures key { result ≡ extent_key at }
-    ensures is { IsKey result }
-{
-    extent_key(at)
-}
-
 // Whether a record of an array is there, under a punch.
 fn has_extent<P: Pages, L: Ledger>(
     root: u32,
@@ -182,16 +134,18 @@ fn has_extent<P: Pages, L: Ledger>(
     ensures stopped { OnErr result (P.stopped pages.new ≡ true) }
     ensures went_on { OnOk result (P.stopped pages.new ≡ P.stopped pages.old) }
 {
-    let extents = Tree { kind: 6, root };
+    let extents = Extents {
+        tree: Tree { kind: 6, root },
+    };
     let mut key = least_key();
     for _ in 0..PAIRS {
-        let Some(placed) = next_extent(extents, pages, &key, steps)? else {
+        let Some(placed) = extents.next_over(pages, &key, steps)? else {
             return Ok(false);
         };
         if is_there(view, punched, &placed) {
             return Ok(true);
         }
-        key = key_of_place(placed.at);
+        key = key_at_place(placed.at);
     }
     Ok(false)
 }

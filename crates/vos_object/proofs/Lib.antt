@@ -1,3 +1,5 @@
 mod ReadForms
 mod Settled
 mod Punching
+mod Turns
+mod Found

@@ -1,6 +1,6 @@
 -- The punches of versions, where a write is added, settled or taken out.
-use Rattle.std.proofs.Common.{◌≡◌, ◌==◌, ◌&&◌, Bool, true, false, not, List, [], ◌∷◌, refl, sym, ap, ◌∙◌, subst}
-use Rattle.std.specs.Prelude.{All, if◌then◌else◌}
+use Rattle.std.proofs.Common.{◌≡◌, ◌&&◌, Bool, true, false, not, List, [], ◌∷◌, refl, sym, ap, ◌∙◌, subst}
+use Rattle.std.specs.Prelude.{All}
 use Rattle.std.proofs.lemmas.List.Elements.{All-cons, All-head, All-nil, All-tail}
 use Rattle.base_types.specs.Operations.{write_path}
 use Rattle.base_types.specs.PathLaws.{same_path-Decides}
@@ -15,7 +15,7 @@ use Rattle.daos_model.specs.Prunes.{is_punch}
 use Rattle.daos_model.specs.declared.durable.Version.{Version}
 use Rattle.vos_values.specs.declared.keys.Moment.{Moment}
 use Rattle.vos_levels.specs.Changes.{changed_by, keeps, takes}
-use Rattle.vos_levels.specs.Levels.{HasMore, map_those, without_those}
+use Rattle.vos_levels.specs.Levels.{HasMore}
 use Rattle.vos_levels.specs.Moments.{same_moment}
 use Rattle.vos_path.specs.Writes.{is_update}
 use Rattle.vos_punches.specs.Punches.{ArePunchesOf, IsAdded, IsRemoved, PunchesAt, is_punch_of}

@@ -13,15 +13,16 @@ use Rattle.vos_levels.proofs.Testing.{found_missing}
 use Rattle.std.specs.List.{find}
 use Rattle.std.specs.Option.{option_map}
 use Rattle.vos_settle.specs.Versions.{done_version, is_version_taken}
-use Rattle.vos_object.specs.declared.settle.WriteName.{WriteName}
+use Rattle.vos_settle.specs.declared.name.WriteName.{WriteName}
+use Rattle.vos_settle.specs.Names.{moment_of}
 use Rattle.vos_prune.specs.Writers.{version_by, writer_of}
-use Rattle.vos_object.specs.Settling.{NamesAll, NamesThose, is_among, is_named, is_removed, moment_of, removed_each, settled_each, settling}
+use Rattle.vos_object.specs.Settling.{NamesAll, NamesThose, is_among, is_named, is_removed, removed_each, settled_each, settling}
 
 -- an unsettled version of the attempt
-abbrev waits : AttemptId → Version → Bool
+abbrev pub waits : AttemptId → Version → Bool
 waits a v = changes.same_attempt v.by a && not v.done
 
-waits_is : (a : AttemptId) (v : Version) → is_pending a v ≡ waits a v
+pub waits_is : (a : AttemptId) (v : Version) → is_pending a v ≡ waits a v
 unfolding is_pending same_attempt
 waits_is a v = refl
 
@@ -29,7 +30,7 @@ waits_so : (a : AttemptId) (v : Version) (s d : Bool) → changes.same_attempt v
 waits_so a v s d e f = ap (λ (b : Bool). b && not v.done) e ∙ ap (λ (b : Bool). s && not b) f
 
 -- what settling does to each version
-settle_one : AttemptId → List WriteName → Version → Version
+pub settle_one : AttemptId → List WriteName → Version → Version
 settle_one a [] v = v
 settle_one a (n ∷ ns) v = settle_one a ns (if is_named n v && waits a v then done_version v else v)
 
@@ -41,7 +42,7 @@ done_waits a v = by (changes.same_attempt v.by a)
     by false = refl
 
 -- what doesn't wait stays
-stays : (a : AttemptId) (ns : List WriteName) (v : Version) → waits a v ≡ false → settle_one a ns v ≡ v
+pub stays : (a : AttemptId) (ns : List WriteName) (v : Version) → waits a v ≡ false → settle_one a ns v ≡ v
 unfolding settle_one
 stays a [] v h = refl
 stays a (n ∷ ns) v h = ap (settle_one a ns) (ap (λ (b : Bool). if is_named n v && b then done_version v else v) h ∙ by (is_named n v)) ∙ stays a ns v h
@@ -51,7 +52,7 @@ stays a (n ∷ ns) v h = ap (settle_one a ns) (ap (λ (b : Bool). if is_named n 
     by false = refl
 
 -- what waits and is named is done
-done_one : (a : AttemptId) (ns : List WriteName) (v : Version) → waits a v ≡ true → is_among ns v ≡ true → settle_one a ns v ≡ done_version v
+pub done_one : (a : AttemptId) (ns : List WriteName) (v : Version) → waits a v ≡ true → is_among ns v ≡ true → settle_one a ns v ≡ done_version v
 unfolding settle_one
 done_one a [] v w h = absurd (let n : ⊥ = cc in n)
 done_one a (n ∷ ns) v w h = ap (λ (b : Bool). settle_one a ns (if is_named n v && b then done_version v else v)) w ∙ by (is_named n v) refl (done_one a ns v w)
@@ -59,6 +60,16 @@ done_one a (n ∷ ns) v w h = ap (λ (b : Bool). settle_one a ns (if is_named n 
     by : (b : Bool) → is_named n v ≡ b → (is_among ns v ≡ true → settle_one a ns v ≡ done_version v) → settle_one a ns (if b && true then done_version v else v) ≡ done_version v
     by true e r = stays a ns (done_version v) (done_waits a v)
     by false e r = r (sym (ap (λ (b : Bool). b || is_among ns v) e) ∙ h)
+
+-- what isn't named stays
+pub settle_other : (a : AttemptId) (ns : List WriteName) (v : Version) → is_among ns v ≡ false → settle_one a ns v ≡ v
+unfolding settle_one
+settle_other a [] v h = refl
+settle_other a (n ∷ ns) v h = by (is_named n v) h (settle_other a ns v)
+  where
+    by : (b : Bool) → (b || is_among ns v) ≡ false → (is_among ns v ≡ false → settle_one a ns v ≡ v) → settle_one a ns (if b && waits a v then done_version v else v) ≡ v
+    by true x r = absurd (let n : ⊥ = cc in n)
+    by false x r = r x
 
 one_done : (a : AttemptId) (ns : List WriteName) (v : Version) → (is_pending a v ≡ true → is_among ns v ≡ true) → settle_one a ns v ≡ done_by a v
 unfolding done_by same_attempt
@@ -78,7 +89,7 @@ one_done a ns v named = by (changes.same_attempt v.by a) v.done refl refl
         let w : waits a v ≡ false = waits_so a v false false e f in
         stays a ns v w ∙ ap (λ (b : Bool). record v { done = b }) (f ∙ sym (ap (λ (b : Bool). b || changes.same_attempt v.by a) f ∙ e))
 
-each_one : (a : AttemptId) (ns : List WriteName) (vs : List Version) → settled_each a step.Commit ns vs ≡ map (settle_one a ns) vs
+pub each_one : (a : AttemptId) (ns : List WriteName) (vs : List Version) → settled_each a step.Commit ns vs ≡ map (settle_one a ns) vs
 unfolding settle_one
 each_one a [] vs = all vs
   where
@@ -120,7 +131,7 @@ no_both : (s t : Bool) → t ≡ false → (s && t) ≡ false
 no_both true t e = e
 no_both false t e = refl
 
-each_gone : (a : AttemptId) (ns : List WriteName) (vs : List Version) → settled_each a step.Abort ns vs ≡ without_those (λ v. is_among ns v && waits a v) vs
+pub each_gone : (a : AttemptId) (ns : List WriteName) (vs : List Version) → settled_each a step.Abort ns vs ≡ without_those (λ v. is_among ns v && waits a v) vs
 each_gone a [] vs = all vs
   where
     all : (ws : List Version) → ws ≡ without_those (λ v. false) ws
@@ -143,7 +154,7 @@ aborted_each a ns vs named = each_gone a ns vs ∙ all vs named
 
 -- ---- done ones that are taken out
 
-each_removed : (ns : List WriteName) (vs : List Version) → removed_each ns vs ≡ without_those (λ v. is_among ns v && v.done) vs
+pub each_removed : (ns : List WriteName) (vs : List Version) → removed_each ns vs ≡ without_those (λ v. is_among ns v && v.done) vs
 each_removed [] vs = all vs
   where
     all : (ws : List Version) → ws ≡ without_those (λ v. false) ws

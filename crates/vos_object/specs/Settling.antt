@@ -1,21 +1,18 @@
 -- What is asked of a step that settles a write, and what it makes of it.
-use Rattle.std.specs.Prelude.{◌≡◌, ◌<◌, ◌&&◌, ◌||◌, Bool, true, false, List, [], ◌∷◌}
+use Rattle.std.specs.Prelude.{◌≡◌, ◌&&◌, ◌||◌, Bool, true, false, List, [], ◌∷◌}
 use Rattle.base_types.specs.declared.entry.Settle.{Settle}
 use Rattle.base_types.specs.declared.entry.Settle.TheVariants as step
 use Rattle.base_types.specs.declared.id.AttemptId.{AttemptId}
-use Rattle.base_types.specs.Paths.{record_size}
 use Rattle.daos_model.specs.declared.durable.Version.{Version}
-use Rattle.daos_model.specs.Forms.{is_unit}
 use Rattle.daos_model.specs.Versions.{is_pending}
-use Rattle.vos_values.specs.declared.keys.Moment.{Moment}
 use Rattle.vos_levels.specs.declared.change.Change.{Change}
 use Rattle.vos_levels.specs.declared.change.Change.TheVariants.{Commit, Abort}
 use Rattle.vos_levels.specs.Levels.{without_those}
-use Rattle.vos_path.specs.Writes.{NamesAreKeys}
 use Rattle.vos_settle.specs.declared.task.Task.{Task}
-use Rattle.vos_settle.specs.Versions.{fits_kind, is_version_of, versions_after}
+use Rattle.vos_settle.specs.Versions.{is_version_of, versions_after}
 use Rattle.vos_prune.specs.Writers.{is_done_of}
-use Rattle.vos_object.specs.declared.settle.WriteName.{WriteName}
+use Rattle.vos_settle.specs.declared.name.WriteName.{WriteName}
+use Rattle.vos_settle.specs.Names.{moment_of}
 
 -- a step decides an attempt: its versions become done, or go
 abbrev pub decides : Settle → Bool
@@ -30,20 +27,9 @@ change_of a step.Abort = Abort a
 change_of a (step.Confirm target) = Abort a
 change_of a step.Forget = Abort a
 
-abbrev pub moment_of : WriteName → Moment
-moment_of n = record { epoch = n.epoch; minor = n.minor }
-
 -- a write of an attempt is settled, with the attempt's creations of it
 abbrev pub settling : AttemptId → WriteName → Settle → Task
 settling a n s = record { kind = n.kind; at = moment_of n; by = a; change = change_of a s }
-
--- A name of a write that objects can have: its number is below 64, its kind fits its path, the record size of its object is from
--- 1 to 64, and its names are keys.
-pub record IsNamed (n : WriteName) : Type 0 where
-  pub minor : n.minor < 64
-  pub fits : fits_kind n.kind n.path ≡ true
-  pub size : is_unit (record_size n.path) ≡ true
-  pub names : NamesAreKeys n.path
 
 -- the versions after each of some writes of an attempt was settled, one after another
 abbrev pub settled_each : AttemptId → Settle → List WriteName → List Version → List Version

@@ -8,17 +8,18 @@ ghost use Rattle.base_types.specs.declared.operation.MinorWrite.{MinorWrite as M
 ghost use Rattle.base_types.specs.declared.path.Path.{Path as PathOf};
 ghost use Rattle.daos_model.specs.declared.durable.Version.{Version as VersionOf};
 ghost use Rattle.daos_model.specs.Versions.{done_by, is_not_pending};
-ghost use Rattle.vos_object.specs.declared.settle.WriteName.{WriteName as WriteNameOf};
+ghost use Rattle.vos_settle.specs.declared.name.WriteName.{WriteName as WriteNameOf};
 ghost use Rattle.vos_levels.specs.Changes.{keeps, takes};
 ghost use Rattle.vos_levels.specs.Levels.{HasMore, without_those};
 ghost use Rattle.vos_path.specs.Writes.{is_update};
 ghost use Rattle.vos_punches.specs.Punches.{ArePunchesOf, IsAdded, IsRemoved, PunchesAt};
 ghost use Rattle.vos_settle.specs.declared.task.Task.{Task as TaskOf};
+ghost use Rattle.vos_settle.specs.Names.{moment_of};
 ghost use Rattle.vos_settle.specs.Versions.{is_version_of, is_version_taken, versions_after};
 ghost use Rattle.vos_prune.specs.Removals.{pruning};
 ghost use Rattle.vos_prune.specs.Writers.{writer_of};
 ghost use Rattle.vos_object.specs.Punched.{is_punch_kind, moment_of_write};
-ghost use Rattle.vos_object.specs.Settling.{NamesAll, NamesThose, is_removed, moment_of, removed_each, settled_each};
+ghost use Rattle.vos_object.specs.Settling.{NamesAll, NamesThose, is_removed, removed_each, settled_each};
 ghost use Rattle.vos_object.specs.Updates.{new_version};
 
 /// Where an attempt's unsettled versions were settled one after another, in whatever order and however

@@ -37,7 +37,7 @@ use pmem_tree::tree::Tree;
 use std::alloc::Global;
 use std::sync::ledger::Ledger;
 use vos_chain::refusal::PiecesNo;
-use vos_gather::objects::gather_punches;
+use vos_gather::punches::gather_punches;
 use vos_lists::exists::fetch_exists;
 use vos_lists::list::{list_akeys, list_dkeys};
 use vos_path::objects::write_objects;

@@ -11,51 +11,29 @@ ghost use Rattle.vos_settle.specs.Costs.{Lacks, Spends, for_one, objects_cost};
 ghost use Rattle.vos_settle.specs.Versions.{WriteTurn, versions_freed, write_freed};
 ghost use Rattle.vos_prune.specs.Removals.{Removed, done_blocks, removed_freed};
 ghost use Rattle.vos_prune.specs.Writers.{writer_of};
-ghost use Rattle.vos_object.specs.Settling.{IsNamed, change_of, decides, moment_of, settling};
+ghost use Rattle.vos_settle.specs.Names.{IsNamed, moment_of};
+ghost use Rattle.vos_object.specs.Settling.{change_of, decides, settling};
 
 use crate::object::Objects;
 use base_types::entry::Settle;
-use base_types::epoch::Epoch;
 use base_types::id::AttemptId;
-use base_types::path::Path;
 use pmem_pages::pages::Pages;
 use pmem_pages::steps::Steps;
 use pmem_tree::TreeNo;
 use std::sync::ledger::Ledger;
 use vos_levels::change::Change;
 use vos_prune::remove::remove_write;
-use vos_settle::task::{Task, WriteKind};
+use vos_settle::name::WriteName;
+use vos_settle::task::Task;
 use vos_settle::write::change_write;
-use vos_values::keys::Moment;
 
-/// The name of one write: where it wrote, of which kind it is, and when it was made.
-#[derive(Drop)]
-pub struct WriteName {
-    pub path: Path,
-    pub kind: WriteKind,
-    pub epoch: Epoch,
-    pub minor: u8,
-}
-
-// What a step makes of the versions of an attempt.
-fn change_of(attempt: AttemptId, step: Settle) -> Change
+/// What a step makes of the versions of an attempt.
+pub(crate) fn change_of(attempt: AttemptId, step: Settle) -> Change
     ensures { result ≡ change_of attempt step }
 {
     match step {
         Settle::Commit => Change::Commit(attempt),
         Settle::Abort | Settle::Confirm(_) | Settle::Forget => Change::Abort(attempt),
-    }
-}
-
-impl WriteName {
-    // When it was made.
-    fn moment(&self) -> Moment
-        ensures { result ≡ moment_of self.now }
-    {
-        Moment {
-            epoch: self.epoch,
-            minor: self.minor,
-        }
     }
 }
 

@@ -8,3 +8,4 @@ pub mod Flat
 pub mod VersionTurns
 pub mod Puts
 pub mod FreedVersions
+pub mod Smaller

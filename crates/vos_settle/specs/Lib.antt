@@ -2,3 +2,4 @@ pub mod Tasks
 pub mod Nodes
 pub mod Costs
 pub mod Versions
+pub mod Names

@@ -4,6 +4,7 @@
 pub mod akeys;
 pub mod dkeys;
 pub mod log;
+pub mod name;
 pub mod objects;
 pub mod put;
 pub mod task;

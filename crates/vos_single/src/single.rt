@@ -3,8 +3,10 @@ ghost use Rattle.std.specs.Prelude.{◌≡◌, ◌≤◌, ◌<◌, ◌+◌, true
 ghost use Rattle.std.specs.Option.{option_and_then, option_map};
 ghost use Rattle.pmem_pages.specs.Blocks.{IsSpent};
 ghost use Rattle.pmem_pages.specs.Node.{IsKey};
+ghost use Rattle.pmem_pages.specs.Shape.{entries, first_above};
 ghost use Rattle.pmem_tree.specs.Calls.{StepsAtMost, TooFew};
 ghost use Rattle.pmem_tree_base.specs.Calls.{Goes};
+ghost use Rattle.pmem_tree_base.specs.Find.{pair_of};
 ghost use Rattle.pmem_tree_base.specs.declared.refusal.TreeNo.{TreeNo};
 ghost use Rattle.vos_values.specs.Keys.{IsMoment, moment_key};
 ghost use Rattle.vos_levels.specs.Calls.{Becomes, HasThing, OfThing};
@@ -55,8 +57,8 @@ pub struct Single {
     pub tree: Tree,
 }
 
-// The key of a moment.
-fn key_at(at: Moment) -> TreeKey
+/// The key of a moment.
+pub fn key_at(at: Moment) -> TreeKey
     requires minor { at.minor < 64 }
     ensures key { result ≡ moment_key at }
     ensures is { IsKey result }
@@ -76,6 +78,7 @@ fn start_of(epoch: Epoch) -> Moment
 fn placed_of(pair: &Pair) -> Option<Placed>
     ensures placed { result ≡ placed_in_pair pair.now }
     ensures short { IfSome result (λ p. p.mark.length ≤ 1024) }
+    ensures minor { IfSome result (λ p. p.moment.minor < 64) }
 {
     let moment = read_moment(&pair.key)?;
     let mark = read_version(&pair.value)?;
@@ -86,6 +89,7 @@ fn placed_of(pair: &Pair) -> Option<Placed>
 fn placed_in(pair: Option<Pair>) -> Option<Placed>
     ensures placed { result ≡ option_and_then placed_in_pair pair }
     ensures short { IfSome result (λ p. p.mark.length ≤ 1024) }
+    ensures minor { IfSome result (λ p. p.moment.minor < 64) }
 {
     match pair {
         Some(pair) => placed_of(&pair),
@@ -94,6 +98,32 @@ fn placed_in(pair: Option<Pair>) -> Option<Placed>
 }
 
 impl Single {
+    /// What the tree says of the first version above a key.
+    ///
+    /// # Errors
+    ///
+    /// `Stopped` comes only where the pages answered it.
+    pub fn next_over<P: Pages, L: Ledger>(
+        &self,
+        pages: &mut P,
+        key: &TreeKey,
+        steps: &mut Steps<L>,
+    ) -> Result<Option<Placed>, Stopped>
+        requires kind { self.now.tree.kind ≡ 5 }
+        requires key { IsKey key.now }
+        requires here { HasThing P.tells single_owner hung_root (P.blocks pages.old) self.now.tree.root (λ g. ⊤) }
+        ensures found { IfOk result (λ v. OfThing P.tells single_owner hung_root (P.blocks pages.old) self.now.tree.root (λ g. v ≡ option_and_then placed_in_pair (pair_of (first_above key.now (entries g.0))))) }
+        ensures minor { IfOk result (λ v. IfSome v (λ p. p.moment.minor < 64)) }
+        ensures steps { OfThing P.tells single_owner hung_root (P.blocks pages.old) self.now.tree.root (λ g. StepsAtMost 2 0 g.0 steps.old steps.new) }
+        ensures kept { IsTrue P.tells → P.blocks pages.new ≡ P.blocks pages.old }
+        ensures budget { P.budget pages.new ≡ P.budget pages.old }
+        ensures goes { Goes P.stopped P.count P.burns pages.old pages.new }
+        ensures stopped { OnErr result (P.stopped pages.new ≡ true) }
+        ensures went_on { OnOk result (P.stopped pages.new ≡ P.stopped pages.old) }
+    {
+        Ok(placed_in(self.tree.next_after(pages, key, steps)?))
+    }
+
     // What the tree says of the last version before a moment.
     fn last_under<P: Pages, L: Ledger>(
         &self,

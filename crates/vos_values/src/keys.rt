@@ -1,10 +1,11 @@
 // Keys of the trees of a target.
-ghost use Rattle.std.specs.Prelude.{◌≡◌, ◌<◌, ◌≤◌, length, drop, ◌++◌, is_none};
+ghost use Rattle.std.specs.Prelude.{◌≡◌, ◌<◌, ◌≤◌, length, drop, ◌++◌, is_none, IfSome, true};
 ghost use Rattle.std.specs.Option.{option_copied};
 ghost use Rattle.base_types.specs.Keys.{first_bad_byte, key_fault};
 ghost use Rattle.pmem_pages.specs.Node.{IsKey, key_text};
 ghost use Rattle.vos_values.specs.Fields.{AreNarrow, key_of, packed, padded};
-ghost use Rattle.vos_values.specs.Keys.{attempt_in, attempt_key, class_of, extent_in, extent_key, has_sizes, is_said_size, moment_in, moment_key, name_in, name_key, object_in, object_key, sized_object};
+ghost use Rattle.vos_values.specs.declared.keys.Layout.TheVariants.{Two};
+ghost use Rattle.vos_values.specs.Keys.{attempt_in, attempt_key, class_of, extent_in, extent_key, has_sizes, is_said_size, moment_in, moment_key, name_in, name_key, object_in, object_key, sized_object, is_size};
 
 use crate::fields::{eight_at, four_at, one_at, sixteen_at, two_at, write_fields};
 use base_types::epoch::Epoch;
@@ -71,7 +72,8 @@ pub fn moment_key(moment: Moment) -> TreeKey
 /// The moment that a key says, if it says one.
 #[tactic(auto, unfolding(crate::specs::Keys::moment_in))]
 pub fn read_moment(key: &TreeKey) -> Option<Moment>
-    ensures { result ≡ moment_in key.now }
+    ensures moment { result ≡ moment_in key.now }
+    ensures minor { IfSome result (λ m. m.minor < 64) }
 {
     let minor = one_at(&key.bytes, 8);
     if key.len != 9 || minor >= 64 {
@@ -97,7 +99,8 @@ pub fn extent_key(extent: ExtentKey) -> TreeKey
 /// Where and when an extent was written, by its key, if that says so.
 #[tactic(auto, unfolding(crate::specs::Keys::extent_in))]
 pub fn read_extent(key: &TreeKey) -> Option<ExtentKey>
-    ensures { result ≡ extent_in key.now }
+    ensures place { result ≡ extent_in key.now }
+    ensures minor { IfSome result (λ e. e.minor < 64) }
 {
     let minor = one_at(&key.bytes, 12);
     if key.len != 13 || minor >= 64 {
@@ -173,7 +176,8 @@ impl Layout {
 /// The object that a key says in a layout, if it says one.
 #[tactic(auto, unfolding(crate::specs::Keys::object_in))]
 pub fn read_object(layout: Layout, key: &TreeKey) -> Option<ObjectKey>
-    ensures { result ≡ object_in layout key.now }
+    ensures object { result ≡ object_in layout key.now }
+    ensures size { IfSome result (λ o. is_size Two o.obj.unit ≡ true) }
 {
     let unit = one_at(&key.bytes, 25);
     if key.len == 25 {

@@ -24,8 +24,8 @@ loop-init g c = record {
   went_on = refl;
 }
 
-pub next_extent-requires-clause-here : goal.next_extent-requires-clause-here
-next_extent-requires-clause-here g c told =
+pub next_over-requires-clause-here : goal.next_over-requires-clause-here
+next_over-requires-clause-here g c told =
     let s = c.requires.here told in
     (s.0, (subst (λ b. Holds extent_owner b s.0) (sym (c.loop.invariant.kept told)) s.1.0, s.1.1))
 
@@ -52,7 +52,7 @@ returns-then-is_there-clause-found g c told x held at =
 pub loop-preserved : goal.loop-preserved
 loop-preserved g c =
     let i = c.loop.invariant in
-    let p = c.next_extent.ensures in
+    let p = c.next_over.ensures in
     record {
       ahead = λ told x held at.
           let m = g.P.Pages.blocks c.args.pages.now in
@@ -61,11 +61,11 @@ loop-preserved g c =
           let test = has_record c.args.view c.args.punched in
           let next = coming extent_level test (λ s. s) placed_in_pair placed_of m (extent_again m) x held c.loop.key [] c.loop.counter c.in-Some.placed (i.ahead told x held at) found in
           let no : test next.thing ≡ false = ap (λ (z : Placed). is_there c.args.view c.args.punched z.mark.length (record { epoch = z.at.epoch; minor = z.at.minor })) (sym next.shown_is) ∙ (sym c.is_there.ensures ∙ c.if-is_there.false) in
-          subst (λ k. Ahead {N = Stored} extent_level test (λ s. s) x k [] (c.loop.counter + 1)) (ap (λ (z : Placed). extent_key z.at) (sym next.shown_is) ∙ sym c.key_of_place-key.ensures.key) (next.left_out no);
-      key = c.key_of_place-key.ensures.is;
+          subst (λ k. Ahead {N = Stored} extent_level test (λ s. s) x k [] (c.loop.counter + 1)) (ap (λ (z : Placed). extent_key z.at) (sym next.shown_is) ∙ sym c.key_at-key.ensures.key) (next.left_out no);
+      key = c.key_at-key.ensures.is;
       kept = λ told. p.kept told ∙ i.kept told;
       budget = p.budget ∙ i.budget;
-      goes = goes_then g.P.Pages.stopped g.P.Pages.count g.P.Pages.burns c.args.pages.now c.loop.pages c.next_extent.new.pages i.goes p.goes;
+      goes = goes_then g.P.Pages.stopped g.P.Pages.count g.P.Pages.burns c.args.pages.now c.loop.pages c.next_over.new.pages i.goes p.goes;
       went_on = c.in_ok-placed.ensures.went_on ∙ i.went_on;
     }
 

@@ -1,0 +1,27 @@
+use Rattle.vos_settle.specs.Names.{IsNamed}
+use Rattle.vos_gather.specs.Wanted.{want_of}
+use Rattle.std.specs.Prelude.{All}
+use Rattle.std.proofs.Common.{◌≡◌, IsTrue, true}
+use Rattle.base_types.specs.Operations.{write_path}
+use Rattle.base_types.specs.declared.operation.Write.{Write}
+use Rattle.daos_model.specs.Prunes.{is_punch}
+use Rattle.pmem_pages.specs.Node.{IsKey}
+use Rattle.pmem_pages.specs.Owners.{Holds}
+use Rattle.pmem_tree_base.specs.Calls.{Goes}
+use Rattle.vos_levels.specs.Levels.{hung_root}
+use Rattle.vos_ilog.specs.Logs.{Log, log_level, log_owner}
+use Rattle.vos_gather.proofs.Listing.{entry_punch}
+use Rattle.vos_gather.proofs.Walked.{SoFar}
+use Rattle.vos_gather.proofs.log.list_log.Given as goal
+
+-- the wanted names of those up to the key were listed
+abbrev pub invariant-loop : goal.invariant-loop
+invariant-loop g l = record {
+  so_far : IsTrue g.P.Pages.tells → (x : Log) → Holds log_owner (g.P.Pages.blocks l.initial.pages) x → l.root ≡ hung_root x → (w : Write) → is_punch w ≡ true → write_path w ≡ l.path → SoFar (want_of l.wanted) log_level (entry_punch w) x l.key l.counter l.initial.names.items l.names.items;
+  named : All IsNamed l.initial.names.items → All IsNamed l.names.items;
+  key : IsKey l.key;
+  kept : IsTrue g.P.Pages.tells → g.P.Pages.blocks l.pages ≡ g.P.Pages.blocks l.initial.pages;
+  budget : g.P.Pages.budget l.pages ≡ g.P.Pages.budget l.initial.pages;
+  goes : Goes g.P.Pages.stopped g.P.Pages.count g.P.Pages.burns l.initial.pages l.pages;
+  went_on : g.P.Pages.stopped l.pages ≡ g.P.Pages.stopped l.initial.pages;
+}

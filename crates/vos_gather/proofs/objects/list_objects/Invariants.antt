@@ -1,0 +1,23 @@
+use Rattle.vos_settle.specs.Names.{IsNamed}
+use Rattle.vos_gather.specs.Wanted.{want_of}
+use Rattle.std.specs.Prelude.{All}
+use Rattle.std.proofs.Common.{◌≡◌, IsTrue}
+use Rattle.pmem_pages.specs.Node.{IsKey}
+use Rattle.pmem_pages.specs.Owners.{Holds}
+use Rattle.pmem_tree_base.specs.Calls.{Goes}
+use Rattle.vos_levels.specs.Levels.{Hung, hung, hung_root}
+use Rattle.vos_path.specs.Objects.{Object, object_level, object_versions}
+use Rattle.vos_gather.proofs.Walked.{SoFar}
+use Rattle.vos_gather.proofs.objects.list_objects.Given as goal
+
+-- the wanted names of those up to the key were listed
+abbrev pub invariant-loop : goal.invariant-loop
+invariant-loop g l = record {
+  so_far : IsTrue g.P.Pages.tells → (x : Hung Object) → Holds (hung object_level) (g.P.Pages.blocks l.initial.pages) x → l.objects.root ≡ hung_root x → SoFar (want_of l.wanted) object_level object_versions x l.key l.counter l.initial.names.items l.names.items;
+  named : All IsNamed l.initial.names.items → All IsNamed l.names.items;
+  key : IsKey l.key;
+  kept : IsTrue g.P.Pages.tells → g.P.Pages.blocks l.pages ≡ g.P.Pages.blocks l.initial.pages;
+  budget : g.P.Pages.budget l.pages ≡ g.P.Pages.budget l.initial.pages;
+  goes : Goes g.P.Pages.stopped g.P.Pages.count g.P.Pages.burns l.initial.pages l.pages;
+  went_on : g.P.Pages.stopped l.pages ≡ g.P.Pages.stopped l.initial.pages;
+}

@@ -1,0 +1,43 @@
+use Rattle.std.proofs.Common.{Some, None, true, ◌∙◌, ap, arith, sym, subst}
+use Rattle.pmem_pages.specs.Owners.{Changed, Holds}
+use Rattle.vos_path.specs.Objects.{objects_owner, objects_versions}
+use Rattle.vos_settle.specs.Costs.{Spends, for_one}
+use Rattle.vos_levels.specs.declared.change.Change.{Change}
+use Rattle.vos_gather.specs.Wanted.{names_in}
+use Rattle.vos_object.specs.Each.{each_cost, settled_blocks}
+use Rattle.vos_object.specs.Settling.{settled_each}
+use Rattle.vos_object.proofs.Found.{freed_those, settled_those}
+use Rattle.vos_object.proofs.object.Objects.settle.Goals as goal
+
+pub returns-clause-settled : goal.returns-clause-settled
+returns-clause-settled g c told x held at =
+    let vs = objects_versions x in
+    let same = c.list_names.ensures.kept told in
+    let by = ap (λ (z : Change). names_in (record { updates = true; change = Some z; moments = Some c.args.which.now; under = None }) vs) c.change_of.ensures in
+    let names = c.deref.ensures.value ∙ (c.in_ok-names.ensures.listed told x held at ∙ by) in
+    let t = c.in_ok-settle_each.ensures.settled told x (subst (λ b. Holds objects_owner b x) (sym same) held) at in
+    record {
+      now = t.now;
+      changed = subst (λ b. Changed objects_owner b x (g.P.Pages.blocks c.settle_each.new.pages) t.now) same t.changed;
+      root_is = t.root_is;
+      shown_is = t.versions ∙ (ap (λ ns. settled_each c.args.attempt c.args.step ns vs) names ∙ settled_those c.args.attempt c.args.which.now c.args.step vs c.requires.step);
+    }
+
+pub returns-clause-staged : goal.returns-clause-staged
+returns-clause-staged g c told x held at d small =
+    let vs = objects_versions x in
+    let by = ap (λ (z : Change). names_in (record { updates = true; change = Some z; moments = Some c.args.which.now; under = None }) vs) c.change_of.ensures in
+    let names = c.deref.ensures.value ∙ (c.in_ok-names.ensures.listed told x held at ∙ by) in
+    let spent = c.in_ok-settle_each.ensures.staged told x (subst (λ b. Holds objects_owner b x) (sym (c.list_names.ensures.kept told)) held) at d small in
+    subst (λ ns. Spends (each_cost ns (for_one d) 1) (g.P.Pages.budget c.args.pages.now) (g.P.Pages.budget c.settle_each.new.pages)) names
+    (subst (λ b. Spends (each_cost c.deref.result.now (for_one d) 1) b (g.P.Pages.budget c.settle_each.new.pages)) c.list_names.ensures.budget spent)
+
+pub returns-clause-gives : goal.returns-clause-gives
+returns-clause-gives g c told x held at =
+    let vs = objects_versions x in
+    let by = ap (λ (z : Change). names_in (record { updates = true; change = Some z; moments = Some c.args.which.now; under = None }) vs) c.change_of.ensures in
+    let names = c.deref.ensures.value ∙ (c.in_ok-names.ensures.listed told x held at ∙ by) in
+    let freed = ap (λ ns. settled_blocks c.args.attempt c.args.step ns vs) names ∙ freed_those c.args.attempt c.args.which.now c.args.step vs c.requires.step in
+    let gave = c.in_ok-settle_each.ensures.gives told x (subst (λ b. Holds objects_owner b x) (sym (c.list_names.ensures.kept told)) held) at in
+    let left = ap (λ b. b.free) c.list_names.ensures.budget in
+    omega (arith, freed, gave, left)
