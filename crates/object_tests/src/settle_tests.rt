@@ -244,7 +244,8 @@ fn count<L: Ledger>(
 {
     let objects = store.objects();
     let path = dkey_path(alloc, unit)?;
-    let names = objects.list(&mut store.pages, alloc, &path, Epoch(below), steps);
+    let (pages, below) = (&mut store.pages, Epoch(below));
+    let names = objects.list(pages, alloc, &path, below, &store.punches, steps);
     Some(names.ok()?.len())
 }
 

@@ -8,7 +8,7 @@ use Rattle.vos_values.specs.declared.keys.Layout.TheVariants.{Two}
 use Rattle.vos_values.specs.declared.keys.ObjectKey.{ObjectKey}
 use Rattle.vos_values.specs.Keys.{IsName, is_size}
 use Rattle.vos_path.specs.Objects.{object_path}
-use Rattle.vos_gather.specs.Gathered.{at_akey, at_dkey}
+use Rattle.vos_lists.specs.Paths.{at_akey, at_dkey}
 use Rattle.vos_gather.specs.Wanted.{IsPlace}
 
 pub place_object : (o : ObjectKey) → is_size Two o.obj.unit ≡ true → IsPlace (object_path o)

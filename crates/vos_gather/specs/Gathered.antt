@@ -1,5 +1,5 @@
 -- What comes to an index where punches are gathered into it, and what stands below a path.
-use Rattle.std.specs.Prelude.{◌≡◌, ◌||◌, ◌&&◌, Bool, ℕ, List, ◌++◌, filter, map, Some, None}
+use Rattle.std.specs.Prelude.{◌≡◌, ◌||◌, ◌&&◌, Bool, ℕ, List, ◌++◌, filter, map}
 use Rattle.std.specs.List.{list_any}
 use Rattle.base_types.specs.declared.operation.Write.{Write}
 use Rattle.base_types.specs.declared.operation.Write.TheVariants.{PunchDkey}
@@ -15,6 +15,7 @@ use Rattle.vos_levels.specs.Moments.{same_moment}
 use Rattle.base_types.specs.Paths.{same_path}
 use Rattle.vos_settle.specs.declared.name.WriteName.{WriteName}
 use Rattle.vos_settle.specs.Names.{moment_of}
+use Rattle.vos_lists.specs.Paths.{at_akey, at_dkey}
 
 -- a name of a punch of a path, made then
 abbrev pub is_name_of : Path → Moment → WriteName → Bool
@@ -27,12 +28,6 @@ pub record Gathered (ns : List WriteName) (f g : PunchesAt) : Type 0 where
   pub exact : (p : Path) (m : Moment) → has_moment m (g p) ≡ (has_moment m (f p) || list_any (is_name_of p m) ns)
 
 -- ---- what stands below a path, by the names on the way
-
-abbrev pub at_dkey : Path → List ℕ → Path
-at_dkey p d = record { cont = p.cont; obj = p.obj; dkey = Some d; akey = None }
-
-abbrev pub at_akey : Path → List ℕ → Path
-at_akey p a = record { cont = p.cont; obj = p.obj; dkey = p.dkey; akey = Some a }
 
 -- the punches among some entries of a log
 abbrev pub entries_punches : Write → List LogEntry → List Version

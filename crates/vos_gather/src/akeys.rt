@@ -8,11 +8,11 @@ ghost use Rattle.vos_path.specs.Calls.{HasAt, OfAt};
 ghost use Rattle.vos_path.specs.Objects.{akey_level, values_owner, values_roots, values_versions};
 ghost use Rattle.vos_settle.specs.Names.{IsNamed};
 ghost use Rattle.vos_lists.specs.Entries.{name_of};
-ghost use Rattle.vos_gather.specs.Gathered.{akeys_in, at_akey};
+ghost use Rattle.vos_lists.specs.Paths.{at_akey};
+ghost use Rattle.vos_gather.specs.Gathered.{akeys_in};
 ghost use Rattle.vos_gather.specs.Wanted.{IsPlace, Listed, want_of};
 
 use crate::log::list_log;
-use crate::paths::{at_akey, name_in};
 use crate::values::{list_extents, list_singles};
 use crate::wanted::Wanted;
 use base_types::path::Path;
@@ -23,6 +23,7 @@ use std::alloc::Global;
 use std::sync::ledger::Ledger;
 use vos_chain::refusal::PiecesNo;
 use vos_lists::entry::{AkeyEntry, PAIRS, least_key, next_akey};
+use vos_lists::paths::{at_akey, name_in};
 use vos_settle::name::WriteName;
 
 // Puts the names of the wanted writes of an akey of the dkey of a path behind others.

@@ -8,12 +8,12 @@ ghost use Rattle.vos_path.specs.Calls.{HasAt, OfAt};
 ghost use Rattle.vos_path.specs.Objects.{akey_level, below_owner, below_roots, dkey_level};
 ghost use Rattle.vos_settle.specs.Names.{IsNamed};
 ghost use Rattle.vos_lists.specs.Entries.{name_of};
-ghost use Rattle.vos_gather.specs.Gathered.{at_dkey, below_dkey_in, dkeys_in};
+ghost use Rattle.vos_lists.specs.Paths.{at_dkey};
+ghost use Rattle.vos_gather.specs.Gathered.{below_dkey_in, dkeys_in};
 ghost use Rattle.vos_gather.specs.Wanted.{IsPlace, Listed, want_of};
 
 use crate::akeys::list_akeys;
 use crate::log::list_log;
-use crate::paths::{at_dkey, name_in};
 use crate::wanted::Wanted;
 use base_types::path::Path;
 use pmem_pages::pages::Pages;
@@ -23,6 +23,7 @@ use std::alloc::Global;
 use std::sync::ledger::Ledger;
 use vos_chain::refusal::PiecesNo;
 use vos_lists::entry::{DkeyEntry, PAIRS, least_key, next_dkey};
+use vos_lists::paths::{at_dkey, name_in};
 use vos_settle::name::WriteName;
 
 // Puts the names of the wanted writes of a dkey of the object of a path, and of its akeys, behind others.

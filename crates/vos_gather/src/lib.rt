@@ -5,7 +5,6 @@ mod akeys;
 mod dkeys;
 mod log;
 pub mod objects;
-mod paths;
 pub mod punches;
 mod values;
 pub mod wanted;

@@ -53,7 +53,7 @@ moment_later None y = refl
 moment_later (Some a) None = refl
 moment_later (Some a) (Some b) = ap (λ (t : Bool). if t then Some a else Some b) (sym (earlier_before [] b a))
 
-later_moments : (x y z : Option Moment) → later_moment (later_moment x y) z ≡ later_moment x (later_moment y z)
+pub later_moments : (x y z : Option Moment) → later_moment (later_moment x y) z ≡ later_moment x (later_moment y z)
 later_moments x y z =
     moment_later (later_moment x y) z
     ∙ (ap (λ t. later_of (key_at []) t z) (moment_later x y)

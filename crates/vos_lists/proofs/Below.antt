@@ -32,7 +32,8 @@ use Rattle.vos_lists.specs.Stands.{akey_name, akey_names, akey_stands, below_sta
 use Rattle.vos_lists.specs.Unders.{over_akeys, over_dkeys}
 use Rattle.vos_lists.proofs.Alive.{akey_law, any_at, parts_of, same_name, same_tests}
 use Rattle.vos_lists.proofs.Full.{IsFull, held_full}
-use Rattle.vos_lists.proofs.Naming.{any_has, any_same, found_at, found_own, good_has, has_append, if_any, names_same}
+use Rattle.vos_lists.proofs.Naming.{any_has, any_same, found_at, found_own, good_has, if_any, names_same}
+use Rattle.vos_lists.proofs.Walking.{has_append}
 use Rattle.vos_lists.proofs.Settled.{cont_path, cont_to_object, dkey_to_akey, eq_refl, from_parts, object_to_dkey, over_akey, over_dkey, over_object, settled_below, to_akey, to_dkey, top_akey, top_dkey, top_object, under_akey, under_dkey, under_object}
 
 -- ---- names of cells
@@ -230,6 +231,9 @@ module _ (m : Blocks) (g : Objects) (o : ObjectKey) (held : Holds objects_owner 
 
 -- ---- below a container
 
+pub same_cont : (a b : ContId) → (a.0 == b.0) ≡ true → a ≡ b
+same_cont a b h = let e : a.0 ≡ b.0 = grind (arith, nat_tests) in λ i. record { 0 = e i }
+
 module _ (m : Blocks) (g : Objects) (c : ContId) (held : Holds objects_owner m g) (e : Epoch) (settled : IsSettled (cont_path c) e g) where
   abbrev cont_map : List CellValue
   cont_map = map_below (in_order version_key (objects_versions g)) e.0
@@ -255,9 +259,6 @@ module _ (m : Blocks) (g : Objects) (c : ContId) (held : Holds objects_owner m g
           let mine : (x.name.cont.0 == c.0) ≡ true = ap (λ (z : ContId). z.0 == c.0) (ap (λ (z : ObjectKey). z.cont) name ∙ is) ∙ eq_refl c.0 in
           let stands : object_stands (view_at x.name) x.holds ≡ true = ap (λ (z : ObjectKey). object_stands (view_at z) x.holds) name ∙ k in
           any_has test (things g) x at.has (both (x.name.cont.0 == c.0) (object_stands (view_at x.name) x.holds) mine stands)
-
-  same_cont : (a b : ContId) → (a.0 == b.0) ≡ true → a ≡ b
-  same_cont a b h = let e : a.0 ≡ b.0 = grind (arith, nat_tests) in λ i. record { 0 = e i }
 
   cont_forth : has_cell_below (cont_path c) cont_map ≡ true → list_any test (things g) ≡ true
   cont_forth h =

@@ -7,3 +7,4 @@ mod Settled
 mod Below
 mod Ends
 mod Ranges
+mod Indexed

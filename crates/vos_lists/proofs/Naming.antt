@@ -30,6 +30,7 @@ use Rattle.vos_path.proofs.Putting.{level_equal, tells_level}
 use Rattle.vos_reads.proofs.Quiet.{level_own}
 use Rattle.vos_lists.specs.Stands.{names_of}
 use Rattle.vos_lists.proofs.Alive.{any_at}
+use Rattle.vos_lists.proofs.Walking.{has_append}
 
 -- ---- names in the order of their keys
 
@@ -40,10 +41,6 @@ names_before : (a b : List ℕ) → IsName a → IsName b → key_cmp (name_key 
 names_before a b ha hb h = sym (less_before a b Less (sym h ∙ names_order a b ha hb))
 
 -- ---- what stands in a list
-
-pub has_append : {T : Type 0} (left : List T) (x : T) (right : List T) → Has x (left ++ x ∷ right)
-has_append [] x right = inl refl
-has_append (y ∷ left) x right = inr (has_append left x right)
 
 has_map : {T U : Type 0} (f : T → U) (xs : List T) (x : T) → Has x xs → Has (f x) (map f xs)
 has_map f [] x h = absurd h

@@ -1,5 +1,5 @@
 -- A walk up over the things of a level, which takes the names of those that pass a test.
-use Rattle.std.proofs.Common.{◌≡◌, ◌==◌, not, ℕ, suc, zero, ◌+◌, ◌≤◌, ◌^◌, ◌||◌, Bool, true, false, List, [], ◌∷◌, ◌++◌, length, map, take, Option, Some, None, refl, sym, ap, ◌∙◌, subst, arith, append_assoc}
+use Rattle.std.proofs.Common.{◌≡◌, ◌==◌, not, ℕ, suc, zero, ◌+◌, ◌≤◌, ◌^◌, ◌||◌, Bool, true, false, List, [], ◌∷◌, ◌++◌, length, map, take, Option, Some, None, refl, sym, ap, ◌∙◌, subst, arith, append_assoc, inl, inr}
 use Rattle.std.specs.Prelude.{filter, if◌then◌else◌}
 use Rattle.std.specs.List.{list_any}
 use Rattle.std.specs.Option.{option_and_then}
@@ -8,6 +8,7 @@ use Rattle.std.specs.declared.cmp.Ordering.TheVariants.{Less, Equal, Greater}
 use Rattle.std.proofs.Math.Seq.{take-append_seam}
 use Rattle.std.proofs.lemmas.List.{append-nil, length-append, map-append, nil_from_length}
 use Rattle.std.proofs.lemmas.List.Elements.{filter-append}
+use Rattle.model_laws.specs.Members.{Has}
 use Rattle.pmem_pages.specs.Blocks.{Blocks}
 use Rattle.pmem_pages.specs.Node.{key_cmp}
 use Rattle.pmem_pages.specs.Owners.{Holds, each}
@@ -47,6 +48,10 @@ any_found test (x ∷ left) a right h = or_true (test x) (list_any test (left ++
     or_true : (s t : Bool) → t ≡ true → (s || t) ≡ true
     or_true true t k = refl
     or_true false t k = k
+
+pub has_append : {T : Type 0} (left : List T) (x : T) (right : List T) → Has x (left ++ x ∷ right)
+has_append [] x right = inl refl
+has_append (y ∷ left) x right = inr (has_append left x right)
 
 -- there are no names just where none passes
 pub none_any : {A N : Type 0} (test : A → Bool) (name : A → N) (xs : List A) → names_of test name xs ≡ [] → list_any test xs ≡ false
@@ -177,6 +182,7 @@ module _ {A X N : Type 0} (L : Level A) (test : A → Bool) (name : A → N) (pa
   -- the first of those still to come
   pub record Coming (key : TreeKey) (got : List N) (passed : ℕ) (x : X) : Type 0 where
     pub thing : A
+    pub among : Has thing (things g)
     pub good : L.Good thing
     pub holds : Holds L.owner m thing
     pub over : key_cmp key (L.key thing) ≡ Less
@@ -198,6 +204,7 @@ module _ {A X N : Type 0} (L : Level A) (test : A → Bool) (name : A → N) (pa
       let mine : Holds L.owner m f.thing = holds_spot L.owner m a.seen f.thing f.behind (subst (λ z. Holds (each L.owner) m z) is (holds_each L m g held)) in
       record {
         thing = f.thing;
+        among = subst (Has f.thing) (sym is) (has_append a.seen f.thing f.behind);
         good = f.good;
         holds = mine;
         over = f.over;

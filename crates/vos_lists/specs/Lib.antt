@@ -1,3 +1,5 @@
 pub mod Entries
+pub mod Paths
 pub mod Stands
+pub mod Covers
 pub mod Unders

@@ -51,9 +51,13 @@ has_extent w punched g = list_any (has_record w punched) (things g)
 abbrev pub covered : View → Option Moment → Log → Option Moment
 covered w punched l = later_moment punched (punched_at w.below l)
 
+-- a value is there, or a record of one of the extents
+abbrev pub has_value : View → Option Moment → Values → Bool
+has_value w punched a = has_single w punched a.1.0 || has_extent w punched a.1.1
+
 -- a cell is there below an akey, in what a punch covers
 abbrev pub values_stand : View → Option Moment → Values → Bool
-values_stand w punched a = has_single w (covered w punched a.0) a.1.0 || has_extent w (covered w punched a.0) a.1.1
+values_stand w punched a = has_value w (covered w punched a.0) a
 
 -- below one akey of a tree
 abbrev pub akey_stands : View → Option Moment → Akey → Bool

@@ -1,11 +1,9 @@
--- What lies below an object, and below a dkey.
+-- The last punch that covers what lies below an object, and below a dkey.
 use Rattle.std.specs.Prelude.{ℕ, List, Option}
 use Rattle.vos_values.specs.declared.keys.Moment.{Moment}
 use Rattle.vos_values.specs.declared.keys.ObjectKey.{ObjectKey}
-use Rattle.vos_levels.specs.Levels.{hung_root}
 use Rattle.vos_path.specs.Objects.{Objects}
 use Rattle.vos_reads.specs.Ways.{below_object, dkey_of, punched_at}
-use Rattle.vos_lists.specs.declared.under.Under.{Under}
 use Rattle.vos_lists.specs.declared.view.View.{View}
 use Rattle.vos_lists.specs.Stands.{covered}
 
@@ -15,9 +13,3 @@ over_dkeys w o g = punched_at w.below (below_object o g).0
 
 abbrev pub over_akeys : View → ObjectKey → List ℕ → Objects → Option Moment
 over_akeys w o d g = covered w (over_dkeys w o g) (dkey_of o d g).0
-
-abbrev pub under_object : View → ObjectKey → Objects → Under
-under_object w o g = record { punched = over_dkeys w o g; root = hung_root (below_object o g).1 }
-
-abbrev pub under_dkey : View → ObjectKey → List ℕ → Objects → Under
-under_dkey w o d g = record { punched = over_akeys w o d g; root = hung_root (dkey_of o d g).1 }

@@ -15,15 +15,18 @@ ghost use Rattle.vos_levels.specs.Levels.{hung_root};
 ghost use Rattle.vos_chain.specs.declared.refusal.PiecesNo.TheVariants.{Stopped as stopped_no};
 ghost use Rattle.vos_path.specs.Objects.{objects_owner, objects_versions};
 ghost use Rattle.vos_path.specs.Writes.{NamesAreKeys};
+ghost use Rattle.vos_punches.specs.Punches.{ArePunchesOf};
+ghost use Rattle.vos_punches.specs.Rows.{moments_at};
 ghost use Rattle.vos_reads.specs.Ways.{IsSettled, akey_of, below_object, dkey_of};
-ghost use Rattle.vos_lists.specs.Stands.{below_stands, object_stands, values_stand};
+ghost use Rattle.vos_lists.specs.Covers.{CoverAkeys, CoverDkeys};
+ghost use Rattle.vos_lists.specs.Stands.{below_stands, has_value, object_stands};
 ghost use Rattle.vos_lists.specs.Unders.{over_akeys, over_dkeys};
 
 use crate::akeys::any_akey;
 use crate::conts::cont_stands;
 use crate::dkeys::any_dkey;
 use crate::under::{under_dkey, under_object};
-use crate::values::values_stand;
+use crate::values::has_value;
 use crate::view::View;
 use base_types::answer::Answer;
 use base_types::epoch::Epoch;
@@ -36,23 +39,25 @@ use pmem_tree::tree::Tree;
 use std::alloc::Global;
 use std::sync::ledger::Ledger;
 use vos_chain::refusal::PiecesNo;
-use vos_path::find::{akey_or_zero, find_akey};
-use vos_path::name::key_of;
-use vos_values::keys::ObjectKey;
+use vos_punches::punches::Punches;
+use vos_reads::way::way_down;
+use vos_values::keys::{Moment, ObjectKey};
 
-// Whether an object has a cell.
+// Whether an object has a cell, that of a path.
 fn object_stands<P: Pages, L: Ledger>(
     objects: Tree,
     pages: &mut P,
     alloc: Global,
     object: ObjectKey,
+    path: &Path,
     view: View,
+    punches: &Punches,
     steps: &mut Steps<L>,
 ) -> Result<bool, PiecesNo>
     requires kind { objects.kind ≡ 1 }
     requires size { is_size Two object.obj.unit ≡ true }
     requires here { HasThing P.tells objects_owner hung_root (P.blocks pages.old) objects.root (λ g. ⊤) }
-    ensures found { IfOk result (λ b. OfThing P.tells objects_owner hung_root (P.blocks pages.old) objects.root (λ g. b ≡ object_stands view (below_object object g))) }
+    ensures found { IfOk result (λ b. OfThing P.tells objects_owner hung_root (P.blocks pages.old) objects.root (λ g. CoverDkeys view (moments_at punches.now) path.now (over_dkeys view object g) (below_object object g).1 → b ≡ object_stands view (below_object object g))) }
     ensures object { IsObjectKey Two object }
     ensures kept { IsTrue P.tells → P.blocks pages.new ≡ P.blocks pages.old }
     ensures budget { P.budget pages.new ≡ P.budget pages.old }
@@ -60,25 +65,27 @@ fn object_stands<P: Pages, L: Ledger>(
     ensures stopped { IsErrOf result stopped_no → P.stopped pages.new ≡ true }
     ensures went_on { OnOk result (P.stopped pages.new ≡ P.stopped pages.old) }
 {
-    let under = under_object(objects, pages, object, view, steps)?;
-    any_dkey(under.root, pages, alloc, view, under.punched, steps)
+    let root = under_object(objects, pages, object, steps)?;
+    any_dkey(root, pages, alloc, view, path, punches, steps)
 }
 
-// Whether a dkey has a cell.
+// Whether a dkey has a cell, that of a path.
 fn dkey_stands<P: Pages, L: Ledger>(
     objects: Tree,
     pages: &mut P,
     alloc: Global,
     object: ObjectKey,
     dkey: &Key,
+    path: &Path,
     view: View,
+    punches: &Punches,
     steps: &mut Steps<L>,
 ) -> Result<bool, PiecesNo>
     requires kind { objects.kind ≡ 1 }
     requires size { is_size Two object.obj.unit ≡ true }
     requires dkey { IsName dkey.now }
     requires here { HasThing P.tells objects_owner hung_root (P.blocks pages.old) objects.root (λ g. ⊤) }
-    ensures found { IfOk result (λ b. OfThing P.tells objects_owner hung_root (P.blocks pages.old) objects.root (λ g. b ≡ below_stands view (over_dkeys view object g) (dkey_of object dkey.now g))) }
+    ensures found { IfOk result (λ b. OfThing P.tells objects_owner hung_root (P.blocks pages.old) objects.root (λ g. CoverAkeys view (moments_at punches.now) path.now (over_akeys view object dkey.now g) (dkey_of object dkey.now g).1 → b ≡ below_stands view (over_dkeys view object g) (dkey_of object dkey.now g))) }
     ensures object { IsObjectKey Two object }
     ensures kept { IsTrue P.tells → P.blocks pages.new ≡ P.blocks pages.old }
     ensures budget { P.budget pages.new ≡ P.budget pages.old }
@@ -86,11 +93,11 @@ fn dkey_stands<P: Pages, L: Ledger>(
     ensures stopped { IsErrOf result stopped_no → P.stopped pages.new ≡ true }
     ensures went_on { OnOk result (P.stopped pages.new ≡ P.stopped pages.old) }
 {
-    let under = under_dkey(objects, pages, object, dkey, view, steps)?;
-    any_akey(under.root, pages, alloc, view, under.punched, steps)
+    let root = under_dkey(objects, pages, object, dkey, steps)?;
+    any_akey(root, pages, alloc, view, path, punches, steps)
 }
 
-// Whether an akey has a cell.
+// Whether an akey has a cell, where one punch is the last that covers it.
 fn akey_stands<P: Pages, L: Ledger>(
     objects: Tree,
     pages: &mut P,
@@ -98,6 +105,7 @@ fn akey_stands<P: Pages, L: Ledger>(
     dkey: &Key,
     akey: &Key,
     view: View,
+    punched: Option<Moment>,
     steps: &mut Steps<L>,
 ) -> Result<bool, Stopped>
     requires kind { objects.kind ≡ 1 }
@@ -105,7 +113,7 @@ fn akey_stands<P: Pages, L: Ledger>(
     requires dkey { IsName dkey.now }
     requires akey { IsName akey.now }
     requires here { HasThing P.tells objects_owner hung_root (P.blocks pages.old) objects.root (λ g. ⊤) }
-    ensures found { IfOk result (λ b. OfThing P.tells objects_owner hung_root (P.blocks pages.old) objects.root (λ g. b ≡ values_stand view (over_akeys view object dkey.now g) (akey_of object dkey.now akey.now g))) }
+    ensures found { IfOk result (λ b. OfThing P.tells objects_owner hung_root (P.blocks pages.old) objects.root (λ g. b ≡ has_value view punched (akey_of object dkey.now akey.now g))) }
     ensures object { IsObjectKey Two object }
     ensures kept { IsTrue P.tells → P.blocks pages.new ≡ P.blocks pages.old }
     ensures budget { P.budget pages.new ≡ P.budget pages.old }
@@ -113,13 +121,8 @@ fn akey_stands<P: Pages, L: Ledger>(
     ensures stopped { OnErr result (P.stopped pages.new ≡ true) }
     ensures went_on { OnOk result (P.stopped pages.new ≡ P.stopped pages.old) }
 {
-    let under = under_dkey(objects, pages, object, dkey, view, steps)?;
-    let akeys = Tree {
-        kind: 3,
-        root: under.root,
-    };
-    let roots = akey_or_zero(find_akey(akeys, pages, &key_of(akey), steps)?);
-    values_stand(roots, pages, view, under.punched, steps)
+    let roots = way_down(objects, pages, object, dkey, akey, steps)?;
+    has_value(roots, pages, view, punched, steps)
 }
 
 // The answer that says so.
@@ -131,7 +134,7 @@ fn yes_or_no(holds: bool) -> Answer
 
 /// What is answered below an epoch to whether there is a cell below a container, an object, a dkey or an
 /// akey, where every version below the epoch that overlaps the path is settled: what the map of the
-/// versions below is answered.
+/// versions below is answered. The punches are those of all versions of the objects.
 ///
 /// # Errors
 ///
@@ -142,6 +145,7 @@ pub fn fetch_exists<P: Pages, L: Ledger>(
     alloc: Global,
     path: &Path,
     below: Epoch,
+    punches: &Punches,
     steps: &mut Steps<L>,
 ) -> Result<Answer, PiecesNo>
     requires kind { objects.kind ≡ 1 }
@@ -149,7 +153,8 @@ pub fn fetch_exists<P: Pages, L: Ledger>(
     requires size { is_unit (record_size path.now) ≡ true }
     requires names { NamesAreKeys path.now }
     requires here { HasThing P.tells objects_owner hung_root (P.blocks pages.old) objects.root (IsSettled path.now below) }
-    ensures found { IfOk result (λ a. OfThing P.tells objects_owner hung_root (P.blocks pages.old) objects.root (λ g. IsSettled path.now below g → a ≡ answer (exists_read path.now) (map_below (in_order version_key (objects_versions g)) below.0))) }
+    requires punches { HasThing P.tells objects_owner hung_root (P.blocks pages.old) objects.root (λ g. ArePunchesOf (objects_versions g) (moments_at punches.now)) }
+    ensures found { IfOk result (λ a. OfThing P.tells objects_owner hung_root (P.blocks pages.old) objects.root (λ g. IsSettled path.now below g → ArePunchesOf (objects_versions g) (moments_at punches.now) → a ≡ answer (exists_read path.now) (map_below (in_order version_key (objects_versions g)) below.0))) }
     ensures kept { IsTrue P.tells → P.blocks pages.new ≡ P.blocks pages.old }
     ensures budget { P.budget pages.new ≡ P.budget pages.old }
     ensures goes { Goes P.stopped P.count P.burns pages.old pages.new }
@@ -157,7 +162,7 @@ pub fn fetch_exists<P: Pages, L: Ledger>(
     ensures went_on { OnOk result (P.stopped pages.new ≡ P.stopped pages.old) }
 {
     let Some(obj) = path.obj else {
-        let stands = cont_stands(objects, pages, alloc, path.cont, below, steps)?;
+        let stands = cont_stands(objects, pages, alloc, path.cont, below, punches, steps)?;
         return Ok(yes_or_no(stands));
     };
     let object = ObjectKey {
@@ -170,15 +175,18 @@ pub fn fetch_exists<P: Pages, L: Ledger>(
     };
     match (&path.dkey, &path.akey) {
         (Some(dkey), Some(akey)) => {
-            let stands = akey_stands(objects, pages, object, dkey, akey, view, steps)?;
+            let punched = punches.covering(path, below);
+            let stands = akey_stands(objects, pages, object, dkey, akey, view, punched, steps)?;
             Ok(yes_or_no(stands))
         }
         (Some(dkey), None) => {
-            let stands = dkey_stands(objects, pages, alloc, object, dkey, view, steps)?;
+            let stands = dkey_stands(
+                objects, pages, alloc, object, dkey, path, view, punches, steps,
+            )?;
             Ok(yes_or_no(stands))
         }
         (None, _) => {
-            let stands = object_stands(objects, pages, alloc, object, view, steps)?;
+            let stands = object_stands(objects, pages, alloc, object, path, view, punches, steps)?;
             Ok(yes_or_no(stands))
         }
     }

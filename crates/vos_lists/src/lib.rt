@@ -7,6 +7,7 @@ pub mod dkeys;
 pub mod entry;
 pub mod exists;
 pub mod list;
+pub mod paths;
 pub mod under;
 pub mod values;
 pub mod view;

@@ -14,6 +14,8 @@ ghost use Rattle.vos_levels.specs.Levels.{hung_root};
 ghost use Rattle.vos_chain.specs.declared.refusal.PiecesNo.TheVariants.{Stopped as stopped_no};
 ghost use Rattle.vos_path.specs.Objects.{objects_owner, objects_versions};
 ghost use Rattle.vos_path.specs.Writes.{NamesAreKeys};
+ghost use Rattle.vos_punches.specs.Punches.{ArePunchesOf};
+ghost use Rattle.vos_punches.specs.Rows.{moments_at};
 ghost use Rattle.vos_reads.specs.Ways.{IsSettled};
 
 use crate::akeys::akey_names;
@@ -30,10 +32,12 @@ use pmem_tree::tree::Tree;
 use std::alloc::Global;
 use std::sync::ledger::Ledger;
 use vos_chain::refusal::PiecesNo;
+use vos_punches::punches::Punches;
 use vos_values::keys::ObjectKey;
 
 /// What a listing of an object's dkeys is answered below an epoch, where every version below it that
-/// overlaps the path is settled: what the map of the versions below is answered.
+/// overlaps the path is settled: what the map of the versions below is answered. The punches are those
+/// of all versions of the objects.
 ///
 /// # Errors
 ///
@@ -44,13 +48,15 @@ pub fn list_dkeys<P: Pages, L: Ledger>(
     alloc: Global,
     path: &Path,
     below: Epoch,
+    punches: &Punches,
     steps: &mut Steps<L>,
 ) -> Result<Keys, PiecesNo>
     requires kind { objects.kind ≡ 1 }
     requires form { ends_at_object path.now ≡ true }
     requires size { is_unit (record_size path.now) ≡ true }
     requires here { HasThing P.tells objects_owner hung_root (P.blocks pages.old) objects.root (IsSettled path.now below) }
-    ensures found { IfOk result (λ names. OfThing P.tells objects_owner hung_root (P.blocks pages.old) objects.root (λ g. IsSettled path.now below g → Names names ≡ answer (dkeys_read path.now) (map_below (in_order version_key (objects_versions g)) below.0))) }
+    requires punches { HasThing P.tells objects_owner hung_root (P.blocks pages.old) objects.root (λ g. ArePunchesOf (objects_versions g) (moments_at punches.now)) }
+    ensures found { IfOk result (λ names. OfThing P.tells objects_owner hung_root (P.blocks pages.old) objects.root (λ g. IsSettled path.now below g → ArePunchesOf (objects_versions g) (moments_at punches.now) → Names names ≡ answer (dkeys_read path.now) (map_below (in_order version_key (objects_versions g)) below.0))) }
     ensures kept { IsTrue P.tells → P.blocks pages.new ≡ P.blocks pages.old }
     ensures budget { P.budget pages.new ≡ P.budget pages.old }
     ensures goes { Goes P.stopped P.count P.burns pages.old pages.new }
@@ -68,20 +74,13 @@ pub fn list_dkeys<P: Pages, L: Ledger>(
         unit: obj.unit,
         below,
     };
-    let under = under_object(objects, pages, object, view, steps)?;
-    dkey_names(
-        under.root,
-        pages,
-        alloc,
-        view,
-        under.punched,
-        u64::MAX,
-        steps,
-    )
+    let root = under_object(objects, pages, object, steps)?;
+    dkey_names(root, pages, alloc, view, path, punches, u64::MAX, steps)
 }
 
 /// What a listing of a dkey's akeys is answered below an epoch, where every version below it that overlaps
-/// the path is settled: what the map of the versions below is answered.
+/// the path is settled: what the map of the versions below is answered. The punches are those
+/// of all versions of the objects.
 ///
 /// # Errors
 ///
@@ -92,6 +91,7 @@ pub fn list_akeys<P: Pages, L: Ledger>(
     alloc: Global,
     path: &Path,
     below: Epoch,
+    punches: &Punches,
     steps: &mut Steps<L>,
 ) -> Result<Keys, PiecesNo>
     requires kind { objects.kind ≡ 1 }
@@ -99,7 +99,8 @@ pub fn list_akeys<P: Pages, L: Ledger>(
     requires size { is_unit (record_size path.now) ≡ true }
     requires names { NamesAreKeys path.now }
     requires here { HasThing P.tells objects_owner hung_root (P.blocks pages.old) objects.root (IsSettled path.now below) }
-    ensures found { IfOk result (λ names. OfThing P.tells objects_owner hung_root (P.blocks pages.old) objects.root (λ g. IsSettled path.now below g → Names names ≡ answer (akeys_read path.now) (map_below (in_order version_key (objects_versions g)) below.0))) }
+    requires punches { HasThing P.tells objects_owner hung_root (P.blocks pages.old) objects.root (λ g. ArePunchesOf (objects_versions g) (moments_at punches.now)) }
+    ensures found { IfOk result (λ names. OfThing P.tells objects_owner hung_root (P.blocks pages.old) objects.root (λ g. IsSettled path.now below g → ArePunchesOf (objects_versions g) (moments_at punches.now) → Names names ≡ answer (akeys_read path.now) (map_below (in_order version_key (objects_versions g)) below.0))) }
     ensures kept { IsTrue P.tells → P.blocks pages.new ≡ P.blocks pages.old }
     ensures budget { P.budget pages.new ≡ P.budget pages.old }
     ensures goes { Goes P.stopped P.count P.burns pages.old pages.new }
@@ -117,14 +118,6 @@ pub fn list_akeys<P: Pages, L: Ledger>(
         unit: obj.unit,
         below,
     };
-    let under = under_dkey(objects, pages, object, dkey, view, steps)?;
-    akey_names(
-        under.root,
-        pages,
-        alloc,
-        view,
-        under.punched,
-        u64::MAX,
-        steps,
-    )
+    let root = under_dkey(objects, pages, object, dkey, steps)?;
+    akey_names(root, pages, alloc, view, path, punches, u64::MAX, steps)
 }

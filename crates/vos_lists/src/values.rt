@@ -6,14 +6,13 @@ ghost use Rattle.pmem_tree_base.specs.Calls.{Goes};
 ghost use Rattle.vos_values.specs.Keys.{IsMoment, moment_key};
 ghost use Rattle.vos_levels.specs.Calls.{HasThing, OfThing};
 ghost use Rattle.vos_levels.specs.Levels.{hung_root};
-ghost use Rattle.vos_ilog.specs.Logs.{log_owner};
 ghost use Rattle.vos_single.specs.Singles.{single_owner};
 ghost use Rattle.vos_extent.specs.Extents.{extent_owner};
 ghost use Rattle.vos_path.specs.Calls.{HasAt, OfAt};
 ghost use Rattle.vos_path.specs.Objects.{values_owner, values_roots};
 ghost use Rattle.vos_reads.specs.Ways.{start_of};
 ghost use Rattle.vos_lists.specs.Entries.{moment_in_pair};
-ghost use Rattle.vos_lists.specs.Stands.{covered, has_extent, has_single, is_there, newest_at, outlasts, values_stand};
+ghost use Rattle.vos_lists.specs.Stands.{has_extent, has_single, has_value, is_there, newest_at, outlasts};
 
 use crate::entry::{PAIRS, least_key};
 use crate::view::View;
@@ -26,7 +25,7 @@ use pmem_tree::{Pair, TreeKey};
 use std::sync::ledger::Ledger;
 use vos_extent::extent::Extents;
 use vos_extent::pieces::{Placed, key_at as key_at_place};
-use vos_reads::punch::{hides, is_earlier, later_moment, punched_at};
+use vos_reads::punch::{hides, is_earlier};
 use vos_values::keys::{Moment, moment_key, read_moment};
 use vos_values::values::AkeyRoots;
 
@@ -150,36 +149,13 @@ fn has_extent<P: Pages, L: Ledger>(
     Ok(false)
 }
 
-/// The last punch below the epoch, of what lies above or of a log.
+/// Whether an akey has a cell, where one punch is the last that covers it: a single value or a record of an
+/// array, below the epoch, that this punch doesn't hide.
 ///
 /// # Errors
 ///
 /// `Stopped` comes only where the pages answered it.
-pub fn covered<P: Pages, L: Ledger>(
-    log: u32,
-    pages: &mut P,
-    view: View,
-    punched: Option<Moment>,
-    steps: &mut Steps<L>,
-) -> Result<Option<Moment>, Stopped>
-    requires log { HasThing P.tells log_owner hung_root (P.blocks pages.old) log (λ g. ⊤) }
-    ensures found { IfOk result (λ q. OfThing P.tells log_owner hung_root (P.blocks pages.old) log (λ g. q ≡ covered view punched g)) }
-    ensures kept { IsTrue P.tells → P.blocks pages.new ≡ P.blocks pages.old }
-    ensures budget { P.budget pages.new ≡ P.budget pages.old }
-    ensures goes { Goes P.stopped P.count P.burns pages.old pages.new }
-    ensures stopped { OnErr result (P.stopped pages.new ≡ true) }
-    ensures went_on { OnOk result (P.stopped pages.new ≡ P.stopped pages.old) }
-{
-    Ok(later_moment(punched, punched_at(log, pages, view.below, steps)?))
-}
-
-/// Whether an akey has a cell, in what lies under a punch: a single value or a record of an array, below
-/// the epoch, that neither this punch nor the akey's own last one hides.
-///
-/// # Errors
-///
-/// `Stopped` comes only where the pages answered it.
-pub fn values_stand<P: Pages, L: Ledger>(
+pub fn has_value<P: Pages, L: Ledger>(
     roots: AkeyRoots,
     pages: &mut P,
     view: View,
@@ -187,14 +163,13 @@ pub fn values_stand<P: Pages, L: Ledger>(
     steps: &mut Steps<L>,
 ) -> Result<bool, Stopped>
     requires here { HasAt P.tells values_owner values_roots (P.blocks pages.old) roots (λ g. ⊤) }
-    ensures found { IfOk result (λ b. OfAt P.tells values_owner values_roots (P.blocks pages.old) roots (λ g. b ≡ values_stand view punched g)) }
+    ensures found { IfOk result (λ b. OfAt P.tells values_owner values_roots (P.blocks pages.old) roots (λ g. b ≡ has_value view punched g)) }
     ensures kept { IsTrue P.tells → P.blocks pages.new ≡ P.blocks pages.old }
     ensures budget { P.budget pages.new ≡ P.budget pages.old }
     ensures goes { Goes P.stopped P.count P.burns pages.old pages.new }
     ensures stopped { OnErr result (P.stopped pages.new ≡ true) }
     ensures went_on { OnOk result (P.stopped pages.new ≡ P.stopped pages.old) }
 {
-    let punched = covered(roots.log, pages, view, punched, steps)?;
     if has_single(roots.singles, pages, view, punched, steps)? {
         return Ok(true);
     }

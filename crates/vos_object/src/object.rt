@@ -1,4 +1,4 @@
-// Objects in a tree: updates, punches, reads of values, listings, and the punches that reads ask for.
+// Objects in a tree: updates, punches, reads of values, listings, and the punches that these ask for.
 ghost use Rattle.std.specs.Prelude.{◌≡◌, ◌≤◌, ◌<◌, ◌+◌, true, false, ℕ, IfOk, OnOk, IsErrOf, IsTrue, ⊤};
 ghost use Rattle.base_types.specs.Operations.{read_path};
 ghost use Rattle.base_types.specs.Paths.{record_size};
@@ -192,14 +192,16 @@ impl Objects {
             Read::Extent(path, low, len) => fetch_extent(
                 self.tree, pages, alloc, path, *low, *len, below, punches, steps,
             ),
-            Read::Exists(path) => fetch_exists(self.tree, pages, alloc, path, below, steps),
+            Read::Exists(path) => {
+                fetch_exists(self.tree, pages, alloc, path, below, punches, steps)
+            }
             Read::Dkeys(_) | Read::Akeys(_) => Ok(Answer::Absent),
         }
     }
 
     /// The names of an object's dkeys, or of a dkey's akeys, that have a cell below an epoch, where every
     /// version below it that overlaps the path is settled: what a listing is answered on the map of the
-    /// versions below.
+    /// versions below. The punches are those of all versions of the objects.
     ///
     /// # Errors
     ///
@@ -210,6 +212,7 @@ impl Objects {
         alloc: Global,
         path: &Path,
         below: Epoch,
+        punches: &Punches,
         steps: &mut Steps<L>,
     ) -> Result<Keys, PiecesNo>
         requires kind { self.now.tree.kind ≡ 1 }
@@ -217,7 +220,8 @@ impl Objects {
         requires size { is_unit (record_size path.now) ≡ true }
         requires names { NamesAreKeys path.now }
         requires here { HasThing P.tells objects_owner hung_root (P.blocks pages.old) self.now.tree.root (IsSettled path.now below) }
-        ensures found { IfOk result (λ names. OfThing P.tells objects_owner hung_root (P.blocks pages.old) self.now.tree.root (λ g. IsSettled path.now below g → Names names ≡ answer (listing path.now) (map_below (in_order version_key (objects_versions g)) below.0))) }
+        requires punches { HasThing P.tells objects_owner hung_root (P.blocks pages.old) self.now.tree.root (λ g. ArePunchesOf (objects_versions g) (moments_at punches.now)) }
+        ensures found { IfOk result (λ names. OfThing P.tells objects_owner hung_root (P.blocks pages.old) self.now.tree.root (λ g. IsSettled path.now below g → ArePunchesOf (objects_versions g) (moments_at punches.now) → Names names ≡ answer (listing path.now) (map_below (in_order version_key (objects_versions g)) below.0))) }
         ensures kept { IsTrue P.tells → P.blocks pages.new ≡ P.blocks pages.old }
         ensures budget { P.budget pages.new ≡ P.budget pages.old }
         ensures goes { Goes P.stopped P.count P.burns pages.old pages.new }
@@ -225,9 +229,9 @@ impl Objects {
         ensures went_on { OnOk result (P.stopped pages.new ≡ P.stopped pages.old) }
     {
         if path.dkey.is_none() {
-            list_dkeys(self.tree, pages, alloc, path, below, steps)
+            list_dkeys(self.tree, pages, alloc, path, below, punches, steps)
         } else {
-            list_akeys(self.tree, pages, alloc, path, below, steps)
+            list_akeys(self.tree, pages, alloc, path, below, punches, steps)
         }
     }
 }

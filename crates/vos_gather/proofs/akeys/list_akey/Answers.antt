@@ -10,7 +10,7 @@ use Rattle.vos_extent.specs.Extents.{extent_owner, extents}
 use Rattle.vos_path.specs.Objects.{extent_version, punches, single_version}
 use Rattle.vos_path.proofs.Written.{holds_extent, holds_log, holds_single}
 use Rattle.vos_lists.specs.Entries.{name_of}
-use Rattle.vos_gather.specs.Gathered.{at_akey}
+use Rattle.vos_lists.specs.Paths.{at_akey}
 use Rattle.vos_gather.specs.Wanted.{IsPlace, Listed, want_of}
 use Rattle.vos_gather.proofs.Listing.{listed_quiet, listed_then, quiet_updates}
 use Rattle.vos_gather.proofs.Places.{akey_ends, place_akey}

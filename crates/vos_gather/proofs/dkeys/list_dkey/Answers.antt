@@ -10,7 +10,8 @@ use Rattle.vos_levels.specs.Levels.{hung}
 use Rattle.vos_path.specs.Objects.{akey_level, punches}
 use Rattle.vos_path.proofs.Written.{holds_first, holds_second}
 use Rattle.vos_lists.specs.Entries.{name_of}
-use Rattle.vos_gather.specs.Gathered.{akeys_in, at_dkey}
+use Rattle.vos_lists.specs.Paths.{at_dkey}
+use Rattle.vos_gather.specs.Gathered.{akeys_in}
 use Rattle.vos_gather.specs.Wanted.{IsPlace, Listed, want_of}
 use Rattle.vos_gather.proofs.Places.{place_dkey}
 use Rattle.vos_gather.proofs.Listing.{listed_then}

@@ -5,5 +5,5 @@ use Rattle.vos_lists.proofs.Walking.{some_taken}
 use Rattle.vos_lists.proofs.akeys.any_akey.Goals as goal
 
 pub returns-clause-found : goal.returns-clause-found
-returns-clause-found g c told x held at =
-    ap not c.is_empty.ensures ∙ some_taken (akey_stands c.args.view c.args.punched) akey_name (things x) c.in_ok-names.names (c.in_ok-names.ensures.found told x held at)
+returns-clause-found g c told x held at q cover =
+    ap not c.is_empty.ensures ∙ some_taken (akey_stands c.args.view q) akey_name (things x) c.in_ok-names.names (c.in_ok-names.ensures.found told x held at q cover)

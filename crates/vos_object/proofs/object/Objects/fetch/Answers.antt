@@ -27,4 +27,4 @@ returns-in-Extent-clause-extent g c p low len is =
     rw (path, first, count) c.fetch_extent.ensures.steps
 
 pub returns-in-Exists-clause-found : goal.returns-in-Exists-clause-found
-returns-in-Exists-clause-found g c = rw c.in-Exists.is (if_ok_then c.fetch_exists.result (λ a h told x held at settled are. h told x held at settled) c.fetch_exists.ensures.found)
+returns-in-Exists-clause-found g c = rw c.in-Exists.is (if_ok_then c.fetch_exists.result (λ a h told x held at settled are. h told x held at settled are) c.fetch_exists.ensures.found)
