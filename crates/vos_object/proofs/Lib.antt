@@ -3,3 +3,4 @@ mod Settled
 mod Punching
 mod Turns
 mod Found
+pub mod RecordForms

@@ -1,7 +1,7 @@
 use Rattle.std.proofs.Common.{◌∙◌, ap}
 use Rattle.base_types.specs.declared.operation.Read.TheVariants.{Extent}
 use Rattle.daos_model.specs.Forms.{is_read_in_form}
-use Rattle.object_tests.proofs.ExtentForms.{read_form}
+use Rattle.vos_object.proofs.RecordForms.{read_form}
 use Rattle.object_tests.proofs.extent_tests.read.Goals as goal
 
 pub returns-clause-form : goal.returns-clause-form

@@ -1,5 +1,5 @@
 use Rattle.std.proofs.Common.{◌≡◌, ◌*◌, ◌∙◌, length}
-use Rattle.object_tests.proofs.ExtentForms.{extent_form}
+use Rattle.vos_object.proofs.RecordForms.{extent_form}
 use Rattle.object_tests.proofs.extent_tests.records.Goals as goal
 
 pub returns-clause-form : goal.returns-clause-form
