@@ -4,6 +4,7 @@ use Rattle.std.specs.List.{list_any}
 use Rattle.std.proofs.Common.{inl, inr, ◌∙◌, ap, arith, subst, sym}
 use Rattle.std.proofs.lemmas.Bool.{true≢false}
 use Rattle.base_types.specs.declared.job.Job.{Job}
+use Rattle.base_types.specs.declared.outcome.FloorWhy.TheVariants.{Opening}
 use Rattle.base_types.specs.declared.report.Report.{Report}
 use Rattle.base_types.specs.declared.script.ContDecl.{ContDecl}
 use Rattle.base_types.specs.declared.script.Script.{Script}
@@ -18,7 +19,7 @@ use Rattle.daos_model.specs.Stops.{stop_numbers}
 use Rattle.daos_run.specs.declared.stop.RunStop.{RunStop}
 use Rattle.daos_run.specs.declared.stop.RunStop.TheVariants as stop
 use Rattle.daos_run.specs.declared.stop.RunStop.TheVariants.{Memory as NoMemory}
-use Rattle.daos_run.specs.Comes.{ComesFrom, FollowsFromZeros}
+use Rattle.daos_run.specs.Comes.{ComesFrom, ComesFromClocks, FollowsFromZeros}
 use Rattle.daos_run.specs.Opens.{MayRun, given}
 use Rattle.daos_run.specs.Slots.{AreFree, AreSet, HaveStores, IsAt, StoresAreServed, stores_in}
 use Rattle.daos_run.specs.Starts.{IsNewStore}
@@ -205,7 +206,7 @@ module _ {C : Type 0} (targets size_mib : ℕ) (slots : List (Option (PlainStore
             let p = in-place targets slots H.set t x.0 x.1 in
             (K.each t x.0 y x.1 at).still (plain_durable x.0) refl (ap (λ z. (plain_durable z).entries) p.is ∙ ap (λ d. d.entries) (H.each t p.pair p.at).kept) ∙ free-exactly t x.0 x.1 ∙ ap (λ n. n * 4096 - 1264) (sym size)
 
-        ordered : IsOrdered told_by plain_state found_in (fresh s j) q K.opened (stores_in new)
+        abbrev ordered : IsOrdered told_by plain_state found_in (fresh s j) q K.opened (stores_in new)
         ordered = K.comes.ordered
 
         headline : HeadlineOver (fresh s j) undisturbed (durables_of ordered.follows.last) q
@@ -227,19 +228,42 @@ module _ {C : Type 0} (targets size_mib : ℕ) (slots : List (Option (PlainStore
         there : s.targets ≡ targets → (t : ℕ) (z : TargetState) → slice_get ordered.follows.first.targets t ≡ Some z → (y : PlainStore) × (slice_get K.opened t ≡ Some y)
         there same t z here = at-within K.opened t (subst (λ n. t < n) (ordered.follows.begins.begins.targets ∙ same ∙ sym (K.many ∙ stores-many targets slots H.set)) (slice_get_within ordered.follows.first.targets t z here))
 
-        from-zeros : s.targets ≡ targets → FollowsFromZeros (fresh s j) q
-        from-zeros same = record {
-          follows = ordered.follows;
-          opened = λ t z here.
-              let y = there same t z here in
-              let kept : plain_durable y.0 ≡ z.durable = let two : Some (plain_durable y.0) ≡ Some z.durable = (ordered.begins t y.0 z y.1 here).kept in cc in
-              sym kept ∙ opened-so t y.0 y.1;
-          free = λ t z here. let y = there same t z here in ap (λ w. w.free) (ordered.begins t y.0 z y.1 here).as_it_is ∙ free-opened t y.0 y.1;
-          memory = λ t z here. let y = there same t z here in ap (λ w. w.memory) (ordered.begins t y.0 z y.1 here).as_it_is;
-        }
+        -- the floor of its opening is that of a new store
+        floor-opened : (t : ℕ) (y : PlainStore) → slice_get K.opened t ≡ Some y → (plain_state y).opening ≡ (record { 0 = 0 }, Opening)
+        floor-opened t y at =
+            let x = at-within (stores_in slots) t (subst (λ n. t < n) K.many (slice_get_within K.opened t y at)) in
+            let p = in-place targets slots H.set t x.0 x.1 in
+            (K.each t x.0 y x.1 at).opening ∙ ap (λ z. (plain_state z).opening) p.is ∙ ap (λ h. h.opening) (H.each t p.pair p.at).state
 
         unstopped : s.stops ≡ [] → stop_numbers q.lines ≡ []
         unstopped none = no-stops-told (fresh s j) (resolved (durables_of ordered.follows.last)) q headline.told none
+
+      module _ (is_read : C → C → Type 0) (next_reading : C → Option ℕ) where
+        -- it comes to this report, with their clocks
+        abbrev pub ComesByClocks : Report → Type 0
+        ComesByClocks q = ComesFromClocks told_by plain_state found_in is_read next_reading (fresh s j) slots new q
+
+        come-by_clocks : (q : Report) → ComesFromClocks told_by plain_state found_in is_read next_reading their-given slots new q → ComesByClocks q
+        come-by_clocks q k = subst (λ g. ComesFromClocks told_by plain_state found_in is_read next_reading g slots new q) is-fresh k
+
+        from-zeros : (q : Report) → ComesByClocks q → s.targets ≡ targets → FollowsFromZeros is_read next_reading (fresh s j) q
+        from-zeros q k same = record {
+          follows = k.from.comes.ordered.follows;
+          opened = λ t z here.
+              let y = there q k.from same t z here in
+              let kept : plain_durable y.0 ≡ z.durable = let two : Some (plain_durable y.0) ≡ Some z.durable = (k.from.comes.ordered.begins t y.0 z y.1 here).kept in cc in
+              sym kept ∙ opened-so q k.from t y.0 y.1;
+          free = λ t z here. let y = there q k.from same t z here in ap (λ w. w.free) (k.from.comes.ordered.begins t y.0 z y.1 here).as_it_is ∙ free-opened q k.from t y.0 y.1;
+          floor = λ t z here. let y = there q k.from same t z here in ap (λ w. w.opening) (k.from.comes.ordered.begins t y.0 z y.1 here).as_it_is ∙ floor-opened q k.from t y.0 y.1;
+          memory = λ t z here. let y = there q k.from same t z here in ap (λ w. w.memory) (k.from.comes.ordered.begins t y.0 z y.1 here).as_it_is;
+          clocks = λ t low.
+              let x = H.set.each t (subst (λ n. t < n) same low) in
+              let y = set.each t (subst (λ n. t < n) same low) in
+              record { before = x.0.1; after = y.0.1; gave = k.clocks t x.0.1 y.0.1 (record { before = x.0; after = y.0; at = x.1; there = y.1; first = refl; last = refl }) };
+        }
+
+        pub follows-order : (result : Result Report RunStop) → IfOk result (ComesFromClocks told_by plain_state found_in is_read next_reading their-given slots new) → s.targets ≡ targets → IfOk result (FollowsFromZeros is_read next_reading (fresh s j))
+        follows-order result K same = on-ok result (λ q k. from-zeros q (come-by_clocks q k) same) K
 
       module _ (result : Result Report RunStop) (R : IfOk result Comes) where
         pub legal : IfOk result (IsLegal (fresh s j))
@@ -247,9 +271,6 @@ module _ {C : Type 0} (targets size_mib : ℕ) (slots : List (Option (PlainStore
 
         pub in-form : j.attempts ≤ 256 → ScriptHasKeys s → IfOk result (IsReportOf s)
         in-form byte keys = on-ok result (λ q K. K.comes.form (fresh-keyed byte keys)) R
-
-        pub follows-order : s.targets ≡ targets → IfOk result (FollowsFromZeros (fresh s j))
-        follows-order same = on-ok result (λ q K. from-zeros q K same) R
 
         pub issued-there : IfOk result AreIssuedThere
         issued-there = on-ok result (λ q K. K.comes.issued_there refl) R

@@ -106,6 +106,7 @@ module _ {S C : Type 0} (durable : S → Option Durable) (state : S → State) (
               (served-by-runs {T = Epoch × List Snap} (is_fault_of t) (Ok (tracker, held)) (state y.0.0) (state z.0) (durable y.0.0) (durable z.0) r);
           free = omega (arith, same, more);
           still = λ d told none. P.still t y.0 z y.1 at d (f.kept ∙ told) none ∙ same;
+          opening = r.opening ∙ ap (λ h. h.opening) f.state_is.rest;
         };
         running = r.stops;
         made = subst (λ n. j.targets ≤ n) (sym r.targets) (unfused-may_run durable state may x.0.0 y.0.0 f j.targets (R t x.0 x.1)).made;

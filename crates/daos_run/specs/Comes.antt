@@ -1,5 +1,6 @@
 -- What a run comes to from stores that are opened for it.
-use Rattle.std.specs.Prelude.{ℕ, ◌≡◌, ◌≤◌, ◌⊎◌, slice_get, List, [], length, Option, Some}
+use Rattle.std.specs.Prelude.{ℕ, ◌≡◌, ◌≤◌, ◌<◌, ◌⊎◌, slice_get, List, [], length, Option, Some}
+use Rattle.base_types.specs.declared.outcome.FloorWhy.TheVariants.{Opening}
 use Rattle.base_types.specs.declared.report.Report.{Report}
 use Rattle.base_types.specs.declared.script.Script.{Script}
 use Rattle.daos_model.specs.declared.durable.Durable.{Durable}
@@ -8,7 +9,7 @@ use Rattle.daos_model.specs.Durables.{empty_durable}
 use Rattle.daos_model.specs.Opening.{Given, Outside}
 use Rattle.model_reports.specs.Rooms.{HasPlaces}
 use Rattle.daos_run.specs.Slots.{AreClocksIn, stores_in}
-use Rattle.run_targets.specs.Ends.{ClocksGave, ComesTo, FollowsOrder, IsOutside, StandsForAttempts, memory_at_first, rules_of, declared_conts}
+use Rattle.run_targets.specs.Ends.{ClocksGave, ComesTo, FollowsOrder, HasClock, IsOutside, StandsForAttempts, memory_at_first, rules_of, declared_conts}
 use Rattle.run_opening.specs.All.{AreKept, FromTo, MayBeFound}
 use Rattle.run_opening.specs.Left.{IsLeftOf}
 use Rattle.run_opening.specs.Opened.{lasting_snaps}
@@ -23,11 +24,13 @@ pub use Rattle.run_targets.specs.Ends.{AreIssuedThere}
 abbrev pub FindsPlaces : Script → ℕ → ℕ → Type 0
 FindsPlaces s attempts snaps = IsPlain s ⊎ HasPlaces s attempts snaps
 
--- a store once it was opened for a run: it had calls, by which it has no fewer free blocks, and as many where it kept no entries
+-- a store once it was opened for a run: it had calls, by which it has no fewer free blocks, and as many where it kept no entries; the floor of its last
+-- opening stays
 pub record IsOpenedFrom {S : Type 0} (durable : S → Option Durable) (state : S → State) (old new : S) : Type 0 where
   pub served : IsServed (state old) (state new) (durable old) (durable new)
   pub free : (state old).free ≤ (state new).free
   pub still : (d : Durable) → durable old ≡ Some d → d.entries ≡ [] → (state new).free ≡ (state old).free
+  pub opening : (state new).opening ≡ (state old).opening
 
 -- What a run comes to from these stores: what it comes to from them once they got the script's containers and were opened together. An outside
 -- that may have failed them since before may have failed them since. Where no snapshot lasts over the opening, none is there when the run
@@ -56,9 +59,11 @@ pub record BreaksOff (g : Given) (B lasts : List Durable) : Type 0 where
   pub opens : CanOpen lasts
 
 -- A report over regions of zeros tells of the turns in the order asked, from where each target keeps the script's containers alone, with as many blocks
--- free as the opening says, was opened once, and remembers nothing yet.
-pub record FollowsFromZeros (g : Given) (q : Report) : Type 0 where
+-- free as the opening says, was opened once, with no floor, and remembers nothing yet. Each target has a clock of its own, at whose readings it issues epochs.
+pub record FollowsFromZeros {C : Type 0} (is_read : C → C → Type 0) (next_reading : C → Option ℕ) (g : Given) (q : Report) : Type 0 where
   pub follows : FollowsOrder g q
   pub opened : (t : ℕ) (s : TargetState) → slice_get follows.first.targets t ≡ Some s → s.durable ≡ enlisted (declared_conts g.script) (empty_durable 1)
   pub free : (t : ℕ) (s : TargetState) → slice_get follows.first.targets t ≡ Some s → s.free ≡ g.opening.free t
+  pub floor : (t : ℕ) (s : TargetState) → slice_get follows.first.targets t ≡ Some s → s.opening ≡ (record { 0 = 0 }, Opening)
   pub memory : (t : ℕ) (s : TargetState) → slice_get follows.first.targets t ≡ Some s → s.memory ≡ memory_at_first s.durable
+  pub clocks : (t : ℕ) → t < g.script.targets → HasClock is_read next_reading g q follows t

@@ -51,7 +51,8 @@ fn set_all<B: Rack>(
 
 /// Runs a script and reports what became of its commands. So far the store of each target is a list in
 /// memory: the rack gives its clock alone. The outside can't fail such a store, so only stop lines stop a
-/// target, and none is given up. The script may make snapshots, read at them and aggregate;
+/// target, and none is given up. Each target reads the clock that the rack has for it, by `ordered` at just
+/// the readings at which it issues epochs. The script may make snapshots, read at them and aggregate;
 /// `lone` is of scripts that don't, and `alone` of any.
 ///
 /// # Errors
@@ -75,7 +76,7 @@ pub fn run_script<R: Threads + Wait + Sync, B: Rack, G: Gate + Sync>(
     ensures legal { IfOk result (IsLegal (fresh script.now job.now)) }
     ensures form { ScriptHasKeys script.now → IfOk result (IsReportOf script.now) }
     ensures back { ScriptHasKeys script.now → IfOk result (IsReadBack script.now) }
-    ensures ordered { IfOk result (FollowsFromZeros (fresh script.now job.now)) }
+    ensures ordered { IfOk result (FollowsFromZeros B.Clock.is_read B.Clock.next (fresh script.now job.now)) }
     ensures issued { IfOk result AreIssuedThere }
     ensures in_real_time { IfOk result (IsInRealTime (fresh script.now job.now)) }
     ensures none_down { IfOk result (λ report. report.down ≡ None) }

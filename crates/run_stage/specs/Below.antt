@@ -2,7 +2,7 @@
 pub use Rattle.run_laws.specs.ends.Armed.{armed-accounted, armed-first, before-fuse, fuses-serve, fuses-started, fuses-tell, states_of, told-fuse}
 pub use Rattle.run_laws.specs.ends.Arming.{AreArmed, AreUnfused, HaveFuses, lines_left}
 pub use Rattle.run_laws.specs.ends.Begun.{IsFirstWatch, can-go, first-drawn, first_stage, nothing, run-begins, shows-first}
-pub use Rattle.run_laws.specs.ends.Comes.{AreIssuedSince, BreaksOffSo, ClocksGave, AreClocksAt, ComesByClocks, ComesTo, FollowsOrder, IsInRealTime, IsKeyed, IsLegal, IsOrdered, IsOutside, IsReportOfLines, IsSoundAgain, MayBeFound, StandsForAttempts, memory_at_first, report_with, AreIssuedThere, HasNoSnapshots}
+pub use Rattle.run_laws.specs.ends.Comes.{AreIssuedSince, BreaksOffSo, ClocksGave, AreClocksAt, ComesByClocks, ComesTo, FollowsOrder, HasClock, IsInRealTime, IsKeyed, IsLegal, IsOrdered, IsOutside, IsReportOfLines, IsSoundAgain, MayBeFound, StandsForAttempts, memory_at_first, report_with, AreIssuedThere, HasNoSnapshots}
 pub use Rattle.run_laws.specs.ends.Ending.{HasEndedSo, comes-by_clocks, comes-to}
 pub use Rattle.run_laws.specs.ends.FuseLaws.{next-left}
 pub use Rattle.run_laws.specs.ends.Keeping.{all-tell, breaks-off}
