@@ -22,7 +22,7 @@ pub fn laws_of_repeated_runs()
 /// tell the same lines, and targets keep the same in the end, where the runs begin with targets that are the same but
 /// for free blocks.
 pub fn laws_of_repeated_reports()
-    ensures { ReportsAreOne }
+    ensures lines { ReportsAreOne }
 {}
 
 /// Says of runs over stores how that comes about. They begin with such targets where the stores are as many, and at

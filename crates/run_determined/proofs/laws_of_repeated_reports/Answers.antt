@@ -2,4 +2,4 @@ use Rattle.run_determined.specs.Reports.{reports-are_one}
 use Rattle.run_determined.proofs.laws_of_repeated_reports.Goals as goal
 
 pub returns : goal.returns
-returns c = reports-are_one
+returns c = record { lines = reports-are_one }
