@@ -7,3 +7,6 @@ pub mod Objects
 pub mod Lists
 pub mod Entries
 pub mod Whole
+pub mod Reading
+pub mod Standing
+pub mod ChainsStand

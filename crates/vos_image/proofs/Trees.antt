@@ -102,11 +102,11 @@ abbrev pub Within : Option TreeKey → Option TreeKey → List Entry → Type 0
 Within low high [] = Unit {0}
 Within low high (e ∷ es) = ((is_above low e.key && is_below high e.key) ≡ true) × Within low high es
 
-first_of_two : (a b : Bool) → (a && b) ≡ true → a ≡ true
+pub first_of_two : (a b : Bool) → (a && b) ≡ true → a ≡ true
 first_of_two true b h = refl
 first_of_two false b h = let no : ⊥ = cc in absurd no
 
-second_of_two : (a b : Bool) → (a && b) ≡ true → b ≡ true
+pub second_of_two : (a b : Bool) → (a && b) ≡ true → b ≡ true
 second_of_two true b h = h
 second_of_two false b h = let no : ⊥ = cc in absurd no
 
@@ -140,7 +140,7 @@ times_each : {A : Type 0} (L : Level A) (q : ℕ) (xs ys : List A) → times q (
 times_each L q [] ys = omega (arith, times_none q)
 times_each L q (a ∷ xs) ys = omega (arith, times-append q (L.owner.owned a) (owned_each L.owner (xs ++ ys)), times-append q (L.owner.owned a) (owned_each L.owner xs), times_each L q xs ys)
 
-fork_tally : {A : Type 0} (L : Level A) (q : ℕ) (l : Shape) (e : Entry) (r : Shape) (xs : List A) (a : A) (ys : List A)
+pub fork_tally : {A : Type 0} (L : Level A) (q : ℕ) (l : Shape) (e : Entry) (r : Shape) (xs : List A) (a : A) (ys : List A)
     → hung_tally L (Fork l e r) (xs ++ a ∷ ys) q ≡ times q (e.block ∷ []) + (hung_tally L l xs q + (hung_tally L r ys q + times q (L.owner.owned a)))
 fork_tally L q l e r xs a ys =
     omega (
@@ -180,7 +180,7 @@ height_right : (l r : ℕ) → l ≤ r + 1 → r ≤ l + 1 → is_height (max l 
 height_right l r a b = grind (arith, nat_tests)
 
 -- the things of a fork: those of the left tree, its own, and those of the right one
-record Parted {A : Type 0} (L : Level A) (m : Blocks) (Fits : A → Type 0) (es : List Entry) (e : Entry) (fs : List Entry) (xs : List A) : Type 0 where
+pub record Parted {A : Type 0} (L : Level A) (m : Blocks) (Fits : A → Type 0) (es : List Entry) (e : Entry) (fs : List Entry) (xs : List A) : Type 0 where
   pub left : List A
   pub own : A
   pub right : List A
