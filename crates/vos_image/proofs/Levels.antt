@@ -39,7 +39,7 @@ logs_taken c = record {
 
 -- ---- versions
 
-at_least : (n : ℕ) → is_length n ≡ true → 1 ≤ n
+pub at_least : (n : ℕ) → is_length n ≡ true → 1 ≤ n
 at_least n h = by (nat_le 1 n) refl h
   where
     by : (t : Bool) → nat_le 1 n ≡ t → (t && nat_le n 1024) ≡ true → 1 ≤ n

@@ -10,3 +10,5 @@ pub mod Whole
 pub mod Reading
 pub mod Standing
 pub mod ChainsStand
+pub mod LevelsStand
+pub mod ObjectsStand

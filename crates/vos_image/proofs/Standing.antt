@@ -70,15 +70,15 @@ pub record Made {A : Type 0} (L : Level A) (c : Content) (Fits : A → Type 0) (
   pub here : L.owner.stands (shown c) a
 
 -- A kind of trees gives a level: what is read of a key and a value is what they were made of, and the thing stands.
-pub record Gives {N V A : Type 0} (K : Kind N V A) (L : Level A) (c : Content) (Fits : A → Type 0) (Named : N → TreeKey → Type 0) (Valued : V → Value → Type 0) (roots : V → Tally) : Type 0 where
+pub record Gives {N V A : Type 0} (K : Kind N V A) (L : Level A) (c : Content) (Fits : A → Type 0) (Named : N → TreeKey → Type 0) (Valued : N → V → Value → Type 0) (roots : V → Tally) : Type 0 where
   pub kind : K.kind ≡ L.kind
   pub short : (n : ℕ) → K.is_length c n ≡ true → n ≤ 64
   pub name : (at : ℕ) (k : TreeKey) → Tells (K.name c at k) (λ n. IsByteKey k → Named n k) none (λ _. none)
-  pub value : (at : ℕ) (n : N) (v : Value) → Tells (K.value c at n v) (λ x. IsByteValue K.kind v → Valued x v) none roots
-  pub thing : (n : N) (x : V) (k : TreeKey) (v : Value) → Named n k → Valued x v → Tells (K.thing c n x) (Made L c Fits k v) (roots x) (λ a q. times q (L.owner.owned a))
+  pub value : (at : ℕ) (n : N) (v : Value) → Tells (K.value c at n v) (λ x. IsByteValue K.kind v → Valued n x v) none roots
+  pub thing : (n : N) (x : V) (k : TreeKey) (v : Value) → Named n k → Valued n x v → Tells (K.thing c n x) (Made L c Fits k v) (roots x) (λ a q. times q (L.owner.owned a))
 
 -- what the fields of a node that were read are
-record AreFields {N V A : Type 0} (K : Kind N V A) (c : Content) (Named : N → TreeKey → Type 0) (Valued : V → Value → Type 0) (b : ℕ) (low high : Option TreeKey) (f : Fields N V) : Type 0 where
+record AreFields {N V A : Type 0} (K : Kind N V A) (c : Content) (Named : N → TreeKey → Type 0) (Valued : N → V → Value → Type 0) (b : ℕ) (low high : Option TreeKey) (f : Fields N V) : Type 0 where
   bytes : node_bytes K.kind f.node ≡ block c b
   key : IsKey f.node.key
   value : IsValue K.kind f.node.value
@@ -86,7 +86,7 @@ record AreFields {N V A : Type 0} (K : Kind N V A) (c : Content) (Named : N → 
   right : IsLink c f.node.right
   between : (is_above low f.node.key && is_below high f.node.key) ≡ true
   named : Named f.name f.node.key
-  valued : Valued f.value f.node.value
+  valued : Valued f.name f.value f.node.value
 
 -- how often a block is the left one, the right one, or one that the value leads to
 abbrev links_by : ℕ → ℕ → Tally → Tally
@@ -98,7 +98,7 @@ zero_from n bs h i le = let e : n + (i - n) ≡ i = omega (arith, le) in ap (sli
 same_of : (a b : ℕ) → (a == b) ≡ true → a ≡ b
 same_of a b h = grind (arith, nat_tests)
 
-module _ {N V A : Type 0} (K : Kind N V A) (L : Level A) (c : Content) (Fits : A → Type 0) (Named : N → TreeKey → Type 0) (Valued : V → Value → Type 0) (roots : V → Tally) (gives : Gives K L c Fits Named Valued roots) (of_bytes : IsOfBytes c) where
+module _ {N V A : Type 0} (K : Kind N V A) (L : Level A) (c : Content) (Fits : A → Type 0) (Named : N → TreeKey → Type 0) (Valued : N → V → Value → Type 0) (roots : V → Tally) (gives : Gives K L c Fits Named Valued roots) (of_bytes : IsOfBytes c) where
   byte_key : (b : ℕ) → AreZero (drop (node_of K.kind (block c b)).key.len (node_of K.kind (block c b)).key.bytes) → IsByteKey (node_of K.kind (block c b)).key
   unfolding node_of
   byte_key b z = record {
@@ -243,7 +243,7 @@ height_byte_of : (kind : ℕ) (n : Node) → slice_index (node_bytes kind n) 1 �
 unfolding node_bytes
 height_byte_of kind n = refl
 
-module _ {N V A : Type 0} (K : Kind N V A) (L : Level A) (c : Content) (Fits : A → Type 0) (Named : N → TreeKey → Type 0) (Valued : V → Value → Type 0) where
+module _ {N V A : Type 0} (K : Kind N V A) (L : Level A) (c : Content) (Fits : A → Type 0) (Named : N → TreeKey → Type 0) (Valued : N → V → Value → Type 0) where
   grown_fork : (b : ℕ) (low high : Option TreeKey) (f : Fields N V) (l : Hung A) (a : A) (r : Hung A)
       → (b == 0) ≡ false → is_taken c b ≡ true
       → AreFields K c Named Valued b low high f
@@ -294,7 +294,7 @@ pub record StandsRead {A : Type 0} (L : Level A) (c : Content) (Fits : A → Typ
   pub fit : All Fits g.1
 
 -- A tree that is read below a block stands there, with what its values lead to.
-module _ {N V A : Type 0} (K : Kind N V A) (L : Level A) (c : Content) (Fits : A → Type 0) (Named : N → TreeKey → Type 0) (Valued : V → Value → Type 0) (roots : V → Tally) (gives : Gives K L c Fits Named Valued roots) (of_bytes : IsOfBytes c) where
+module _ {N V A : Type 0} (K : Kind N V A) (L : Level A) (c : Content) (Fits : A → Type 0) (Named : N → TreeKey → Type 0) (Valued : N → V → Value → Type 0) (roots : V → Tally) (gives : Gives K L c Fits Named Valued roots) (of_bytes : IsOfBytes c) where
   abbrev AsRead : (h b : ℕ) (low high : Option TreeKey) → Type 0
   AsRead h b low high = IsLink c b → Tells (read_below K c h b low high) (Grown L K.kind c Fits b low high) (root_tally b) (λ g. hung_tally L g.0 g.1)
 
