@@ -12,3 +12,4 @@ pub mod Standing
 pub mod ChainsStand
 pub mod LevelsStand
 pub mod ObjectsStand
+pub mod ListsStand

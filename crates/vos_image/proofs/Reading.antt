@@ -127,7 +127,7 @@ fresh b (x ∷ xs) h =
 abbrev pub IsLink : Content → ℕ → Type 0
 IsLink c b = b ≢ 0 → is_taken c b ≡ true
 
-led_once : (b : ℕ) (led : List ℕ) → times b led ≡ 0 → ((q : ℕ) → times q led ≤ 1) → (q : ℕ) → times q (b ∷ led) ≤ 1
+pub led_once : (b : ℕ) (led : List ℕ) → times b led ≡ 0 → ((q : ℕ) → times q led ≤ 1) → (q : ℕ) → times q (b ∷ led) ≤ 1
 led_once b led off was q = elim (eqb_tells q b) [
   | inl a ↦ let e = a.1 in subst (λ z. times z (b ∷ led) ≤ 1) (sym e) (omega (arith, times_one b b led, times_own b, off))
   | inr a ↦ omega (arith, times_one q b led, times_other q b a.1, was q)

@@ -219,7 +219,7 @@ lead_both L [] e fs (x ∷ xs) a ys h one more = absurd h
 lead_both L (d ∷ es) e fs [] a ys h one more = absurd h
 lead_both L (d ∷ es) e fs (x ∷ xs) a ys h one more = (h.0, lead_both L es e fs xs a ys h.1 one more)
 
-all_both : {A : Type 0} (Fits : A → Type 0) (xs : List A) (a : A) (ys : List A) → All Fits xs → Fits a → All Fits ys → All Fits (xs ++ a ∷ ys)
+pub all_both : {A : Type 0} (Fits : A → Type 0) (xs : List A) (a : A) (ys : List A) → All Fits xs → Fits a → All Fits ys → All Fits (xs ++ a ∷ ys)
 all_both Fits [] a ys h one more = All-cons Fits a ys one more
 all_both Fits (x ∷ xs) a ys h one more = All-cons Fits x (xs ++ a ∷ ys) (All-head Fits x xs h) (all_both Fits xs a ys (All-tail Fits x xs h) one more)
 
