@@ -13,3 +13,4 @@ pub mod ChainsStand
 pub mod LevelsStand
 pub mod ObjectsStand
 pub mod ListsStand
+pub mod EntriesStand
