@@ -15,10 +15,11 @@ use Rattle.vos_values.proofs.Reading.{chosen_again}
 use Rattle.vos_chain.specs.Chains.{Chain, Links, first_of}
 use Rattle.vos_chain.specs.Made.{chain_blocks}
 use Rattle.vos_image.specs.Steps.{give}
+use Rattle.vos_image.specs.Laws.{IsOfBytes}
 use Rattle.vos_image.specs.Content.{Content, block, is_taken, link, shown}
 use Rattle.vos_image.specs.Kinds.{read_chain, read_links}
 use Rattle.vos_image.proofs.Reading.{AreZero, IsLink, Tells, tells_given, tells_linked, tells_ruled, tells_then, tells_too, tells_zeros}
-use Rattle.vos_image.proofs.Standing.{IsOfBytes, block_bytes, block_room, shown_is, taken_high, taken_low}
+use Rattle.vos_image.proofs.Standing.{block_bytes, block_room, shown_is, taken_high, taken_low}
 use Rattle.vos_image.proofs.Steps.{Tally, none, root_tally}
 
 -- ---- a block of a chain
@@ -33,7 +34,7 @@ one_byte bs = omega arith
 and_three : (a b c : Bool) → a ≡ true → b ≡ true → c ≡ true → (a && b && c) ≡ true
 and_three a b c h k l = rw (h, k, l) refl
 
-pub is_link_block : (c : Content) (b n : ℕ) → IsOfBytes c → n ≤ 248 → (slice_index (block c b) 0 == 8) ≡ true → AreZero (take 3 (drop 1 (block c b))) → AreZero (drop (8 + n) (block c b))
+pub is_link_block : (c : Content) (b n : ℕ) → IsOfBytes c.bytes → n ≤ 248 → (slice_index (block c b) 0 == 8) ≡ true → AreZero (take 3 (drop 1 (block c b))) → AreZero (drop (8 + n) (block c b))
     → link_bytes (big_number 4 (drop 4 (block c b))) (take n (drop 8 (block c b))) ≡ block c b
 unfolding next_in
 is_link_block c b n bytes few kind three behind =
@@ -87,7 +88,7 @@ parts_are c b n rest long =
 part_long : (c : Content) (b n : ℕ) (rest : List ℕ) → length rest ≡ n - 248 → length (take (min n 248) (drop 8 (block c b)) ++ rest) ≡ n
 part_long c b n rest long = omega (arith, length-append (take (min n 248) (drop 8 (block c b))) rest, length-take (min n 248) (drop 8 (block c b)), length-drop 8 (block c b), block_room c b, long)
 
-module _ (c : Content) (of_bytes : IsOfBytes c) where
+module _ (c : Content) (of_bytes : IsOfBytes c.bytes) where
   links_stand : (k b n : ℕ) → k ≡ chain_blocks n → LeadsOn k b → IsLink c b → Tells (read_links c k b n) (AreLinks c b n) (root_tally b) (λ x q. times q x.blocks)
   links_stand zero b n e on taken =
       let none : b ≡ 0 = leads_none b on in
@@ -137,7 +138,7 @@ leads_on (suc k) b some ne = let more : (suc k == 0) ≡ false = ne_eqb (suc k) 
 blocks_more : (n : ℕ) → 1 ≤ n → 0 < chain_blocks n
 blocks_more n some = omega (arith, some)
 
-pub chain_stands : (c : Content) (b n : ℕ) → IsOfBytes c → 1 ≤ n → b ≢ 0 → IsLink c b → Tells (read_chain c b n) (ChainStands c b n) (root_tally b) (λ x q. times q x.blocks)
+pub chain_stands : (c : Content) (b n : ℕ) → IsOfBytes c.bytes → 1 ≤ n → b ≢ 0 → IsLink c b → Tells (read_chain c b n) (ChainStands c b n) (root_tally b) (λ x q. times q x.blocks)
 unfolding read_chain
 chain_stands c b n of_bytes some ne taken =
     tells_too _ _ _ _ _ _ _ (links_stand c of_bytes (chain_blocks n) b n refl (leads_on (chain_blocks n) b (blocks_more n some) ne) taken)

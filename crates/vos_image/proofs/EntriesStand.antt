@@ -18,6 +18,7 @@ use Rattle.vos_values.proofs.Reading.{chosen_is}
 use Rattle.vos_values.proofs.ValueLaws.{entries_exact}
 use Rattle.vos_chain.specs.Chains.{Links, first_of}
 use Rattle.vos_entries.specs.Entries.{AreListed, Entries, entries_owner, entry_level, list_bytes}
+use Rattle.vos_image.specs.Laws.{IsOfBytes}
 use Rattle.vos_image.specs.Content.{Content, shown}
 use Rattle.vos_image.specs.Fits.{EntryFits}
 use Rattle.vos_image.specs.Kinds.{entries, fits_targets, read_attempt, read_entry, stored_entry}
@@ -26,7 +27,7 @@ use Rattle.vos_image.specs.Trees.{read_tree}
 use Rattle.vos_image.proofs.LevelsStand.{at_most_is, small}
 use Rattle.vos_image.proofs.ListsStand.{list_stands}
 use Rattle.vos_image.proofs.Reading.{IsLink, Tells, says_what, tells_given, tells_linked, tells_on, tells_ruled, tells_said}
-use Rattle.vos_image.proofs.Standing.{Gives, IsOfBytes, StandsRead, tree_stands}
+use Rattle.vos_image.proofs.Standing.{Gives, StandsRead, tree_stands}
 use Rattle.vos_image.proofs.Steps.{Tally, none, root_tally}
 
 -- ---- keys and values
@@ -104,7 +105,7 @@ entry_told c at a v =
 listing : (m : EntryMark) (chain : ℕ) → chain ≡ m.chain → record { committed = m.committed; leader = m.leader; members = m.members; confirmed = m.confirmed; epoch = m.epoch; chain = chain } ≡ m
 listing m chain e = λ i. record { committed = m.committed; leader = m.leader; members = m.members; confirmed = m.confirmed; epoch = m.epoch; chain = e i }
 
-pub entries_given : (c : Content) (nodes : List Node) → IsOfBytes c → Gives (entries nodes) entry_level c (EntryFits c nodes) AttemptRead (EntryValued c) list_root
+pub entries_given : (c : Content) (nodes : List Node) → IsOfBytes c.bytes → Gives (entries nodes) entry_level c (EntryFits c nodes) AttemptRead (EntryValued c) list_root
 entries_given c nodes of_bytes = record {
   kind = refl;
   short = λ n h. small n 7 (omega arith) h;
@@ -133,5 +134,5 @@ entries_given c nodes of_bytes = record {
 }
 
 -- Entries that are read stand below their root, with their lists.
-pub entries_stand : (c : Content) (nodes : List Node) (b : ℕ) → IsOfBytes c → IsLink c b → Tells (read_tree (entries nodes) c b) (StandsRead entry_level c (EntryFits c nodes) b) (root_tally b) (λ g q. times q (entries_owner.owned g))
+pub entries_stand : (c : Content) (nodes : List Node) (b : ℕ) → IsOfBytes c.bytes → IsLink c b → Tells (read_tree (entries nodes) c b) (StandsRead entry_level c (EntryFits c nodes) b) (root_tally b) (λ g q. times q (entries_owner.owned g))
 entries_stand c nodes b of_bytes link = tree_stands (entries nodes) entry_level c (EntryFits c nodes) AttemptRead (EntryValued c) list_root (entries_given c nodes of_bytes) of_bytes b link

@@ -22,13 +22,14 @@ use Rattle.vos_ilog.specs.Logs.{log_level}
 use Rattle.vos_single.specs.Singles.{mark_of as single_mark, single_level}
 use Rattle.vos_extent.specs.Extents.{extent_level, mark_of as extent_mark}
 use Rattle.vos_chain.specs.Chains.{Chain, first_of}
+use Rattle.vos_image.specs.Laws.{IsOfBytes}
 use Rattle.vos_image.specs.Content.{Content, is_taken}
 use Rattle.vos_image.specs.Fits.{ExtentFits, LogFits, SingleFits}
 use Rattle.vos_image.specs.Kinds.{any_length, extents, logs, read_chain, read_extent, read_mark, read_moment, read_version, singles, stored_extent, stored_single}
 use Rattle.vos_image.proofs.ChainsStand.{ChainStands, chain_stands}
 use Rattle.vos_image.proofs.Levels.{at_least}
 use Rattle.vos_image.proofs.Reading.{IsLink, Tells, says_what, tells_given, tells_linked, tells_on, tells_ruled, tells_said}
-use Rattle.vos_image.proofs.Standing.{Gives, IsOfBytes}
+use Rattle.vos_image.proofs.Standing.{Gives}
 use Rattle.vos_image.proofs.Steps.{Tally, none, root_tally}
 
 -- ---- keys
@@ -132,7 +133,7 @@ marked x chain long first = λ i. record { done = x.done; by = x.by; length = lo
 abbrev pub SingleValued : Content → Moment → VersionMark → Value → Type 0
 SingleValued c m x v = VersionRead c any_length x v
 
-pub singles_given : (c : Content) → IsOfBytes c → Gives singles single_level c (SingleFits c) (MomentNamed c) (SingleValued c) chain_roots
+pub singles_given : (c : Content) → IsOfBytes c.bytes → Gives singles single_level c (SingleFits c) (MomentNamed c) (SingleValued c) chain_roots
 singles_given c of_bytes = record {
   kind = refl;
   short = λ n h. small n 9 (omega arith) h;
@@ -158,7 +159,7 @@ ExtentNamed c p k = ExtentRead c p k
 abbrev pub ExtentValued : Content → ℕ → ExtentKey → VersionMark → Value → Type 0
 ExtentValued c unit p x v = VersionRead c (fits_records unit p.low) x v
 
-pub extents_given : (c : Content) (unit : ℕ) → IsOfBytes c → Gives (extents unit) extent_level c (ExtentFits c unit) (ExtentNamed c) (ExtentValued c unit) chain_roots
+pub extents_given : (c : Content) (unit : ℕ) → IsOfBytes c.bytes → Gives (extents unit) extent_level c (ExtentFits c unit) (ExtentNamed c) (ExtentValued c unit) chain_roots
 extents_given c unit of_bytes = record {
   kind = refl;
   short = λ n h. small n 13 (omega arith) h;

@@ -14,3 +14,5 @@ pub mod LevelsStand
 pub mod ObjectsStand
 pub mod ListsStand
 pub mod EntriesStand
+pub mod PlacesRead
+pub mod WholeStands

@@ -17,12 +17,13 @@ use Rattle.vos_chain.specs.Chains.{Links, first_of}
 use Rattle.vos_entries.specs.Entries.{AreListed, list_bytes}
 use Rattle.vos_entries.proofs.Lists.{length_list}
 use Rattle.vos_image.specs.Steps.{Step, ◌>>=◌, fail, give, is_among, rule, zeros}
+use Rattle.vos_image.specs.Laws.{IsOfBytes}
 use Rattle.vos_image.specs.Content.{Content, block, is_taken, link, shown}
 use Rattle.vos_image.specs.Kinds.{Listed, read_list, read_numbers, read_part}
 use Rattle.vos_image.proofs.ChainsStand.{is_link_block}
 use Rattle.vos_image.proofs.Lists.{Pass}
 use Rattle.vos_image.proofs.Reading.{AreZero, IsLink, Tells, fresh, led_once, tells_given, tells_linked, tells_none, tells_quiet, tells_ruled, tells_then, tells_too, tells_zeros, zero_test}
-use Rattle.vos_image.proofs.Standing.{IsOfBytes, all_both, block_bytes, block_room, shown_is, taken_high, taken_low}
+use Rattle.vos_image.proofs.Standing.{all_both, block_bytes, block_room, shown_is, taken_high, taken_low}
 use Rattle.vos_image.proofs.Steps.{Tally, none, root_tally}
 
 -- ---- numbers
@@ -174,7 +175,7 @@ zeros_behind c b ns few h = elim (cases_lt (length ns) 62) [
   | inr more ↦ λ i. get_or_past (drop (8 + 4 * length ns) (block c b)) i 0 (omega (arith, length-drop (8 + 4 * length ns) (block c b), block_room c b, more))
 ]
 
-module _ (c : Content) (of_bytes : IsOfBytes c) (is_node : ℕ → Bool) where
+module _ (c : Content) (of_bytes : IsOfBytes c.bytes) (is_node : ℕ → Bool) where
   no_list : (b : ℕ) (so_far : List ℕ) → (b == 0) ≡ true → ListRead c is_node b so_far (record { nodes = so_far; blocks = [] })
   no_list b so_far e = record { ns = []; nodes_are = sym (append-nil so_far); links = refl; first = sym (zero_test b e); listed = tt; pass = All-nil (λ b. is_node b ≡ true); once = λ was q. omega (arith, was q, times_none q) }
 

@@ -22,18 +22,19 @@ use Rattle.vos_single.specs.Singles.{single_level, single_owner}
 use Rattle.vos_extent.specs.Extents.{extent_level, extent_owner}
 use Rattle.vos_path.specs.Objects.{Akey, Below, Branch, Dkey, Object, Objects, akey_level, below_owner, below_roots, branch_level, dkey_level, object_level, objects_owner, values_roots}
 use Rattle.vos_image.specs.Steps.{Step, ◌>>=◌, give}
+use Rattle.vos_image.specs.Laws.{IsOfBytes}
 use Rattle.vos_image.specs.Content.{Content, shown}
 use Rattle.vos_image.specs.Fits.{AkeyFits, DkeyFits, ExtentFits, LogFits, ObjectFits, SingleFits}
 use Rattle.vos_image.specs.Kinds.{akeys, dkeys, extents, is_name_length, is_object_length, logs, objects, read_akey_roots, read_name, read_object, read_roots, singles}
 use Rattle.vos_image.specs.Trees.{Kind, read_tree}
 use Rattle.vos_image.proofs.LevelsStand.{ExtentNamed, ExtentValued, MarkValued, MomentNamed, SingleValued, at_most_is, chain_roots, extents_given, logs_given, singles_given, small}
 use Rattle.vos_image.proofs.Reading.{IsLink, Tells, says_what, tells_given, tells_linked, tells_on, tells_ruled, tells_said, tells_then}
-use Rattle.vos_image.proofs.Standing.{Gives, IsOfBytes, Made, StandsRead, tree_stands}
+use Rattle.vos_image.proofs.Standing.{Gives, Made, StandsRead, tree_stands}
 use Rattle.vos_image.proofs.Steps.{Tally, none, root_tally}
 
 -- ---- trees of versions
 
-module _ (c : Content) (of_bytes : IsOfBytes c) where
+module _ (c : Content) (of_bytes : IsOfBytes c.bytes) where
   log_stands : (b : ℕ) → IsLink c b → Tells (read_tree logs c b) (StandsRead log_level c (LogFits c) b) (root_tally b) (λ g q. times q (log_owner.owned g))
   log_stands b link = tree_stands logs log_level c (LogFits c) (MomentNamed c) MarkValued (λ _. none) (logs_given c) of_bytes b link
 
@@ -81,7 +82,7 @@ akey_told c at n v =
 rooted : (r : AkeyRoots) (log one many : ℕ) → log ≡ r.log → one ≡ r.singles → many ≡ r.extents → record { log = log; singles = one; extents = many } ≡ r
 rooted r log one many a b d = λ i. record { log = a i; singles = b i; extents = d i }
 
-pub akeys_given : (c : Content) (unit : ℕ) → IsOfBytes c → Gives (akeys unit) akey_level c (AkeyFits c unit) NameRead (AkeyValued c) akey_roots
+pub akeys_given : (c : Content) (unit : ℕ) → IsOfBytes c.bytes → Gives (akeys unit) akey_level c (AkeyFits c unit) NameRead (AkeyValued c) akey_roots
 akeys_given c unit of_bytes = record {
   kind = refl;
   short = name_short c;
@@ -131,7 +132,7 @@ record BelowStands {A : Type 0} (L : Level A) (c : Content) (Fits : A → Type 0
   below : All Fits (things b.1)
 
 below_stands : {A R : Type 0} (L : Level A) (c : Content) (Fits : A → Type 0) (r : Roots) (x : Step (Hung A)) (f : Log → Hung A → R) (P : R → Type 0) (to : R → Tally)
-    → IsOfBytes c → IsLink c r.log
+    → IsOfBytes c.bytes → IsLink c r.log
     → Tells x (StandsRead L c Fits r.below) (root_tally r.below) (λ g q. times q ((hung L).owned g))
     → ((b : Below A) → BelowStands L c Fits r b → P (f b.0 b.1))
     → ((b : Below A) (q : ℕ) → to (f b.0 b.1) q ≡ times q ((below_owner L).owned b))
@@ -148,7 +149,7 @@ below_stands L c Fits r x f P to of_bytes link tree fact count =
 abbrev pub DkeyValued : Content → List ℕ → Roots → Value → Type 0
 DkeyValued c n r v = RootsRead c 2 r v
 
-pub dkeys_given : (c : Content) (unit : ℕ) → IsOfBytes c → Gives (dkeys unit) dkey_level c (DkeyFits c unit) NameRead (DkeyValued c) below_tally
+pub dkeys_given : (c : Content) (unit : ℕ) → IsOfBytes c.bytes → Gives (dkeys unit) dkey_level c (DkeyFits c unit) NameRead (DkeyValued c) below_tally
 dkeys_given c unit of_bytes = record {
   kind = refl;
   short = name_short c;
@@ -192,7 +193,7 @@ ObjectNamed c o k = ObjectRead c o k
 abbrev pub ObjectValued : Content → ObjectKey → Roots → Value → Type 0
 ObjectValued c o r v = RootsRead c 1 r v
 
-pub objects_given : (c : Content) → IsOfBytes c → Gives objects object_level c (ObjectFits c) (ObjectNamed c) (ObjectValued c) below_tally
+pub objects_given : (c : Content) → IsOfBytes c.bytes → Gives objects object_level c (ObjectFits c) (ObjectNamed c) (ObjectValued c) below_tally
 objects_given c of_bytes = record {
   kind = refl;
   short = object_short c;
@@ -206,5 +207,5 @@ objects_given c of_bytes = record {
 }
 
 -- Objects that are read stand below their root, with all that is below them.
-pub objects_stand : (c : Content) (b : ℕ) → IsOfBytes c → IsLink c b → Tells (read_tree objects c b) (StandsRead object_level c (ObjectFits c) b) (root_tally b) (λ g q. times q (objects_owner.owned g))
+pub objects_stand : (c : Content) (b : ℕ) → IsOfBytes c.bytes → IsLink c b → Tells (read_tree objects c b) (StandsRead object_level c (ObjectFits c) b) (root_tally b) (λ g q. times q (objects_owner.owned g))
 objects_stand c b of_bytes link = tree_stands objects object_level c (ObjectFits c) (ObjectNamed c) (ObjectValued c) below_tally (objects_given c of_bytes) of_bytes b link

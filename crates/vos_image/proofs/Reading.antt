@@ -133,7 +133,7 @@ led_once b led off was q = elim (eqb_tells q b) [
   | inr a ↦ omega (arith, times_one q b led, times_other q b a.1, was q)
 ]
 
-abbrev linked_by : ℕ → ℕ → List ℕ → Bool → Bool → Bool → Result (Unit {0} × List ℕ) ℕ
+abbrev pub linked_by : ℕ → ℕ → List ℕ → Bool → Bool → Bool → Result (Unit {0} × List ℕ) ℕ
 linked_by at b led t k m = if t then Ok (tt, led) else if k && not m then Ok (tt, b ∷ led) else Err at
 
 pub link_told : (c : Content) (at b : ℕ) → Tells (link c at b) (λ _. IsLink c b) none (λ _. root_tally b)

@@ -24,6 +24,7 @@ use Rattle.vos_values.specs.Fields.{AreBytes, IsByteKey, IsByteValue}
 use Rattle.vos_values.proofs.Orders.{drop_bytes}
 use Rattle.vos_levels.specs.Levels.{Hung, IsHung, LeadToAll, LeadsTo, Level, hung}
 use Rattle.vos_image.specs.Steps.{Step, ◌>>=◌, fail, give, rule}
+use Rattle.vos_image.specs.Laws.{IsOfBytes}
 use Rattle.vos_image.specs.Content.{Content, block, is_taken, shown}
 use Rattle.vos_image.specs.Trees.{Fields, Kind, is_above, is_below, is_height, read_below, read_fields, read_tree, stored_height}
 use Rattle.vos_image.proofs.Reading.{AreZero, IsLink, Tells, tells_given, tells_linked, tells_none, tells_on, tells_quiet, tells_ruled, tells_then, tells_too, tells_zeros, zero_test}
@@ -32,11 +33,7 @@ use Rattle.vos_image.proofs.Trees.{Within, first_of_two, fork_tally, hung_tally,
 
 -- ---- blocks
 
--- all that an image holds are bytes
-abbrev pub IsOfBytes : Content → Type 0
-IsOfBytes c = (i : ℕ) → c.bytes i < 256
-
-pub block_bytes : (c : Content) (b : ℕ) → IsOfBytes c → AreBytes (block c b)
+pub block_bytes : (c : Content) (b : ℕ) → IsOfBytes c.bytes → AreBytes (block c b)
 unfolding block
 block_bytes c b h i = elim (cases_lt i 256) [
   | inl low ↦ let e = get_or-bytes_at c.bytes (256 * b) 256 i low in let small = h (256 * b + i) in omega (arith, e, small)
@@ -98,7 +95,7 @@ zero_from n bs h i le = let e : n + (i - n) ≡ i = omega (arith, le) in ap (sli
 same_of : (a b : ℕ) → (a == b) ≡ true → a ≡ b
 same_of a b h = grind (arith, nat_tests)
 
-module _ {N V A : Type 0} (K : Kind N V A) (L : Level A) (c : Content) (Fits : A → Type 0) (Named : N → TreeKey → Type 0) (Valued : N → V → Value → Type 0) (roots : V → Tally) (gives : Gives K L c Fits Named Valued roots) (of_bytes : IsOfBytes c) where
+module _ {N V A : Type 0} (K : Kind N V A) (L : Level A) (c : Content) (Fits : A → Type 0) (Named : N → TreeKey → Type 0) (Valued : N → V → Value → Type 0) (roots : V → Tally) (gives : Gives K L c Fits Named Valued roots) (of_bytes : IsOfBytes c.bytes) where
   byte_key : (b : ℕ) → AreZero (drop (node_of K.kind (block c b)).key.len (node_of K.kind (block c b)).key.bytes) → IsByteKey (node_of K.kind (block c b)).key
   unfolding node_of
   byte_key b z = record {
@@ -294,7 +291,7 @@ pub record StandsRead {A : Type 0} (L : Level A) (c : Content) (Fits : A → Typ
   pub fit : All Fits g.1
 
 -- A tree that is read below a block stands there, with what its values lead to.
-module _ {N V A : Type 0} (K : Kind N V A) (L : Level A) (c : Content) (Fits : A → Type 0) (Named : N → TreeKey → Type 0) (Valued : N → V → Value → Type 0) (roots : V → Tally) (gives : Gives K L c Fits Named Valued roots) (of_bytes : IsOfBytes c) where
+module _ {N V A : Type 0} (K : Kind N V A) (L : Level A) (c : Content) (Fits : A → Type 0) (Named : N → TreeKey → Type 0) (Valued : N → V → Value → Type 0) (roots : V → Tally) (gives : Gives K L c Fits Named Valued roots) (of_bytes : IsOfBytes c.bytes) where
   abbrev AsRead : (h b : ℕ) (low high : Option TreeKey) → Type 0
   AsRead h b low high = IsLink c b → Tells (read_below K c h b low high) (Grown L K.kind c Fits b low high) (root_tally b) (λ g. hung_tally L g.0 g.1)
 
