@@ -1,26 +1,24 @@
 -- A chain that is read stands.
-use Rattle.std.proofs.Common.{◌≡◌, ◌≢◌, ℕ, zero, suc, ◌+◌, ◌-◌, ◌*◌, ◌≤◌, ◌<◌, ◌^◌, min, ◌==◌, ◌&&◌, not, Bool, true, false, List, [], ◌∷◌, ◌++◌, length, take, drop, Some, refl, sym, ap, ◌∙◌, subst, arith, inl, inr}
+use Rattle.std.proofs.Common.{◌≡◌, ◌≢◌, ℕ, zero, suc, ◌+◌, ◌-◌, ◌≤◌, ◌<◌, min, ◌==◌, ◌&&◌, not, Bool, true, false, List, [], ◌∷◌, ◌++◌, length, take, drop, refl, sym, ap, ◌∙◌, subst, arith, inl, inr}
 use Rattle.std.specs.Prelude.{if◌then◌else◌, slice_index}
-use Rattle.std.specs.Int.{div_ceil}
 use Rattle.std.specs.List.{list_all}
 use Rattle.std.proofs.lemmas.Bool.{cases_lt, ne_eqb}
 use Rattle.std.proofs.lemmas.Bool.Decides.{nat_tests}
-use Rattle.std.proofs.lemmas.List.{append-nil, drop_all, drop_at, length-append, length-drop, length-take, take-append-drop, take_all, take_at}
+use Rattle.std.proofs.lemmas.List.{append-nil, drop_all, drop_at, length-append, length-drop, length-take, take_all, take_at}
 use Rattle.byteorder.specs.Endian.{big_number}
-use Rattle.pmem_pages.specs.Counts.{times_none, times_one}
+use Rattle.pmem_pages.specs.Counts.{times_one}
 use Rattle.pmem_pages.specs.Owners.{times}
-use Rattle.vos_values.specs.Links.{is_link, is_zero, link_bytes, next_in, part_in}
+use Rattle.vos_values.specs.Links.{is_link, is_zero, link_bytes, next_in}
 use Rattle.vos_values.proofs.LinkLaws.{link_back}
 use Rattle.vos_values.proofs.Reading.{chosen_again}
 use Rattle.vos_chain.specs.Chains.{Chain, Links, first_of}
 use Rattle.vos_chain.specs.Made.{chain_blocks}
-use Rattle.vos_image.specs.Steps.{give}
 use Rattle.vos_image.specs.Laws.{IsOfBytes}
-use Rattle.vos_image.specs.Content.{Content, block, is_taken, link, shown}
+use Rattle.vos_image.specs.Content.{Content, block, shown}
 use Rattle.vos_image.specs.Kinds.{read_chain, read_links}
 use Rattle.vos_image.proofs.Reading.{AreZero, IsLink, Tells, tells_given, tells_linked, tells_ruled, tells_then, tells_too, tells_zeros}
 use Rattle.vos_image.proofs.Standing.{block_bytes, block_room, shown_is, taken_high, taken_low}
-use Rattle.vos_image.proofs.Steps.{Tally, none, root_tally}
+use Rattle.vos_image.proofs.Steps.{root_tally}
 
 -- ---- a block of a chain
 

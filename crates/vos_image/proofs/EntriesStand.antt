@@ -1,5 +1,5 @@
 -- Entries that are read stand, with their lists.
-use Rattle.std.proofs.Common.{◌≡◌, ◌≢◌, ℕ, ◌+◌, ◌/◌, ◌≤◌, ◌<◌, ◌==◌, ◌&&◌, nat_le, nat_lt, Bool, true, false, List, [], length, drop, Some, refl, sym, ap, ◌∙◌, subst, arith}
+use Rattle.std.proofs.Common.{◌≡◌, ℕ, ◌/◌, ◌≤◌, ◌<◌, nat_le, nat_lt, Bool, true, List, [], drop, Some, refl, sym, ap, ◌∙◌, subst, arith}
 use Rattle.std.specs.Prelude.{All}
 use Rattle.std.specs.List.{list_any}
 use Rattle.std.proofs.lemmas.Bool.Decides.{nat_tests}
@@ -17,7 +17,7 @@ use Rattle.vos_values.proofs.KeyLaws.{attempts_exact}
 use Rattle.vos_values.proofs.Reading.{chosen_is}
 use Rattle.vos_values.proofs.ValueLaws.{entries_exact}
 use Rattle.vos_chain.specs.Chains.{Links, first_of}
-use Rattle.vos_entries.specs.Entries.{AreListed, Entries, entries_owner, entry_level, list_bytes}
+use Rattle.vos_entries.specs.Entries.{AreListed, entries_owner, entry_level, list_bytes}
 use Rattle.vos_image.specs.Laws.{IsOfBytes}
 use Rattle.vos_image.specs.Content.{Content, shown}
 use Rattle.vos_image.specs.Fits.{EntryFits}
@@ -86,17 +86,17 @@ entry_told c at a v =
     tells_linked c _ m.chain _ _ _ _ (λ taken.
     tells_given m _ _ _
     (λ byte.
-        let both = entries_exact.back v m byte e in
-        let s = said_of m v e in
-        record {
-          good = both.0;
-          is = both.1;
-          leader = below_is m.leader c.targets (ap (λ z. nat_lt z c.targets) (sym s.leader) ∙ leader);
-          members = ap (fits_targets c) (sym s.members) ∙ members;
-          confirmed = ap (fits_targets c) (sym s.confirmed) ∙ confirmed;
-          epoch = at_most_is m.epoch.0 c.covered (ap (λ z. nat_le z c.covered) (sym s.epoch) ∙ epoch);
-          taken = taken;
-        })
+    let both = entries_exact.back v m byte e in
+    let s = said_of m v e in
+    record {
+      good = both.0;
+      is = both.1;
+      leader = below_is m.leader c.targets (ap (λ z. nat_lt z c.targets) (sym s.leader) ∙ leader);
+      members = ap (fits_targets c) (sym s.members) ∙ members;
+      confirmed = ap (fits_targets c) (sym s.confirmed) ∙ confirmed;
+      epoch = at_most_is m.epoch.0 c.covered (ap (λ z. nat_le z c.covered) (sym s.epoch) ∙ epoch);
+      taken = taken;
+    })
     (λ q. omega arith))))))))
 
 -- ---- entries

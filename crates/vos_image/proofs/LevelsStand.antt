@@ -1,11 +1,9 @@
 -- Logs, single versions and extents that are read stand.
-use Rattle.std.proofs.Common.{◌≡◌, ◌≢◌, ℕ, ◌+◌, ◌≤◌, ◌<◌, ◌==◌, ◌&&◌, ◌||◌, not, nat_le, Bool, true, false, List, [], length, drop, Option, Some, refl, sym, ap, ◌∙◌, subst, arith}
-use Rattle.std.specs.Prelude.{All}
+use Rattle.std.proofs.Common.{◌≡◌, ◌≢◌, ℕ, ◌≤◌, ◌==◌, not, nat_le, Bool, true, length, drop, Some, refl, sym, ap, ◌∙◌, subst, arith}
 use Rattle.std.proofs.lemmas.Bool.Decides.{nat_tests}
 use Rattle.byteorder.specs.Endian.{big_number}
 use Rattle.daos_model.specs.Forms.{fits_records}
 use Rattle.pmem_pages.specs.Counts.{times_none}
-use Rattle.pmem_pages.specs.Owners.{times}
 use Rattle.pmem_pages.specs.declared.node.TreeKey.{TreeKey}
 use Rattle.pmem_pages.specs.declared.node.Value.{Value}
 use Rattle.vos_values.specs.declared.keys.ExtentKey.{ExtentKey}
@@ -14,19 +12,19 @@ use Rattle.vos_values.specs.declared.values.LogMark.{LogMark}
 use Rattle.vos_values.specs.declared.values.VersionMark.{VersionMark}
 use Rattle.vos_values.specs.Fields.{IsByteKey, IsByteValue}
 use Rattle.vos_values.specs.Keys.{IsExtentKey, IsMoment, extent_in, extent_key, moment_in, moment_key}
-use Rattle.vos_values.specs.Values.{IsLogMark, IsVersionMark, is_length, log_value, version_in, version_value}
+use Rattle.vos_values.specs.Values.{IsLogMark, IsVersionMark, log_value, version_in, version_value}
 use Rattle.vos_values.proofs.KeyLaws.{extents_exact, moments_exact}
 use Rattle.vos_values.proofs.Reading.{chosen_is}
 use Rattle.vos_values.proofs.ValueLaws.{extents_exact as extent_marks_exact, logs_exact, singles_exact}
 use Rattle.vos_ilog.specs.Logs.{log_level}
-use Rattle.vos_single.specs.Singles.{mark_of as single_mark, single_level}
-use Rattle.vos_extent.specs.Extents.{extent_level, mark_of as extent_mark}
+use Rattle.vos_single.specs.Singles.{single_level}
+use Rattle.vos_extent.specs.Extents.{extent_level}
 use Rattle.vos_chain.specs.Chains.{Chain, first_of}
 use Rattle.vos_image.specs.Laws.{IsOfBytes}
-use Rattle.vos_image.specs.Content.{Content, is_taken}
+use Rattle.vos_image.specs.Content.{Content}
 use Rattle.vos_image.specs.Fits.{ExtentFits, LogFits, SingleFits}
-use Rattle.vos_image.specs.Kinds.{any_length, extents, logs, read_chain, read_extent, read_mark, read_moment, read_version, singles, stored_extent, stored_single}
-use Rattle.vos_image.proofs.ChainsStand.{ChainStands, chain_stands}
+use Rattle.vos_image.specs.Kinds.{any_length, extents, logs, read_extent, read_mark, read_moment, read_version, singles, stored_extent, stored_single}
+use Rattle.vos_image.proofs.ChainsStand.{chain_stands}
 use Rattle.vos_image.proofs.Levels.{at_least}
 use Rattle.vos_image.proofs.Reading.{IsLink, Tells, says_what, tells_given, tells_linked, tells_on, tells_ruled, tells_said}
 use Rattle.vos_image.proofs.Standing.{Gives}
@@ -85,13 +83,10 @@ pub record MarkRead (x : LogMark) (v : Value) : Type 0 where
 mark_told : (c : Content) (at : ℕ) (m : Moment) (v : Value) → Tells (read_mark c at m v) (λ x. IsByteValue 4 v → MarkRead x v) none (λ _. none)
 mark_told c at m v = tells_ruled _ _ _ _ _ _ (λ state. says_what _ _ _ (λ x e byte. let both = logs_exact.back v x byte e in record { good = both.0; is = both.1 }))
 
-abbrev pub MomentNamed : Content → Moment → TreeKey → Type 0
-MomentNamed c m k = MomentRead c m k
-
 abbrev pub MarkValued : Moment → LogMark → Value → Type 0
 MarkValued m x v = MarkRead x v
 
-pub logs_given : (c : Content) → Gives logs log_level c (LogFits c) (MomentNamed c) MarkValued (λ _. none)
+pub logs_given : (c : Content) → Gives logs log_level c (LogFits c) (MomentRead c) MarkValued (λ _. none)
 logs_given c = record {
   kind = refl;
   short = λ n h. small n 9 (omega arith) h;
@@ -133,7 +128,7 @@ marked x chain long first = λ i. record { done = x.done; by = x.by; length = lo
 abbrev pub SingleValued : Content → Moment → VersionMark → Value → Type 0
 SingleValued c m x v = VersionRead c any_length x v
 
-pub singles_given : (c : Content) → IsOfBytes c.bytes → Gives singles single_level c (SingleFits c) (MomentNamed c) (SingleValued c) chain_roots
+pub singles_given : (c : Content) → IsOfBytes c.bytes → Gives singles single_level c (SingleFits c) (MomentRead c) (SingleValued c) chain_roots
 singles_given c of_bytes = record {
   kind = refl;
   short = λ n h. small n 9 (omega arith) h;
@@ -153,13 +148,10 @@ singles_given c of_bytes = record {
       (λ q. refl));
 }
 
-abbrev pub ExtentNamed : Content → ExtentKey → TreeKey → Type 0
-ExtentNamed c p k = ExtentRead c p k
-
 abbrev pub ExtentValued : Content → ℕ → ExtentKey → VersionMark → Value → Type 0
 ExtentValued c unit p x v = VersionRead c (fits_records unit p.low) x v
 
-pub extents_given : (c : Content) (unit : ℕ) → IsOfBytes c.bytes → Gives (extents unit) extent_level c (ExtentFits c unit) (ExtentNamed c) (ExtentValued c unit) chain_roots
+pub extents_given : (c : Content) (unit : ℕ) → IsOfBytes c.bytes → Gives (extents unit) extent_level c (ExtentFits c unit) (ExtentRead c) (ExtentValued c unit) chain_roots
 extents_given c unit of_bytes = record {
   kind = refl;
   short = λ n h. small n 13 (omega arith) h;

@@ -1,7 +1,7 @@
 -- The list of an entry that is read stands.
-use Rattle.std.proofs.Common.{◌≡◌, ◌≢◌, ℕ, zero, suc, ◌+◌, ◌-◌, ◌*◌, ◌≤◌, ◌<◌, ◌^◌, ◌==◌, ◌&&◌, not, Bool, true, false, List, [], ◌∷◌, ◌++◌, length, take, drop, Some, refl, sym, ap, ◌∙◌, subst, arith, inl, inr, append_assoc}
-use Rattle.std.specs.Prelude.{All, if◌then◌else◌, slice_index}
-use Rattle.std.proofs.lemmas.Bool.{cases_lt, ne_eqb}
+use Rattle.std.proofs.Common.{◌≡◌, ◌≢◌, ℕ, zero, suc, ◌+◌, ◌*◌, ◌≤◌, ◌<◌, ◌==◌, ◌&&◌, not, Bool, true, false, List, [], ◌∷◌, ◌++◌, length, take, drop, refl, sym, ap, ◌∙◌, subst, arith, inl, inr, append_assoc}
+use Rattle.std.specs.Prelude.{if◌then◌else◌, slice_index}
+use Rattle.std.proofs.lemmas.Bool.{cases_lt}
 use Rattle.std.proofs.lemmas.Bool.Decides.{nat_tests}
 use Rattle.std.proofs.lemmas.List.{append-nil, drop-drop, drop_all, drop_at, get_or_past, length-append, length-drop, take_all, take_at}
 use Rattle.std.proofs.lemmas.List.Elements.{All-cons, All-head, All-nil, All-tail}
@@ -24,7 +24,7 @@ use Rattle.vos_image.proofs.ChainsStand.{is_link_block}
 use Rattle.vos_image.proofs.Lists.{Pass}
 use Rattle.vos_image.proofs.Reading.{AreZero, IsLink, Tells, fresh, led_once, tells_given, tells_linked, tells_none, tells_quiet, tells_ruled, tells_then, tells_too, tells_zeros, zero_test}
 use Rattle.vos_image.proofs.Standing.{all_both, block_bytes, block_room, shown_is, taken_high, taken_low}
-use Rattle.vos_image.proofs.Steps.{Tally, none, root_tally}
+use Rattle.vos_image.proofs.Steps.{none, root_tally}
 
 -- ---- numbers
 
@@ -48,8 +48,8 @@ take_four n (a ∷ b ∷ []) h = absurd (omega (arith, h))
 take_four n (a ∷ b ∷ c ∷ []) h = absurd (omega (arith, h))
 take_four n (a ∷ b ∷ c ∷ d ∷ bs) h = let e : 4 + n ≡ suc (suc (suc (suc n))) = omega arith in ap (λ z. take z (a ∷ b ∷ c ∷ d ∷ bs)) e
 
-front_is : (k : ℕ) (ns bs : List ℕ) → AreBytes bs → 4 ≤ length bs → take (4 * length ns) (drop 4 bs) ≡ list_bytes ns → take (4 * length (big_number 4 bs ∷ ns)) bs ≡ list_bytes (big_number 4 bs ∷ ns)
-front_is k ns bs bytes room rest =
+front_is : (ns bs : List ℕ) → AreBytes bs → 4 ≤ length bs → take (4 * length ns) (drop 4 bs) ≡ list_bytes ns → take (4 * length (big_number 4 bs ∷ ns)) bs ≡ list_bytes (big_number 4 bs ∷ ns)
+front_is ns bs bytes room rest =
     let e : 4 * length (big_number 4 bs ∷ ns) ≡ 4 + 4 * length ns = omega arith in
     ap (λ z. take z bs) e ∙ (take_four (4 * length ns) bs room ∙ (ap (λ z. z ++ take (4 * length ns) (drop 4 bs)) (sym (number_back 4 bs bytes room)) ∙ ap (λ z. big_bytes 4 (big_number 4 bs) ++ z) rest))
 
@@ -72,7 +72,7 @@ one_more : (is_node : ℕ → Bool) (last : Bool) (n : ℕ) (bs so_far more : Li
 one_more is_node last n bs so_far more bytes room ne node new rest =
     let x = big_number 4 bs in
     let once = λ (was : (q : ℕ) → times q so_far ≤ 1) (q : ℕ).
-        rest.once (λ q. omega (arith, led_once x so_far new was q, times_one q x so_far, times-append q so_far (x ∷ []))) q in
+    rest.once (λ q. omega (arith, led_once x so_far new was q, times_one q x so_far, times-append q so_far (x ∷ []))) q in
     let few = rest.few in
     record {
       ns = x ∷ rest.ns;
@@ -82,7 +82,7 @@ one_more is_node last n bs so_far more bytes room ne node new rest =
       pass = All-cons (λ b. is_node b ≡ true) x rest.ns node rest.pass;
       once = λ was q. omega (arith, once was q, times-append q so_far (x ∷ []), times_one q x rest.ns);
       ends = λ less. rest.ends (omega (arith, less));
-      bytes = front_is n rest.ns bs bytes room rest.bytes;
+      bytes = front_is rest.ns bs bytes room rest.bytes;
       behind = λ less. back_is x rest.ns bs (rest.behind (omega (arith, less)));
       some = λ h k. omega arith;
     }

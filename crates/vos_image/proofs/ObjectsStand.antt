@@ -1,8 +1,8 @@
 -- Akeys, dkeys and objects that are read stand, with all that is below them.
-use Rattle.std.proofs.Common.{◌≡◌, ℕ, ◌+◌, ◌≤◌, ◌==◌, ◌&&◌, ◌||◌, nat_le, Bool, true, false, List, ◌++◌, Some, refl, sym, ap, ◌∙◌, subst, arith}
+use Rattle.std.proofs.Common.{◌≡◌, ℕ, ◌+◌, ◌≤◌, ◌==◌, ◌&&◌, ◌||◌, nat_le, Bool, true, false, List, ◌++◌, refl, sym, ap, ◌∙◌, arith}
 use Rattle.std.specs.Prelude.{All}
 use Rattle.std.proofs.lemmas.Bool.Decides.{nat_tests}
-use Rattle.pmem_pages.specs.Owners.{both, times, times-append}
+use Rattle.pmem_pages.specs.Owners.{times, times-append}
 use Rattle.pmem_pages.specs.declared.node.TreeKey.{TreeKey}
 use Rattle.pmem_pages.specs.declared.node.Value.{Value}
 use Rattle.vos_values.specs.declared.keys.Layout.{Layout}
@@ -11,7 +11,7 @@ use Rattle.vos_values.specs.declared.keys.ObjectKey.{ObjectKey}
 use Rattle.vos_values.specs.declared.values.AkeyRoots.{AkeyRoots}
 use Rattle.vos_values.specs.declared.values.Roots.{Roots}
 use Rattle.vos_values.specs.Fields.{IsByteKey, IsByteValue}
-use Rattle.vos_values.specs.Keys.{IsName, IsObjectKey, has_sizes, is_size, name_key, object_key}
+use Rattle.vos_values.specs.Keys.{IsName, IsObjectKey, has_sizes, name_key, object_key}
 use Rattle.vos_values.specs.Values.{IsAkeyRoots, IsRoots, akey_value, roots_value}
 use Rattle.vos_values.proofs.KeyLaws.{names_exact}
 use Rattle.vos_values.proofs.ObjectLaws.{objects_exact}
@@ -20,15 +20,15 @@ use Rattle.vos_levels.specs.Levels.{Hung, Level, hung, hung_root, things}
 use Rattle.vos_ilog.specs.Logs.{Log, log_level, log_owner}
 use Rattle.vos_single.specs.Singles.{single_level, single_owner}
 use Rattle.vos_extent.specs.Extents.{extent_level, extent_owner}
-use Rattle.vos_path.specs.Objects.{Akey, Below, Branch, Dkey, Object, Objects, akey_level, below_owner, below_roots, branch_level, dkey_level, object_level, objects_owner, values_roots}
+use Rattle.vos_path.specs.Objects.{Below, akey_level, below_owner, below_roots, dkey_level, object_level, objects_owner}
 use Rattle.vos_image.specs.Steps.{Step, ◌>>=◌, give}
 use Rattle.vos_image.specs.Laws.{IsOfBytes}
 use Rattle.vos_image.specs.Content.{Content, shown}
 use Rattle.vos_image.specs.Fits.{AkeyFits, DkeyFits, ExtentFits, LogFits, ObjectFits, SingleFits}
 use Rattle.vos_image.specs.Kinds.{akeys, dkeys, extents, is_name_length, is_object_length, logs, objects, read_akey_roots, read_name, read_object, read_roots, singles}
-use Rattle.vos_image.specs.Trees.{Kind, read_tree}
-use Rattle.vos_image.proofs.LevelsStand.{ExtentNamed, ExtentValued, MarkValued, MomentNamed, SingleValued, at_most_is, chain_roots, extents_given, logs_given, singles_given, small}
-use Rattle.vos_image.proofs.Reading.{IsLink, Tells, says_what, tells_given, tells_linked, tells_on, tells_ruled, tells_said, tells_then}
+use Rattle.vos_image.specs.Trees.{read_tree}
+use Rattle.vos_image.proofs.LevelsStand.{ExtentRead, ExtentValued, MarkValued, MomentRead, SingleValued, chain_roots, extents_given, logs_given, singles_given}
+use Rattle.vos_image.proofs.Reading.{IsLink, Tells, says_what, tells_given, tells_linked, tells_ruled, tells_said, tells_then}
 use Rattle.vos_image.proofs.Standing.{Gives, Made, StandsRead, tree_stands}
 use Rattle.vos_image.proofs.Steps.{Tally, none, root_tally}
 
@@ -36,13 +36,13 @@ use Rattle.vos_image.proofs.Steps.{Tally, none, root_tally}
 
 module _ (c : Content) (of_bytes : IsOfBytes c.bytes) where
   log_stands : (b : ℕ) → IsLink c b → Tells (read_tree logs c b) (StandsRead log_level c (LogFits c) b) (root_tally b) (λ g q. times q (log_owner.owned g))
-  log_stands b link = tree_stands logs log_level c (LogFits c) (MomentNamed c) MarkValued (λ _. none) (logs_given c) of_bytes b link
+  log_stands b link = tree_stands logs log_level c (LogFits c) (MomentRead c) MarkValued (λ _. none) (logs_given c) of_bytes b link
 
   singles_stand : (b : ℕ) → IsLink c b → Tells (read_tree singles c b) (StandsRead single_level c (SingleFits c) b) (root_tally b) (λ g q. times q (single_owner.owned g))
-  singles_stand b link = tree_stands singles single_level c (SingleFits c) (MomentNamed c) (SingleValued c) chain_roots (singles_given c of_bytes) of_bytes b link
+  singles_stand b link = tree_stands singles single_level c (SingleFits c) (MomentRead c) (SingleValued c) chain_roots (singles_given c of_bytes) of_bytes b link
 
   extents_stand : (unit b : ℕ) → IsLink c b → Tells (read_tree (extents unit) c b) (StandsRead extent_level c (ExtentFits c unit) b) (root_tally b) (λ g q. times q (extent_owner.owned g))
-  extents_stand unit b link = tree_stands (extents unit) extent_level c (ExtentFits c unit) (ExtentNamed c) (ExtentValued c unit) chain_roots (extents_given c unit of_bytes) of_bytes b link
+  extents_stand unit b link = tree_stands (extents unit) extent_level c (ExtentFits c unit) (ExtentRead c) (ExtentValued c unit) chain_roots (extents_given c unit of_bytes) of_bytes b link
 
 -- ---- names
 
@@ -105,7 +105,7 @@ akeys_given c unit of_bytes = record {
 
 -- ---- what has a log and a tree of further things
 
-pub record RootsRead (c : Content) (kind : ℕ) (r : Roots) (v : Value) : Type 0 where
+pub record RootsRead (c : Content) (r : Roots) (v : Value) : Type 0 where
   pub good : IsRoots r
   pub is : roots_value r ≡ v
   pub log : IsLink c r.log
@@ -114,12 +114,12 @@ pub record RootsRead (c : Content) (kind : ℕ) (r : Roots) (v : Value) : Type 0
 abbrev pub below_tally : Roots → Tally
 below_tally r q = root_tally r.log q + root_tally r.below q
 
-roots_told : {N : Type 0} (c : Content) (at kind : ℕ) (n : N) (v : Value) → ((r : Roots) → IsByteValue kind v → IsByteValue 1 v) → Tells (read_roots c at n v) (λ r. IsByteValue kind v → RootsRead c kind r v) none below_tally
+roots_told : {N : Type 0} (c : Content) (at kind : ℕ) (n : N) (v : Value) → (IsByteValue kind v → IsByteValue 1 v) → Tells (read_roots c at n v) (λ r. IsByteValue kind v → RootsRead c r v) none below_tally
 roots_told c at kind n v as_one =
     tells_said _ _ _ _ _ _ (λ r e.
     tells_linked c _ r.log _ _ _ _ (λ log.
     tells_linked c _ r.below _ _ _ _ (λ below.
-    tells_given _ _ _ _ (λ byte. let both = roots_exact.back v r (as_one r byte) e in record { good = both.0; is = both.1; log = log; below = below }) (λ q. omega arith))))
+    tells_given _ _ _ _ (λ byte. let both = roots_exact.back v r (as_one byte) e in record { good = both.0; is = both.1; log = log; below = below }) (λ q. omega arith))))
 
 two_rooted : (r : Roots) (log below : ℕ) → log ≡ r.log → below ≡ r.below → record { log = log; below = below } ≡ r
 two_rooted r log below a b = λ i. record { log = a i; below = b i }
@@ -147,14 +147,14 @@ below_stands L c Fits r x f P to of_bytes link tree fact count =
 -- ---- dkeys
 
 abbrev pub DkeyValued : Content → List ℕ → Roots → Value → Type 0
-DkeyValued c n r v = RootsRead c 2 r v
+DkeyValued c n r v = RootsRead c r v
 
 pub dkeys_given : (c : Content) (unit : ℕ) → IsOfBytes c.bytes → Gives (dkeys unit) dkey_level c (DkeyFits c unit) NameRead (DkeyValued c) below_tally
 dkeys_given c unit of_bytes = record {
   kind = refl;
   short = name_short c;
   name = name_told c;
-  value = λ at n v. roots_told c at 2 n v (λ r byte. record { value = record { fits = byte.value.fits; room = byte.value.room; rest = byte.value.rest }; are_bytes = byte.are_bytes });
+  value = λ at n v. roots_told c at 2 n v (λ byte. record { value = record { fits = byte.value.fits; room = byte.value.room; rest = byte.value.rest }; are_bytes = byte.are_bytes });
   thing = λ n r k v named valued.
       below_stands akey_level c (AkeyFits c unit) r (read_tree (akeys unit) c r.below) (λ log tree. record { name = n; holds = (log, tree) }) (Made dkey_level c (DkeyFits c unit) k v) (λ a q. times q (dkey_level.owner.owned a)) of_bytes valued.log
       (tree_stands (akeys unit) akey_level c (AkeyFits c unit) NameRead (AkeyValued c) akey_roots (akeys_given c unit of_bytes) of_bytes r.below valued.below)
@@ -187,18 +187,15 @@ in_any false false s h = let no : ⊥ = cc in absurd no
 good_in_two : (l : Layout) (o : ObjectKey) → IsObjectKey l o → IsObjectKey Two o
 good_in_two l o h = record { cont = h.cont; number = h.number; size = in_any (nat_le 1 o.obj.unit) (nat_le o.obj.unit 64) (has_sizes l || (o.obj.unit == 1)) h.size }
 
-abbrev pub ObjectNamed : Content → ObjectKey → TreeKey → Type 0
-ObjectNamed c o k = ObjectRead c o k
-
 abbrev pub ObjectValued : Content → ObjectKey → Roots → Value → Type 0
-ObjectValued c o r v = RootsRead c 1 r v
+ObjectValued c o r v = RootsRead c r v
 
-pub objects_given : (c : Content) → IsOfBytes c.bytes → Gives objects object_level c (ObjectFits c) (ObjectNamed c) (ObjectValued c) below_tally
+pub objects_given : (c : Content) → IsOfBytes c.bytes → Gives objects object_level c (ObjectFits c) (ObjectRead c) (ObjectValued c) below_tally
 objects_given c of_bytes = record {
   kind = refl;
   short = object_short c;
   name = object_told c;
-  value = λ at o v. roots_told c at 1 o v (λ r byte. byte);
+  value = λ at o v. roots_told c at 1 o v (λ byte. byte);
   thing = λ o r k v named valued.
       below_stands dkey_level c (DkeyFits c o.obj.unit) r (read_tree (dkeys o.obj.unit) c r.below) (λ log tree. record { name = o; holds = (log, tree) }) (Made object_level c (ObjectFits c) k v) (λ a q. times q (object_level.owner.owned a)) of_bytes valued.log
       (tree_stands (dkeys o.obj.unit) dkey_level c (DkeyFits c o.obj.unit) NameRead (DkeyValued c) below_tally (dkeys_given c o.obj.unit of_bytes) of_bytes r.below valued.below)
@@ -208,4 +205,4 @@ objects_given c of_bytes = record {
 
 -- Objects that are read stand below their root, with all that is below them.
 pub objects_stand : (c : Content) (b : ℕ) → IsOfBytes c.bytes → IsLink c b → Tells (read_tree objects c b) (StandsRead object_level c (ObjectFits c) b) (root_tally b) (λ g q. times q (objects_owner.owned g))
-objects_stand c b of_bytes link = tree_stands objects object_level c (ObjectFits c) (ObjectNamed c) (ObjectValued c) below_tally (objects_given c of_bytes) of_bytes b link
+objects_stand c b of_bytes link = tree_stands objects object_level c (ObjectFits c) (ObjectRead c) (ObjectValued c) below_tally (objects_given c of_bytes) of_bytes b link

@@ -1,5 +1,5 @@
 -- The fixed places lead to the two roots, and to no other block.
-use Rattle.std.proofs.Common.{◌≡◌, ◌≢◌, ℕ, zero, suc, ◌+◌, ◌≤◌, ◌==◌, ◌&&◌, not, Bool, true, false, List, [], ◌∷◌, ◌++◌, Option, Some, None, Result, Ok, Err, refl, sym, ap, ◌∙◌, subst, arith}
+use Rattle.std.proofs.Common.{◌≡◌, ℕ, zero, suc, ◌+◌, ◌≤◌, ◌==◌, Bool, true, false, List, [], ◌∷◌, ◌++◌, Result, Ok, Err, refl, sym, ap, ◌∙◌, subst, arith}
 use Rattle.std.specs.Prelude.{if◌then◌else◌}
 use Rattle.std.proofs.lemmas.List.{append-nil}
 use Rattle.base_outside.specs.Images.{Image}
@@ -7,12 +7,12 @@ use Rattle.base_types.specs.declared.snapshot.Snap.{Snap}
 use Rattle.daos_model.specs.declared.durable.ContRow.{ContRow}
 use Rattle.pmem_pages.specs.Counts.{times_none}
 use Rattle.pmem_pages.specs.Owners.{times}
-use Rattle.vos_image.specs.Steps.{Step, ◌>>=◌, fail, give, is_among, onward, rule, says, zeros}
+use Rattle.vos_image.specs.Steps.{Step, ◌>>=◌, fail, give, is_among, onward, rule, zeros}
 use Rattle.vos_image.specs.Content.{Content, is_taken, link}
 use Rattle.vos_image.specs.Laws.{root_blocks}
-use Rattle.vos_image.specs.Places.{Header, Places, header_in, magic, read_bytes, read_cont, read_conts, read_header, read_map, read_places, read_snap, read_snaps, zeros_at}
-use Rattle.vos_image.proofs.Reading.{IsLink, Tells, Told, linked_by, link_told, read_is}
-use Rattle.vos_image.proofs.Steps.{none, root_tally, some_block}
+use Rattle.vos_image.specs.Places.{Header, header_in, magic, read_bytes, read_cont, read_conts, read_header, read_map, read_places, read_snap, read_snaps}
+use Rattle.vos_image.proofs.Reading.{IsLink, linked_by, link_told, read_is}
+use Rattle.vos_image.proofs.Steps.{some_block}
 
 -- what follows of what a step reads after some blocks, and the blocks led to then
 pub record Ends {A : Type 0} (x : Step A) (led : List ℕ) (P : A → List ℕ → Type 0) : Type 0 where

@@ -1,33 +1,32 @@
 -- A tree that is read stands, with what its values lead to.
-use Rattle.std.proofs.Common.{◌≡◌, ◌≢◌, ℕ, zero, suc, ◌+◌, ◌-◌, ◌*◌, ◌≤◌, ◌<◌, ◌^◌, ◌/◌, min, max, ◌==◌, ◌&&◌, Bool, true, false, List, [], ◌∷◌, ◌++◌, length, take, drop, Option, Some, None, refl, sym, ap, ◌∙◌, subst, arith, inl, inr}
+use Rattle.std.proofs.Common.{◌≡◌, ◌≢◌, ℕ, zero, suc, ◌+◌, ◌-◌, ◌*◌, ◌≤◌, ◌<◌, ◌^◌, max, ◌==◌, ◌&&◌, Bool, true, false, List, [], ◌∷◌, ◌++◌, length, drop, Option, Some, None, refl, sym, ap, ◌∙◌, subst, arith, inl, inr}
 use Rattle.std.specs.Prelude.{if◌then◌else◌, slice_index, All}
 use Rattle.std.specs.declared.cmp.Ordering.{Ordering}
 use Rattle.std.specs.declared.cmp.Ordering.TheVariants.{Less, Equal, Greater}
-use Rattle.std.proofs.lemmas.Bool.{cases_lt, ne_eqb}
+use Rattle.std.proofs.lemmas.Bool.{cases_lt}
 use Rattle.std.proofs.lemmas.Bool.Decides.{nat_tests}
 use Rattle.std.proofs.lemmas.List.{get_or-drop, get_or_past, length-drop, length-take}
 use Rattle.std.proofs.lemmas.List.Elements.{All-cons, All-head, All-nil, All-tail}
-use Rattle.base_outside.specs.Images.{Image, bytes_at}
+use Rattle.base_outside.specs.Images.{bytes_at}
 use Rattle.base_outside.specs.ImageLaws.{get_or-bytes_at, length-bytes_at}
-use Rattle.byteorder.specs.Endian.{big_number}
 use Rattle.pmem_pages.specs.Counts.{times_none}
 use Rattle.pmem_pages.specs.Owners.{owned_each, stands_each, times, times-append}
 use Rattle.pmem_pages.specs.declared.node.Node.{Node}
 use Rattle.pmem_pages.specs.declared.node.TreeKey.{TreeKey}
 use Rattle.pmem_pages.specs.declared.node.Value.{Value}
-use Rattle.pmem_pages.specs.Node.{IsKey, IsNodeBlock, IsValue, ZeroFrom, key_cmp, node_bytes, node_of, value_len}
+use Rattle.pmem_pages.specs.Node.{IsKey, IsValue, ZeroFrom, key_cmp, node_bytes, node_of}
 use Rattle.pmem_pages.specs.Shape.{AllAbove, AllBelow, Balanced, Entry, Fork, Leaf, Rises, Shape, Stands, blocks_of, chosen, entries, height, node_at, root_of}
 use Rattle.pmem_pages.proofs.Compared.{take_bytes}
 use Rattle.pmem_pages.proofs.Lists.{AllAbove-lower, key_total}
 use Rattle.pmem_pages.proofs.Nodes.{node_back}
 use Rattle.vos_values.specs.Fields.{AreBytes, IsByteKey, IsByteValue}
 use Rattle.vos_values.proofs.Orders.{drop_bytes}
-use Rattle.vos_levels.specs.Levels.{Hung, IsHung, LeadToAll, LeadsTo, Level, hung}
+use Rattle.vos_levels.specs.Levels.{Hung, LeadToAll, LeadsTo, Level, hung}
 use Rattle.vos_image.specs.Steps.{Step, ◌>>=◌, fail, give, rule}
 use Rattle.vos_image.specs.Laws.{IsOfBytes}
 use Rattle.vos_image.specs.Content.{Content, block, is_taken, shown}
 use Rattle.vos_image.specs.Trees.{Fields, Kind, is_above, is_below, is_height, read_below, read_fields, read_tree, stored_height}
-use Rattle.vos_image.proofs.Reading.{AreZero, IsLink, Tells, tells_given, tells_linked, tells_none, tells_on, tells_quiet, tells_ruled, tells_then, tells_too, tells_zeros, zero_test}
+use Rattle.vos_image.proofs.Reading.{AreZero, IsLink, Tells, tells_given, tells_linked, tells_none, tells_quiet, tells_ruled, tells_then, tells_too, tells_zeros, zero_test}
 use Rattle.vos_image.proofs.Steps.{Tally, none, root_tally}
 use Rattle.vos_image.proofs.Trees.{Within, first_of_two, fork_tally, hung_tally, second_of_two}
 

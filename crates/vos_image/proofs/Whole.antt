@@ -1,13 +1,13 @@
 -- All that stands in an image is read.
-use Rattle.std.proofs.Common.{◌≡◌, ℕ, List, [], Ok, refl, sym, ap, subst, arith}
+use Rattle.std.proofs.Common.{◌≡◌, ℕ, List, [], Result, Ok, refl, sym, ap, subst, arith, ◌∙◌}
 use Rattle.pmem_pages.specs.Owners.{times, times-append}
 use Rattle.vos_path.specs.Objects.{Objects, objects_owner}
 use Rattle.vos_entries.specs.Entries.{Entries, entries_owner}
 use Rattle.vos_image.specs.Steps.{◌>>=◌, read_of}
 use Rattle.vos_image.specs.Content.{Content, content_of}
-use Rattle.vos_image.specs.Kept.{kept, kept_of, read_content, read_whole}
+use Rattle.vos_image.specs.Kept.{Whole, kept, kept_of, read_content, read_whole}
 use Rattle.vos_image.specs.Kinds.{entries, objects}
-use Rattle.vos_image.specs.Laws.{WhatStandsIsKept, WhatStandsIsRead, root_blocks}
+use Rattle.vos_image.specs.Laws.{NoOtherStands, WhatStandsIsKept, WhatStandsIsRead, root_blocks}
 use Rattle.vos_image.specs.Nodes.{nodes_in}
 use Rattle.vos_image.specs.Places.{Places, read_places}
 use Rattle.vos_image.specs.Trees.{read_tree}
@@ -36,6 +36,15 @@ stands_read target size f p x s =
     let first = one.passed (root_blocks p.header) (λ q some off. omega (arith, roots q, off, some, s.holds.apart q, split q, two.more q)) in
     let second = two.passed first.after (λ q some off. omega (arith, first.counted q, roots q, off, some, s.holds.apart q, split q, one.more q)) in
     ap read_of (steps target c p (root_blocks p.header) x.0 first.after x.1 second.after s.places first.is second.is)
+
+pub no_other_stands : NoOtherStands
+no_other_stands target size f x y s t =
+    let one = stands_read target size f x.places x.stored s in
+    let two = stands_read target size f y.places y.stored t in
+    same_read (read_content target size f) x y one two
+  where
+    same_read : (r : Result Whole ℕ) (v w : Whole) → r ≡ Ok v → r ≡ Ok w → v ≡ w
+    same_read r v w h k = let both : Ok v ≡ Ok w = sym h ∙ k in cc
 
 pub stands_kept : WhatStandsIsKept
 unfolding kept

@@ -1,18 +1,16 @@
 -- All that is read of an image stands in it.
-use Rattle.std.proofs.Common.{◌≡◌, ℕ, ◌+◌, ◌≤◌, List, [], ◌∷◌, ◌++◌, Result, Ok, Err, refl, sym, ap, ◌∙◌, subst, arith}
+use Rattle.std.proofs.Common.{◌≡◌, ℕ, List, [], Result, Ok, Err, refl, sym, ap, subst, arith}
 use Rattle.base_outside.specs.Images.{Image}
 use Rattle.pmem_pages.specs.Owners.{times, times-append}
 use Rattle.vos_path.specs.Objects.{Objects, object_level, objects_owner}
 use Rattle.vos_entries.specs.Entries.{Entries, entries_owner, entry_level}
-use Rattle.vos_image.specs.Steps.{Step, ◌>>=◌, give, read_of}
+use Rattle.vos_image.specs.Steps.{Step, read_of}
 use Rattle.vos_image.specs.Content.{Content, content_of}
 use Rattle.vos_image.specs.Fits.{EntryFits, ObjectFits}
 use Rattle.vos_image.specs.Kept.{Whole, read_content, read_whole}
-use Rattle.vos_image.specs.Kinds.{entries, objects}
-use Rattle.vos_image.specs.Laws.{HasStood, IsOfBytes, LayoutIsWhereSomeStand, Stands, WhatIsReadStands, root_blocks}
+use Rattle.vos_image.specs.Laws.{IsOfBytes, LayoutIsWhereSomeStand, Stands, WhatIsReadStands}
 use Rattle.vos_image.specs.Nodes.{nodes_in}
 use Rattle.vos_image.specs.Places.{Places, read_places}
-use Rattle.vos_image.specs.Trees.{read_tree}
 use Rattle.vos_image.proofs.EntriesStand.{entries_stand}
 use Rattle.vos_image.proofs.ObjectsStand.{objects_stand}
 use Rattle.vos_image.proofs.PlacesRead.{Ends, RootsLed, ends_given, ends_on, places_end}
@@ -67,7 +65,6 @@ module _ (target size : ℕ) (f : Image) where
       ends_on _ _ _ _ _ (ends_told _ _ _ _ led (objects_stand c p.header.objects of_bytes places.roots.objects)) (λ o mid first.
       ends_on _ _ _ _ _ (ends_told _ _ _ _ mid (entries_stand c (nodes_in o) p.header.entries of_bytes places.roots.entries)) (λ e after next.
       ends_given (record { places = p; stored = (o, e) }) after _ (all_stand p led o mid e after places first next))))
-
 
 pub read_stands : WhatIsReadStands
 unfolding read_content

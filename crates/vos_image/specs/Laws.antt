@@ -28,6 +28,10 @@ WhatStandsIsRead = (target size : ℕ) (f : Image) (p : Places) (x : Stored) →
 abbrev pub WhatStandsIsKept : Type 0
 WhatStandsIsKept = (target size : ℕ) (f : Image) (p : Places) (x : Stored) → Stands target size f p x → kept target size f ≡ durable_of (record { places = p; stored = x })
 
+-- so no two things stand in one content
+abbrev pub NoOtherStands : Type 0
+NoOtherStands = (target size : ℕ) (f : Image) (x y : Whole) → Stands target size f x.places x.stored → Stands target size f y.places y.stored → x ≡ y
+
 -- at each place stands a byte
 abbrev pub IsOfBytes : Image → Type 0
 IsOfBytes f = (i : ℕ) → f i < 256
