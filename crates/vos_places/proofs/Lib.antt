@@ -1,0 +1,5 @@
+pub mod Steps
+pub mod Bytes
+pub mod Conts
+pub mod Snaps
+pub mod Map

@@ -1,0 +1,5 @@
+// The fixed places of a pool as bytes, and what is read where such bytes are written over an image.
+#![tactic(auto)]
+
+pub mod codec;
+mod fields;
