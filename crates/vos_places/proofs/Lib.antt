@@ -3,3 +3,4 @@ pub mod Bytes
 pub mod Conts
 pub mod Snaps
 pub mod Map
+pub mod Header

@@ -1,6 +1,6 @@
 -- What a reading of a field says of the field, and the other way round.
-use Rattle.std.proofs.Common.{◌≡◌, ℕ, ◌+◌, ◌==◌, Bool, true, false, List, [], ◌∷◌, Ok, Err, zero, suc, replicate, subst, sym, refl}
-use Rattle.vos_image.specs.Steps.{Step, ◌>>=◌, give, rule, zeros}
+use Rattle.std.proofs.Common.{◌≡◌, ℕ, ◌+◌, ◌==◌, Bool, true, false, List, [], ◌∷◌, Result, Ok, Err, zero, suc, replicate, subst, sym, refl}
+use Rattle.vos_image.specs.Steps.{Step, ◌>>=◌, give, onward, rule, zeros}
 
 -- a rule that a reading went over holds
 pub rule_was : {B : Type 0} (at : ℕ) (t : Bool) (f : Unit {0} → Step B) (led : List ℕ) (r : B × List ℕ) → (rule at t >>= f) led ≡ Ok r → (t ≡ true) × (f tt led ≡ Ok r)
@@ -16,7 +16,7 @@ rule_goes at t f led r h k = rw h k
 abbrev pub AreZeros : ℕ → List ℕ → Type 0
 AreZeros at bs = (led : List ℕ) → zeros at bs led ≡ Ok (tt, led)
 
-first_was : {B : Type 0} (at : ℕ) (t : Bool) (x : Step (Unit {0})) (f : Unit {0} → Step B) (led : List ℕ) (r : B × List ℕ) → ((rule at t >>= λ _. x) >>= f) led ≡ Ok r → (t ≡ true) × ((x >>= f) led ≡ Ok r)
+pub first_was : {B : Type 0} (at : ℕ) (t : Bool) (x : Step (Unit {0})) (f : Unit {0} → Step B) (led : List ℕ) (r : B × List ℕ) → ((rule at t >>= λ _. x) >>= f) led ≡ Ok r → (t ≡ true) × ((x >>= f) led ≡ Ok r)
 unfolding ◌>>=◌ rule
 first_was at true x f led r h = (refl, h)
 first_was at false x f led r h = absurd (cc)
@@ -49,3 +49,18 @@ zeros_known at bs n is = subst (λ (z : List ℕ). AreZeros at z) (sym is) (only
 pub step_goes : {A B : Type 0} (x : Step A) (f : A → Step B) (a : A) (led after : List ℕ) (r : B × List ℕ) → x led ≡ Ok (a, after) → f a after ≡ Ok r → (x >>= f) led ≡ Ok r
 unfolding ◌>>=◌
 step_goes x f a led after r h k = rw h k
+
+-- what went before a reading that went well
+pub record Bound {A B : Type 0} (x : Step A) (f : A → Step B) (led : List ℕ) (r : B × List ℕ) : Type 0 where
+  pub given : A
+  pub after : List ℕ
+  pub first : x led ≡ Ok (given, after)
+  pub behind : f given after ≡ Ok r
+
+pub bound_was : {A B : Type 0} (x : Step A) (f : A → Step B) (led : List ℕ) (r : B × List ℕ) → (x >>= f) led ≡ Ok r → Bound x f led r
+unfolding ◌>>=◌
+bound_was {A = A} x f led r h = by (x led) refl h
+  where
+    by : (y : Result (A × List ℕ) ℕ) → x led ≡ y → onward y f ≡ Ok r → Bound x f led r
+    by (Ok q) e k = record { given = q.0; after = q.1; first = e; behind = k }
+    by (Err at) e k = absurd (cc)

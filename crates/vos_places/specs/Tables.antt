@@ -1,10 +1,10 @@
 -- The fixed places of an image one by one: what each of them holds, used or not.
-use Rattle.std.specs.Prelude.{◌≡◌, ◌≤◌, ◌<◌, ℕ, zero, suc, ◌+◌, ◌*◌, ◌==◌, false, true, List, [], ◌∷◌, ◌++◌, length, Option, Some, None, Ok}
+use Rattle.std.specs.Prelude.{◌≡◌, ◌≢◌, ℕ, ◌+◌, false, true, List, [], ◌∷◌, ◌++◌, length, Option, Some, None, Ok}
 use Rattle.std.specs.List.{list_any}
 use Rattle.base_types.specs.declared.snapshot.Snap.{Snap}
 use Rattle.daos_model.specs.declared.durable.ContRow.{ContRow}
 use Rattle.daos_model.specs.Durables.{is_row_of, new_row}
-use Rattle.vos_image.specs.Content.{Content}
+use Rattle.vos_image.specs.Content.{Content, is_taken}
 use Rattle.vos_image.specs.Laws.{root_blocks}
 use Rattle.vos_image.specs.Places.{Header, Places, is_new_snap, read_cont, read_header, read_map, read_snap, snap_in, zeros_at}
 
@@ -49,6 +49,12 @@ AreNewConts before (r ∷ rs) = (list_any (is_row_of r.cont) before ≡ false) �
 abbrev pub AreNewSnaps : List ContRow → List Snap → List Snap → Type 0
 AreNewSnaps rows before [] = Unit {0}
 AreNewSnaps rows before (s ∷ ss) = (is_new_snap rows before s ≡ true) × AreNewSnaps rows (before ++ s ∷ []) ss
+
+-- blocks of two roots, or 0 for none: taken, and not the same
+pub record AreRoots (c : Content) (a b : ℕ) : Type 0 where
+  pub first : a ≢ 0 → is_taken c a ≡ true
+  pub second : b ≢ 0 → is_taken c b ≡ true
+  pub apart : a ≢ 0 → b ≢ a
 
 -- The fixed places of a content hold this, place by place, and are as the layout asks.
 pub record TableStands (target : ℕ) (c : Content) (t : Table) : Type 0 where
