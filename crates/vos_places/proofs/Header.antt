@@ -112,10 +112,11 @@ header_was target c h after is =
     let eight = bound_was _ _ seven.after (h, after) seven.behind in
     let nine = zeros_were _ _ _ eight.after (h, after) eight.behind in
     let last = same_read _ (h, after) nine.1 in
+    let after_is : eight.after ≡ after = ap (λ z. z.1) last in
     record {
       rules = record { start = one.0; layout = two.0; target_is = three.0; gap = four.0; size = five.0; lease = six.0; rest = nine.0 };
       header = ap (λ z. z.0) last;
-      roots = record { middle = seven.after; objects = seven.first; entries = eight.first ∙ ap (λ (z : List ℕ). Ok (tt, z)) (ap (λ z. z.1) last) };
+      roots = record { middle = seven.after; objects = seven.first; entries = subst (λ (z : List ℕ). link c 44 (number c.bytes 44 4) seven.after ≡ Ok (tt, z)) after_is eight.first };
     }
 
 header_goes : (target : ℕ) (c : Content) (middle after : List ℕ) → HeaderRules target c → link c 40 (number c.bytes 40 4) [] ≡ Ok (tt, middle) → link c 44 (number c.bytes 44 4) middle ≡ Ok (tt, after) → read_header target c [] ≡ Ok (header_in c.bytes, after)

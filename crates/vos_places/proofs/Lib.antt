@@ -4,3 +4,4 @@ pub mod Conts
 pub mod Snaps
 pub mod Map
 pub mod Header
+pub mod Writing

@@ -33,6 +33,13 @@ zeros_were at (b ∷ bs) f led r h =
     let rest = zeros_were (at + 1) bs f led r one.1 in
     (first_zero at b bs one.0 rest.0, rest.1)
 
+-- zeros that were read once are read wherever the reading has been
+pub zeros_told : (at : ℕ) (bs led : List ℕ) → zeros at bs led ≡ Ok (tt, led) → AreZeros at bs
+zeros_told at [] led h = λ other. refl
+zeros_told at (b ∷ bs) led h =
+    let one = rule_was at (b == 0) (λ _. zeros (at + 1) bs) led (tt, led) h in
+    first_zero at b bs one.0 (zeros_told (at + 1) bs led one.1)
+
 pub zeros_go : {B : Type 0} (at : ℕ) (bs : List ℕ) (f : Unit {0} → Step B) (led : List ℕ) (r : B × List ℕ) → AreZeros at bs → f tt led ≡ Ok r → (zeros at bs >>= f) led ≡ Ok r
 unfolding ◌>>=◌
 zeros_go at bs f led r h k = rw (h led) k
