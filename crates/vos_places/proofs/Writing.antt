@@ -10,10 +10,10 @@ use Rattle.daos_model.specs.declared.durable.ContRow.{ContRow}
 use Rattle.vos_image.specs.Content.{Content, content_of, number}
 use Rattle.vos_image.specs.Laws.{root_blocks}
 use Rattle.vos_image.specs.Places.{Header, are_bits_right, read_conts, read_header, read_map, read_places, read_snaps, zeros_at}
-use Rattle.vos_image.specs.Steps.{zeros}
+use Rattle.vos_image.specs.Steps.{Step, zeros}
 use Rattle.vos_places.specs.declared.codec.Counters.{Counters}
 use Rattle.vos_places.specs.Codec.{AreCounters, IsContUnder, cont_bytes, counter_bytes, snap_bytes, with_counters}
-use Rattle.vos_places.specs.Laws.{BeyondStays, ContsAreWritten, CountersAreWritten, IsRightBeyond, IsWritten, Keeps, PlacesStay, SnapsAreGivenUp, SnapsAreWritten, TablesAreRead, cont_range, counter_range, covered_by, snap_range, unused_range}
+use Rattle.vos_places.specs.Laws.{BeyondStays, ContsAreWritten, CountersAreWritten, IsApart, IsRightBeyond, IsWritten, Keeps, PlacesStay, SnapsAreGivenUp, SnapsAreWritten, TablesAreRead, cont_range, counter_range, covered_by, snap_range, unused_range, with_snap}
 use Rattle.vos_places.specs.Tables.{AreRoots, HoldConts, HoldSnaps, HoldsCont, HoldsSnap, Table, TableStands, places_of, those}
 use Rattle.vos_places.proofs.Bytes.{Agree, first_known, same_number}
 use Rattle.vos_places.proofs.Conts.{cont_held, cont_stays, conts_read, conts_stay, read}
@@ -138,4 +138,124 @@ conts_written target size f g t i r s below u apart w beyond =
       low_zeros = zeros_as f g 28672 4096 (λ j low high. out j (omega arith) (inr (omega arith))) s.low_zeros;
       high_zeros = zeros_as f g 32769 4095 (λ j low high. out j (omega arith) (inr (omega arith))) s.high_zeros;
       map = beyond.map;
+    }
+
+-- ---- places of snapshots
+
+-- what a write among the places of snapshots leaves as it was
+record SnapsAlone (f g : Image) (q n : ℕ) : Type 0 where
+  out : (j : ℕ) → j < 36864 → (j < q) ⊎ (q + n ≤ j) → g j ≡ f j
+  low : 20480 ≤ q
+  high : q + n ≤ 28672
+
+snaps_changed : (target size : ℕ) (f g : Image) (t : Table) (i n : ℕ) (o : Option Snap) → Keeps target size f t → i < 256 → n ≤ 32 → IsApart (with_snap i o t) → SnapsAlone f g (20480 + 32 * i) n
+    → ((x : Option Snap) → HoldsSnap (content_of size f) (20480 + 32 * i) x → HoldsSnap (content_of size g) (20480 + 32 * i) o) → IsRightBeyond size g t.header → Keeps target size g (with_snap i o t)
+snaps_changed target size f g t i n o s below few apart alone new beyond =
+    let c = content_of size f in
+    let d = content_of size g in
+    let q = 20480 + 32 * i in
+    let front : (j : ℕ) → j < 20480 → g j ≡ f j = λ j low. alone.out j (omega arith) (inl (omega (arith, alone.low))) in
+    let covered = covered_as target size f g t s (λ j low. front j (omega arith)) in
+    let before = covered_as target size f f t s (λ j low. refl) in
+    record {
+      header = header_stays target c d t.header (root_blocks t.header) s.header (λ j low high. front j (omega arith)) refl beyond.roots;
+      many_conts = s.many_conts;
+      conts = conts_stay c d 4096 t.conts (λ j low high. front j (omega (arith, s.many_conts, high))) (omega (arith, covered, before)) s.conts;
+      new_conts = apart.0;
+      many_snaps = length-set t.snaps i o ∙ s.many_snaps;
+      snaps = snaps_set c d 20480 i q t.snaps o refl (omega (arith, s.many_snaps, below)) s.snaps new
+          (λ j low high beside_it. alone.out j (omega (arith, s.many_snaps, high)) (elim beside_it [
+            | inl e ↦ inl e
+            | inr e ↦ inr (omega (arith, few, e))
+          ]));
+      new_snaps = apart.1;
+      low_zeros = zeros_as f g 28672 4096 (λ j low high. alone.out j (omega arith) (inr (omega (arith, alone.high)))) s.low_zeros;
+      high_zeros = zeros_as f g 32769 4095 (λ j low high. alone.out j (omega arith) (inr (omega (arith, alone.high)))) s.high_zeros;
+      map = beyond.map;
+    }
+
+pub snaps_written : SnapsAreWritten
+snaps_written target size f g t i x s below u apart w beyond =
+    let q = 20480 + 32 * i in
+    let long = length_snap x in
+    let bytes : bytes_at g q 32 ≡ snap_bytes x = ap (bytes_at g q) (sym long) ∙ there (snap_range i x) f g w (omega arith) in
+    let alone : SnapsAlone f g q 32 = record {
+      out = λ j low out. beside (snap_range i x) f g j w low (elim out [
+        | inl e ↦ inl e
+        | inr e ↦ inr (omega (arith, long, e))
+      ]);
+      low = omega arith;
+      high = omega arith;
+    } in
+    snaps_changed target size f g t i 32 (Some x) s below (omega arith) apart alone (λ old h. snap_held (content_of size g) q x u bytes) beyond
+
+pub snaps_given_up : SnapsAreGivenUp
+snaps_given_up target size f g t i s below apart w beyond =
+    let q = 20480 + 32 * i in
+    let bytes : bytes_at g q 1 ≡ 0 ∷ [] = there (unused_range i) f g w (omega arith) in
+    let zero : g q ≡ 0 = first_known g q (0 ∷ []) bytes (omega arith) in
+    let alone : SnapsAlone f g q 1 = record { out = λ j low out. beside (unused_range i) f g j w low out; low = omega arith; high = omega arith } in
+    snaps_changed target size f g t i 1 None s below (omega arith) apart alone
+    (λ old h. snap_given_up (content_of size f) (content_of size g) q old zero (λ j low high. alone.out j (omega arith) (inr (omega arith))) h) beyond
+
+-- ---- counters
+
+pub counters_written : CountersAreWritten
+counters_written target size f g t n s u more w beyond =
+    let c = content_of size f in
+    let d = content_of size g in
+    let long = length_counters n in
+    let out = λ (j : ℕ). beside (counter_range n) f g j w in
+    let bytes : bytes_at g 24 24 ≡ counter_bytes n = ap (bytes_at g 24) (sym long) ∙ there (counter_range n) f g w (omega arith) in
+    let besides : SameBesides c d = record { front = λ j low high. out j (omega arith) (inl high); rest = λ j low high. out j (omega arith) (inr (omega arith)); size = refl } in
+    let header = counters_read target c d t.header n (root_blocks t.header) s.header besides u bytes beyond.roots in
+    let now : d.covered ≡ n.lease * 256 + 255 = ap (λ (k : ℕ). k * 256 + 255) (lease_read target d (with_counters n t.header) (root_blocks (with_counters n t.header)) header) in
+    let before : c.covered ≡ covered_by t.header = covered_as target size f f t s (λ j low. refl) in
+    record {
+      header = header;
+      many_conts = s.many_conts;
+      conts = conts_stay c d 4096 t.conts (λ j low high. out j (omega (arith, s.many_conts, high)) (inr (omega arith))) (omega (arith, now, before, more)) s.conts;
+      new_conts = s.new_conts;
+      many_snaps = s.many_snaps;
+      snaps = snaps_stay c d 20480 t.snaps (λ j low high. out j (omega (arith, s.many_snaps, high)) (inr (omega arith))) s.snaps;
+      new_snaps = s.new_snaps;
+      low_zeros = zeros_as f g 28672 4096 (λ j low high. out j (omega arith) (inr (omega arith))) s.low_zeros;
+      high_zeros = zeros_as f g 32769 4095 (λ j low high. out j (omega arith) (inr (omega arith))) s.high_zeros;
+      map = beyond.map;
+    }
+
+-- ---- writes elsewhere
+
+pub places_stay : PlacesStay
+places_stay target size f g t s same beyond =
+    let c = content_of size f in
+    let d = content_of size g in
+    let covered = covered_as target size f g t s (λ j low. same j (omega arith)) in
+    let before = covered_as target size f f t s (λ j low. refl) in
+    record {
+      header = header_stays target c d t.header (root_blocks t.header) s.header (λ j low high. same j (omega arith)) refl beyond.roots;
+      many_conts = s.many_conts;
+      conts = conts_stay c d 4096 t.conts (λ j low high. same j (omega (arith, s.many_conts, high))) (omega (arith, covered, before)) s.conts;
+      new_conts = s.new_conts;
+      many_snaps = s.many_snaps;
+      snaps = snaps_stay c d 20480 t.snaps (λ j low high. same j (omega (arith, s.many_snaps, high))) s.snaps;
+      new_snaps = s.new_snaps;
+      low_zeros = zeros_as f g 28672 4096 (λ j low high. same j (omega arith)) s.low_zeros;
+      high_zeros = zeros_as f g 32769 4095 (λ j low high. same j (omega arith)) s.high_zeros;
+      map = beyond.map;
+    }
+
+pub beyond_stays : BeyondStays
+beyond_stays target size f g t s same =
+    let c = content_of size f in
+    let d = content_of size g in
+    let m : SameMap c d = record { bytes = same; size = refl } in
+    let r = roots_read target c t.header (root_blocks t.header) s.header in
+    record {
+      map = ap (λ (x : Step (Unit {0})). x []) (map_as c d 0 16384 m) ∙ s.map;
+      roots = record {
+        first = λ some. taken_as c d t.header.objects m ∙ r.first some;
+        second = λ some. taken_as c d t.header.entries m ∙ r.second some;
+        apart = r.apart;
+      };
     }

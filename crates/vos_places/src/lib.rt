@@ -3,3 +3,4 @@
 
 pub mod codec;
 mod fields;
+pub mod laws;
