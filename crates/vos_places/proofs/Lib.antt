@@ -5,3 +5,4 @@ pub mod Snaps
 pub mod Map
 pub mod Header
 pub mod Writing
+pub mod Apart

@@ -1,8 +1,10 @@
 -- What is written over fixed places is what is read of them.
-use Rattle.std.specs.Prelude.{◌≡◌, ◌≤◌, ◌<◌, ℕ, ◌+◌, ◌*◌, List, [], ◌∷◌, Option, Some, None, Ok, set}
+use Rattle.std.specs.Prelude.{◌≡◌, ◌≤◌, ◌<◌, ℕ, ◌+◌, ◌*◌, false, List, [], ◌∷◌, Option, Some, None, Ok, get_or, length, set}
+use Rattle.std.specs.List.{list_any}
 use Rattle.base_outside.specs.Images.{Image, Range, over}
 use Rattle.base_types.specs.declared.snapshot.Snap.{Snap}
 use Rattle.daos_model.specs.declared.durable.ContRow.{ContRow}
+use Rattle.daos_model.specs.Durables.{is_row_of}
 use Rattle.vos_image.specs.Content.{content_of}
 use Rattle.vos_image.specs.Laws.{root_blocks}
 use Rattle.vos_image.specs.Places.{Header, read_map, read_places}
@@ -85,3 +87,20 @@ PlacesStay = (target size : ℕ) (f g : Image) (t : Table) → Keeps target size
 -- and beyond them all is right where nothing is written there
 abbrev pub BeyondStays : Type 0
 BeyondStays = (target size : ℕ) (f g : Image) (t : Table) → Keeps target size f t → ((i : ℕ) → 307200 ≤ i → g i ≡ f i) → IsRightBeyond size g t.header
+
+-- ---- no container and no snapshot twice, after a change
+
+-- a container's row changes in its place
+abbrev pub RowsChange : Type 0
+RowsChange = (t : Table) (i : ℕ) (old r : ContRow) → IsApart t → get_or t.conts i None ≡ Some old → r.cont ≡ old.cont → IsApart (with_cont i r t)
+
+-- a new container comes to an unused place
+abbrev pub RowsCome : Type 0
+RowsCome = (t : Table) (i : ℕ) (r : ContRow) → IsApart t → i < length t.conts → get_or t.conts i None ≡ None → list_any (is_row_of r.cont) (those t.conts) ≡ false → IsApart (with_cont i r t)
+
+-- a snapshot changes in its place, and one goes
+abbrev pub SnapsChange : Type 0
+SnapsChange = (t : Table) (i : ℕ) (old s : Snap) → IsApart t → get_or t.snaps i None ≡ Some old → s.cont ≡ old.cont → s.epoch ≡ old.epoch → IsApart (with_snap i (Some s) t)
+
+abbrev pub SnapsGo : Type 0
+SnapsGo = (t : Table) (i : ℕ) → IsApart t → IsApart (with_snap i None t)

@@ -1,5 +1,5 @@
 // What is written over the fixed places of an image is what is read of it.
-ghost use Rattle.vos_places.specs.Laws.{BeyondStays, ContsAreWritten, CountersAreWritten, PlacesStay, SnapsAreGivenUp, SnapsAreWritten, TablesAreRead};
+ghost use Rattle.vos_places.specs.Laws.{BeyondStays, ContsAreWritten, CountersAreWritten, PlacesStay, RowsChange, RowsCome, SnapsAreGivenUp, SnapsAreWritten, SnapsChange, SnapsGo, TablesAreRead};
 
 /// Where the places of an image hold a table, place by place, all of it is read of the image.
 pub fn tables_are_read()
@@ -16,4 +16,13 @@ pub fn places_are_written()
     ensures counters { CountersAreWritten }
     ensures others { PlacesStay }
     ensures beyond { BeyondStays }
+{}
+
+/// A table has no container and no snapshot twice after a row changed or came, and after a snapshot
+/// changed or went.
+pub fn tables_stay_apart()
+    ensures change { RowsChange }
+    ensures come { RowsCome }
+    ensures snap_change { SnapsChange }
+    ensures snap_go { SnapsGo }
 {}
