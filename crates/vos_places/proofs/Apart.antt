@@ -11,7 +11,7 @@ use Rattle.base_types.specs.declared.snapshot.Snap.{Snap}
 use Rattle.daos_model.specs.declared.durable.ContRow.{ContRow}
 use Rattle.daos_model.specs.Durables.{is_row_of, is_snap_at}
 use Rattle.vos_image.specs.Places.{is_new_snap}
-use Rattle.vos_places.specs.Laws.{IsApart, RowsChange, RowsCome, SnapsChange, SnapsGo}
+use Rattle.vos_places.specs.Laws.{IsApart, RowsChange, RowsCome, SnapsChange, SnapsCome, SnapsGo}
 use Rattle.vos_places.specs.Tables.{AreNewConts, AreNewSnaps, Table, those}
 
 -- ---- what rows are told apart by
@@ -242,3 +242,49 @@ change_new rows (Some x ∷ os) (suc i) old s a is k l n = (n.0, change_new rows
 
 pub snaps_change : SnapsChange
 snaps_change t i old s apart is k l = (apart.0, change_new (those t.conts) t.snaps i old s [] is k l apart.1)
+
+-- ---- a snapshot more
+
+eqb_turned : (a b : ℕ) → (a == b) ≡ (b == a)
+eqb_turned a b = by (a == b) (b == a) refl refl
+  where
+    by : (s t : Bool) → (a == b) ≡ s → (b == a) ≡ t → s ≡ t
+    by true true h k = refl
+    by false false h k = refl
+    by true false h k = let no : true ≡ false = sym h ∙ turned_not b a k in absurd (cc)
+    by false true h k = let no : true ≡ false = sym k ∙ turned_not a b h in absurd (cc)
+
+at_turned : (x y : Snap) → is_snap_at x.cont x.epoch y ≡ is_snap_at y.cont y.epoch x
+at_turned x y = rw (eqb_turned y.cont.0 x.cont.0, eqb_turned y.epoch.0 x.epoch.0) refl
+
+with_snap_more : (s : Snap) (a b : List Snap) (x : Snap) → WithSnap s a b → WithSnap s (a ++ x ∷ []) (b ++ x ∷ [])
+with_snap_more s a b x f c e other h =
+    let all = sym (snaps_more a x c e) ∙ h in
+    let one = first_not (list_any (is_snap_at c e) a) (is_snap_at c e x || false) all in
+    let two = then_not (list_any (is_snap_at c e) a) (is_snap_at c e x || false) all in
+    snaps_more b x c e ∙ both_false (list_any (is_snap_at c e) b) (is_snap_at c e x || false) (f c e other one) two
+
+with_snap_last : (s : Snap) (a : List Snap) → WithSnap s a (a ++ s ∷ [])
+with_snap_last s a c e other h = snaps_more a s c e ∙ both_false (list_any (is_snap_at c e) a) (is_snap_at c e s || false) h (both_false (is_snap_at c e s) false other refl)
+
+still_new_snaps : (rows : List ContRow) (s : Snap) (a b ys : List Snap) → WithSnap s a b → AreNewSnaps rows a ys → list_any (is_snap_at s.cont s.epoch) ys ≡ false → AreNewSnaps rows b ys
+still_new_snaps rows s a b [] f n k = tt
+still_new_snaps rows s a b (y ∷ ys) f n k =
+    let here = first_not (is_snap_at s.cont s.epoch y) (list_any (is_snap_at s.cont s.epoch) ys) k in
+    let other : is_snap_at y.cont y.epoch s ≡ false = at_turned y s ∙ here in
+    (apart_from (list_any (is_row_of y.cont) rows) (list_any (is_snap_at y.cont y.epoch) a) (list_any (is_snap_at y.cont y.epoch) b) n.0 (f y.cont y.epoch other),
+    still_new_snaps rows s (a ++ y ∷ []) (b ++ y ∷ []) ys (with_snap_more s a b y f) n.1 (then_not (is_snap_at s.cont s.epoch y) (list_any (is_snap_at s.cont s.epoch) ys) k))
+
+come_new_snap : (rows : List ContRow) (os : List (Option Snap)) (i : ℕ) (s : Snap) (a : List Snap) → i < length os → get_or os i None ≡ None → AreNewSnaps rows a (those os) → list_any (is_row_of s.cont) rows ≡ true → list_any (is_snap_at s.cont s.epoch) a ≡ false → list_any (is_snap_at s.cont s.epoch) (those os) ≡ false
+    → AreNewSnaps rows a (those (set os i (Some s)))
+come_new_snap rows [] i s a below is n r k m = absurd (omega arith)
+come_new_snap rows (None ∷ os) zero s a below is n r k m = (rw (r, k) refl, still_new_snaps rows s a (a ++ s ∷ []) (those os) (with_snap_last s a) n m)
+come_new_snap rows (Some x ∷ os) zero s a below is n r k m = absurd (cc)
+come_new_snap rows (None ∷ os) (suc i) s a below is n r k m = come_new_snap rows os i s a (omega arith) is n r k m
+come_new_snap rows (Some x ∷ os) (suc i) s a below is n r k m =
+    let here = first_not (is_snap_at s.cont s.epoch x) (list_any (is_snap_at s.cont s.epoch) (those os)) m in
+    let none = snaps_more a x s.cont s.epoch ∙ both_false (list_any (is_snap_at s.cont s.epoch) a) (is_snap_at s.cont s.epoch x || false) k (both_false (is_snap_at s.cont s.epoch x) false here refl) in
+    (n.0, come_new_snap rows os i s (a ++ x ∷ []) (omega arith) is n.1 r none (then_not (is_snap_at s.cont s.epoch x) (list_any (is_snap_at s.cont s.epoch) (those os)) m))
+
+pub snaps_come : SnapsCome
+snaps_come t i s apart below is there new = (apart.0, come_new_snap (those t.conts) t.snaps i s [] below is apart.1 there refl new)

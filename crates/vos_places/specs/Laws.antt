@@ -1,10 +1,10 @@
 -- What is written over fixed places is what is read of them.
-use Rattle.std.specs.Prelude.{◌≡◌, ◌≤◌, ◌<◌, ℕ, ◌+◌, ◌*◌, false, List, [], ◌∷◌, Option, Some, None, Ok, get_or, length, set}
+use Rattle.std.specs.Prelude.{◌≡◌, ◌≤◌, ◌<◌, ℕ, ◌+◌, ◌*◌, true, false, List, [], ◌∷◌, Option, Some, None, Ok, get_or, length, set}
 use Rattle.std.specs.List.{list_any}
 use Rattle.base_outside.specs.Images.{Image, Range, over}
 use Rattle.base_types.specs.declared.snapshot.Snap.{Snap}
 use Rattle.daos_model.specs.declared.durable.ContRow.{ContRow}
-use Rattle.daos_model.specs.Durables.{is_row_of}
+use Rattle.daos_model.specs.Durables.{is_row_of, is_snap_at}
 use Rattle.vos_image.specs.Content.{content_of}
 use Rattle.vos_image.specs.Laws.{root_blocks}
 use Rattle.vos_image.specs.Places.{Header, read_map, read_places}
@@ -97,6 +97,10 @@ RowsChange = (t : Table) (i : ℕ) (old r : ContRow) → IsApart t → get_or t.
 -- a new container comes to an unused place
 abbrev pub RowsCome : Type 0
 RowsCome = (t : Table) (i : ℕ) (r : ContRow) → IsApart t → i < length t.conts → get_or t.conts i None ≡ None → list_any (is_row_of r.cont) (those t.conts) ≡ false → IsApart (with_cont i r t)
+
+-- a new snapshot of a container in the table comes to an unused place
+abbrev pub SnapsCome : Type 0
+SnapsCome = (t : Table) (i : ℕ) (s : Snap) → IsApart t → i < length t.snaps → get_or t.snaps i None ≡ None → list_any (is_row_of s.cont) (those t.conts) ≡ true → list_any (is_snap_at s.cont s.epoch) (those t.snaps) ≡ false → IsApart (with_snap i (Some s) t)
 
 -- a snapshot changes in its place, and one goes
 abbrev pub SnapsChange : Type 0

@@ -1,9 +1,11 @@
 -- The fixed places of an image one by one: what each of them holds, used or not.
-use Rattle.std.specs.Prelude.{◌≡◌, ◌≢◌, ℕ, ◌+◌, false, true, List, [], ◌∷◌, ◌++◌, length, Option, Some, None, Ok}
+use Rattle.std.specs.Prelude.{◌≡◌, ◌≢◌, ℕ, ◌+◌, Bool, false, true, List, [], ◌∷◌, ◌++◌, length, Option, Some, None, Ok}
 use Rattle.std.specs.List.{list_any}
+use Rattle.base_types.specs.declared.epoch.Epoch.{Epoch}
+use Rattle.base_types.specs.declared.id.ContId.{ContId}
 use Rattle.base_types.specs.declared.snapshot.Snap.{Snap}
 use Rattle.daos_model.specs.declared.durable.ContRow.{ContRow}
-use Rattle.daos_model.specs.Durables.{is_row_of, new_row}
+use Rattle.daos_model.specs.Durables.{is_row_of, is_snap_at, new_row}
 use Rattle.vos_image.specs.Content.{Content, is_taken}
 use Rattle.vos_image.specs.Laws.{root_blocks}
 use Rattle.vos_image.specs.Places.{Header, Places, is_new_snap, read_cont, read_header, read_map, read_snap, snap_in, zeros_at}
@@ -19,6 +21,19 @@ abbrev pub those : {A : Type 0} → List (Option A) → List A
 those [] = []
 those (None ∷ os) = those os
 those (Some a ∷ os) = a ∷ those os
+
+-- a place is unused, has a container, has a snapshot
+abbrev pub is_unused : {A : Type 0} → Option A → Bool
+is_unused None = true
+is_unused (Some a) = false
+
+abbrev pub is_cont_at : ContId → Option ContRow → Bool
+is_cont_at c None = false
+is_cont_at c (Some r) = is_row_of c r
+
+abbrev pub is_held_at : ContId → Epoch → Option Snap → Bool
+is_held_at c e None = false
+is_held_at c e (Some s) = is_snap_at c e s
 
 -- what is read of them all
 abbrev pub places_of : Table → Places

@@ -1,5 +1,5 @@
 // What is written over the fixed places of an image is what is read of it.
-ghost use Rattle.vos_places.specs.Laws.{BeyondStays, ContsAreWritten, CountersAreWritten, PlacesStay, RowsChange, RowsCome, SnapsAreGivenUp, SnapsAreWritten, SnapsChange, SnapsGo, TablesAreRead};
+ghost use Rattle.vos_places.specs.Laws.{BeyondStays, ContsAreWritten, CountersAreWritten, PlacesStay, RowsChange, RowsCome, SnapsAreGivenUp, SnapsAreWritten, SnapsChange, SnapsCome, SnapsGo, TablesAreRead};
 
 /// Where the places of an image hold a table, place by place, all of it is read of the image.
 pub fn tables_are_read()
@@ -19,10 +19,11 @@ pub fn places_are_written()
 {}
 
 /// A table has no container and no snapshot twice after a row changed or came, and after a snapshot
-/// changed or went.
+/// came, changed or went.
 pub fn tables_stay_apart()
     ensures change { RowsChange }
     ensures come { RowsCome }
+    ensures snap_come { SnapsCome }
     ensures snap_change { SnapsChange }
     ensures snap_go { SnapsGo }
 {}

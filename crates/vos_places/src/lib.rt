@@ -4,3 +4,4 @@
 pub mod codec;
 mod fields;
 pub mod laws;
+pub mod seek;
