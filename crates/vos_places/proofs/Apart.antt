@@ -1,5 +1,5 @@
 -- After a change no container is twice in a table, and no snapshot.
-use Rattle.std.proofs.Common.{◌≡◌, ◌≢◌, ℕ, zero, suc, ◌<◌, ◌==◌, ◌&&◌, ◌||◌, not, Bool, true, false, List, [], ◌∷◌, ◌++◌, Option, Some, None, length, get_or, map, refl, sym, ap, subst, ◌∙◌, arith, append_assoc, inl, inr}
+use Rattle.std.proofs.Common.{◌≡◌, ℕ, zero, suc, ◌<◌, ◌==◌, ◌&&◌, ◌||◌, not, Bool, true, false, List, [], ◌∷◌, ◌++◌, Option, Some, None, length, get_or, refl, sym, ap, subst, ◌∙◌, arith, inl, inr}
 use Rattle.std.specs.Prelude.{set}
 use Rattle.std.specs.List.{list_any}
 use Rattle.std.proofs.lemmas.Bool.{ne_eqb}
@@ -11,8 +11,8 @@ use Rattle.base_types.specs.declared.snapshot.Snap.{Snap}
 use Rattle.daos_model.specs.declared.durable.ContRow.{ContRow}
 use Rattle.daos_model.specs.Durables.{is_row_of, is_snap_at}
 use Rattle.vos_image.specs.Places.{is_new_snap}
-use Rattle.vos_places.specs.Laws.{IsApart, RowsChange, RowsCome, SnapsChange, SnapsCome, SnapsGo}
-use Rattle.vos_places.specs.Tables.{AreNewConts, AreNewSnaps, Table, those}
+use Rattle.vos_places.specs.Laws.{RowsChange, RowsCome, SnapsChange, SnapsCome, SnapsGo}
+use Rattle.vos_places.specs.Tables.{AreNewConts, AreNewSnaps, those}
 
 -- ---- what rows are told apart by
 
@@ -44,9 +44,10 @@ alike_new : (a b xs ys : List ContRow) → Alike a b → Alike xs ys → AreNewC
 alike_new a b [] [] k h n = tt
 alike_new a b [] (y ∷ ys) k h n = absurd h
 alike_new a b (x ∷ xs) [] k h n = absurd h
-alike_new a b (x ∷ xs) (y ∷ ys) k h n =
-    (ap (λ (c : ContId). list_any (is_row_of c) b) h.0 ∙ (alike_any x.cont a b k ∙ n.0),
-    alike_new (a ++ x ∷ []) (b ++ y ∷ []) xs ys (alike_more a b x y k h.0) h.1 n.1)
+alike_new a b (x ∷ xs) (y ∷ ys) k h n = (
+  ap (λ (c : ContId). list_any (is_row_of c) b) h.0 ∙ (alike_any x.cont a b k ∙ n.0),
+  alike_new (a ++ x ∷ []) (b ++ y ∷ []) xs ys (alike_more a b x y k h.0) h.1 n.1,
+)
 
 set_alike : (os : List (Option ContRow)) (i : ℕ) (old r : ContRow) → get_or os i None ≡ Some old → r.cont ≡ old.cont → Alike (those os) (those (set os i (Some r)))
 set_alike [] i old r is e = absurd (let no : None ≡ Some old = is in cc)
@@ -67,15 +68,17 @@ both_true false b c h k = absurd (cc)
 
 covered_snaps : (a b : List ContRow) (before ss : List Snap) → Covers a b → AreNewSnaps a before ss → AreNewSnaps b before ss
 covered_snaps a b before [] h n = tt
-covered_snaps a b before (s ∷ ss) h n =
-    (both_true (list_any (is_row_of s.cont) a) (not (list_any (is_snap_at s.cont s.epoch) before)) (list_any (is_row_of s.cont) b) (h s.cont) n.0,
-    covered_snaps a b (before ++ s ∷ []) ss h n.1)
+covered_snaps a b before (s ∷ ss) h n = (
+  both_true (list_any (is_row_of s.cont) a) (not (list_any (is_snap_at s.cont s.epoch) before)) (list_any (is_row_of s.cont) b) (h s.cont) n.0,
+  covered_snaps a b (before ++ s ∷ []) ss h n.1,
+)
 
 pub rows_change : RowsChange
 rows_change t i old r apart is e =
-    let k = set_alike t.conts i old r is e in
-    (alike_new [] [] (those t.conts) (those (set t.conts i (Some r))) tt k apart.0,
-    covered_snaps (those t.conts) (those (set t.conts i (Some r))) [] (those t.snaps) (λ c h. alike_any c (those t.conts) (those (set t.conts i (Some r))) k ∙ h) apart.1)
+    let k = set_alike t.conts i old r is e in (
+      alike_new [] [] (those t.conts) (those (set t.conts i (Some r))) tt k apart.0,
+      covered_snaps (those t.conts) (those (set t.conts i (Some r))) [] (those t.snaps) (λ c h. alike_any c (those t.conts) (those (set t.conts i (Some r))) k ∙ h) apart.1,
+    )
 
 -- ---- a row more
 
@@ -132,9 +135,10 @@ turned_not a b h =
 still_new : (r : ContRow) (a b ys : List ContRow) → With r a b → AreNewConts a ys → list_any (is_row_of r.cont) ys ≡ false → AreNewConts b ys
 still_new r a b [] h n k = tt
 still_new r a b (y ∷ ys) h n k =
-    let other : (r.cont.0 == y.cont.0) ≡ false = turned_not y.cont.0 r.cont.0 (first_not (y.cont.0 == r.cont.0) (list_any (is_row_of r.cont) ys) k) in
-    (h y.cont ∙ rw (other, n.0) refl,
-    still_new r (a ++ y ∷ []) (b ++ y ∷ []) ys (with_more r a b y h) n.1 (then_not (y.cont.0 == r.cont.0) (list_any (is_row_of r.cont) ys) k))
+    let other : (r.cont.0 == y.cont.0) ≡ false = turned_not y.cont.0 r.cont.0 (first_not (y.cont.0 == r.cont.0) (list_any (is_row_of r.cont) ys) k) in (
+      h y.cont ∙ rw (other, n.0) refl,
+      still_new r (a ++ y ∷ []) (b ++ y ∷ []) ys (with_more r a b y h) n.1 (then_not (y.cont.0 == r.cont.0) (list_any (is_row_of r.cont) ys) k),
+    )
 
 come_new : (os : List (Option ContRow)) (i : ℕ) (r : ContRow) (a : List ContRow) → i < length os → get_or os i None ≡ None → AreNewConts a (those os) → list_any (is_row_of r.cont) a ≡ false → list_any (is_row_of r.cont) (those os) ≡ false
     → AreNewConts a (those (set os i (Some r)))
@@ -163,9 +167,10 @@ come_covers (Some x ∷ os) (suc i) r is c h = behind_it (x.cont.0 == c.0) (list
     behind_it false t u f k = f k
 
 pub rows_come : RowsCome
-rows_come t i r apart below is new =
-    (come_new t.conts i r [] below is apart.0 refl new,
-    covered_snaps (those t.conts) (those (set t.conts i (Some r))) [] (those t.snaps) (come_covers t.conts i r is) apart.1)
+rows_come t i r apart below is new = (
+  come_new t.conts i r [] below is apart.0 refl new,
+  covered_snaps (those t.conts) (those (set t.conts i (Some r))) [] (those t.snaps) (come_covers t.conts i r is) apart.1,
+)
 
 -- ---- snapshots
 
@@ -202,9 +207,10 @@ fewer_more a b x f c e h =
 
 fewer_snaps : (rows : List ContRow) (a b ss : List Snap) → Fewer a b → AreNewSnaps rows a ss → AreNewSnaps rows b ss
 fewer_snaps rows a b [] f n = tt
-fewer_snaps rows a b (s ∷ ss) f n =
-    (apart_from (list_any (is_row_of s.cont) rows) (list_any (is_snap_at s.cont s.epoch) a) (list_any (is_snap_at s.cont s.epoch) b) n.0 (f s.cont s.epoch),
-    fewer_snaps rows (a ++ s ∷ []) (b ++ s ∷ []) ss (fewer_more a b s f) n.1)
+fewer_snaps rows a b (s ∷ ss) f n = (
+  apart_from (list_any (is_row_of s.cont) rows) (list_any (is_snap_at s.cont s.epoch) a) (list_any (is_snap_at s.cont s.epoch) b) n.0 (f s.cont s.epoch),
+  fewer_snaps rows (a ++ s ∷ []) (b ++ s ∷ []) ss (fewer_more a b s f) n.1,
+)
 
 without_last : (a : List Snap) (x : Snap) → Fewer (a ++ x ∷ []) a
 without_last a x c e h = first_not (list_any (is_snap_at c e) a) (is_snap_at c e x || false) (sym (snaps_more a x c e) ∙ h)
@@ -271,9 +277,10 @@ still_new_snaps : (rows : List ContRow) (s : Snap) (a b ys : List Snap) → With
 still_new_snaps rows s a b [] f n k = tt
 still_new_snaps rows s a b (y ∷ ys) f n k =
     let here = first_not (is_snap_at s.cont s.epoch y) (list_any (is_snap_at s.cont s.epoch) ys) k in
-    let other : is_snap_at y.cont y.epoch s ≡ false = at_turned y s ∙ here in
-    (apart_from (list_any (is_row_of y.cont) rows) (list_any (is_snap_at y.cont y.epoch) a) (list_any (is_snap_at y.cont y.epoch) b) n.0 (f y.cont y.epoch other),
-    still_new_snaps rows s (a ++ y ∷ []) (b ++ y ∷ []) ys (with_snap_more s a b y f) n.1 (then_not (is_snap_at s.cont s.epoch y) (list_any (is_snap_at s.cont s.epoch) ys) k))
+    let other : is_snap_at y.cont y.epoch s ≡ false = at_turned y s ∙ here in (
+      apart_from (list_any (is_row_of y.cont) rows) (list_any (is_snap_at y.cont y.epoch) a) (list_any (is_snap_at y.cont y.epoch) b) n.0 (f y.cont y.epoch other),
+      still_new_snaps rows s (a ++ y ∷ []) (b ++ y ∷ []) ys (with_snap_more s a b y f) n.1 (then_not (is_snap_at s.cont s.epoch y) (list_any (is_snap_at s.cont s.epoch) ys) k),
+    )
 
 come_new_snap : (rows : List ContRow) (os : List (Option Snap)) (i : ℕ) (s : Snap) (a : List Snap) → i < length os → get_or os i None ≡ None → AreNewSnaps rows a (those os) → list_any (is_row_of s.cont) rows ≡ true → list_any (is_snap_at s.cont s.epoch) a ≡ false → list_any (is_snap_at s.cont s.epoch) (those os) ≡ false
     → AreNewSnaps rows a (those (set os i (Some s)))

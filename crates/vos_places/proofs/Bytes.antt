@@ -1,5 +1,5 @@
 -- Numbers and bytes of an image whose bytes from a place on are known.
-use Rattle.std.proofs.Common.{◌≡◌, ℕ, ◌+◌, ◌≤◌, ◌<◌, ◌^◌, List, [], ◌++◌, length, take, drop, get_or, refl, sym, ap, ◌∙◌, arith}
+use Rattle.std.proofs.Common.{◌≡◌, ℕ, ◌+◌, ◌≤◌, ◌<◌, ◌^◌, List, [], length, take, drop, get_or, sym, ap, ◌∙◌, arith}
 use Rattle.std.proofs.lemmas.List.{append-nil}
 use Rattle.base_outside.specs.ImageLaws.{get_or-bytes_at, part_at, same_bytes_at}
 use Rattle.base_outside.specs.Images.{Image, bytes_at}

@@ -1,5 +1,5 @@
 -- Places of containers: what was written is held, and what isn't written stays.
-use Rattle.std.proofs.Common.{◌≡◌, ℕ, ◌+◌, ◌*◌, ◌≤◌, ◌<◌, ◌^◌, ◌==◌, ◌||◌, not, nat_le, nat_lt, Bool, true, false, List, [], ◌∷◌, ◌++◌, Option, Some, None, Result, Ok, length, take, drop, get_or, refl, sym, ap, subst, ◌∙◌, arith, append_assoc}
+use Rattle.std.proofs.Common.{◌≡◌, ℕ, ◌+◌, ◌*◌, ◌≤◌, ◌<◌, ◌^◌, ◌==◌, ◌||◌, not, nat_le, nat_lt, Bool, true, false, List, [], ◌∷◌, ◌++◌, Option, Some, None, Result, Ok, length, get_or, refl, sym, ap, subst, ◌∙◌, arith, append_assoc}
 use Rattle.std.specs.Prelude.{if◌then◌else◌}
 use Rattle.std.specs.List.{list_any}
 use Rattle.std.proofs.lemmas.List.{append-nil}
@@ -13,7 +13,6 @@ use Rattle.daos_model.specs.Durables.{is_row_of}
 use Rattle.vos_image.proofs.Codecs.{at_most_test}
 use Rattle.vos_image.specs.Content.{Content, number}
 use Rattle.vos_image.specs.Places.{cont_in, floor_of, is_why, read_cont, read_conts, why_of}
-use Rattle.vos_values.specs.Fields.{packed}
 use Rattle.vos_places.specs.Codec.{IsContUnder, IsStoredFloor, cont_bytes, why_kind, why_number}
 use Rattle.vos_places.specs.Tables.{AreNewConts, HoldConts, HoldsCont, those}
 use Rattle.vos_places.proofs.Bytes.{Agree, agreed_bytes, agreed_number, byte_known, first_known, number_known, part_known}

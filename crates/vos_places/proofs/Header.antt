@@ -1,5 +1,5 @@
 -- What an image says of itself: the counters that were written are read, and the other fields as before.
-use Rattle.std.proofs.Common.{◌≡◌, ◌≢◌, ℕ, ◌+◌, ◌≤◌, ◌<◌, ◌^◌, ◌==◌, ◌&&◌, ◌||◌, not, nat_lt, Bool, true, false, List, [], ◌∷◌, ◌++◌, Result, Ok, Err, length, refl, sym, ap, subst, ◌∙◌, arith, inl, inr}
+use Rattle.std.proofs.Common.{◌≡◌, ◌≢◌, ℕ, ◌+◌, ◌<◌, ◌^◌, ◌==◌, ◌&&◌, not, nat_lt, Bool, true, false, List, [], ◌∷◌, ◌++◌, Result, Ok, Err, length, refl, sym, ap, subst, ◌∙◌, arith, inl, inr}
 use Rattle.std.specs.Prelude.{if◌then◌else◌}
 use Rattle.std.proofs.lemmas.Bool.{ne_eqb}
 use Rattle.std.proofs.lemmas.Bool.Decides.{eqb_tells, nat_tests}
@@ -15,7 +15,7 @@ use Rattle.vos_places.specs.Codec.{AreCounters, counter_bytes, with_counters}
 use Rattle.vos_places.specs.Tables.{AreRoots}
 use Rattle.vos_places.proofs.Bytes.{Agree, agreed_bytes, agreed_number, number_known}
 use Rattle.vos_places.proofs.Conts.{below_test, same_read}
-use Rattle.vos_places.proofs.Steps.{AreZeros, Bound, bound_was, first_was, rule_goes, rule_was, step_goes, zeros_go, zeros_were}
+use Rattle.vos_places.proofs.Steps.{AreZeros, bound_was, first_was, rule_goes, rule_was, step_goes, zeros_go, zeros_were}
 
 -- ---- the first eight bytes
 
@@ -65,6 +65,7 @@ link_was c at b led after some h = by (is_taken c b) refl (is_among b led) refl 
   where
     e : (b == 0) ≡ false
     e = ne_eqb b 0 some
+
     by : (t : Bool) → is_taken c b ≡ t → (u : Bool) → is_among b led ≡ u → led_on t u at b led ≡ Ok (tt, after) → Linked c b led after
     by true t false u k = record { taken = t; new = u; after_is = sym (ap (λ z. z.1) (same_read (tt, b ∷ led) (tt, after) k)) }
     by true t true u k = absurd (cc)
@@ -135,9 +136,10 @@ header_goes target c middle after k one two =
 -- ---- roots that are right are led to, and those that were led to are right
 
 roots_go : (c : Content) (objects entries : ℕ) → AreRoots c objects entries → (link c 40 objects [] ≡ Ok (tt, some_block objects)) × (link c 44 entries (some_block objects) ≡ Ok (tt, some_block entries ++ some_block objects))
-roots_go c objects entries r =
-    (link_goes c 40 objects [] r.first (λ some. refl) ∙ ap (λ (z : List ℕ). Ok (tt, z)) (append-nil (some_block objects)),
-    link_goes c 44 entries (some_block objects) r.second (λ some. not_first entries objects r.apart))
+roots_go c objects entries r = (
+  link_goes c 40 objects [] r.first (λ some. refl) ∙ ap (λ (z : List ℕ). Ok (tt, z)) (append-nil (some_block objects)),
+  link_goes c 44 entries (some_block objects) r.second (λ some. not_first entries objects r.apart),
+)
 
 roots_were : (c : Content) (h : Header) (after : List ℕ) → RootsLed c h after → AreRoots c h.objects h.entries
 roots_were c h after r = record {

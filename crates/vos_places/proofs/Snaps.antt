@@ -1,19 +1,17 @@
 -- Places of snapshots: what was written is held, one that is given up holds none, and what isn't written stays.
-use Rattle.std.proofs.Common.{◌≡◌, ℕ, ◌+◌, ◌*◌, ◌≤◌, ◌<◌, ◌^◌, ◌==◌, ◌&&◌, ◌||◌, not, nat_le, Bool, true, false, List, [], ◌∷◌, ◌++◌, Option, Some, None, Result, Ok, length, get_or, refl, sym, ap, subst, ◌∙◌, arith, append_assoc}
-use Rattle.std.specs.Prelude.{if◌then◌else◌}
-use Rattle.std.specs.List.{list_any}
+use Rattle.std.proofs.Common.{◌≡◌, ℕ, ◌+◌, ◌*◌, ◌==◌, ◌&&◌, ◌||◌, nat_le, Bool, true, false, List, [], ◌∷◌, ◌++◌, Option, Some, None, Ok, length, get_or, refl, sym, ap, subst, ◌∙◌, arith, append_assoc}
 use Rattle.std.proofs.lemmas.Bool.Decides.{nat_tests}
 use Rattle.std.proofs.lemmas.List.{append-nil}
 use Rattle.base_outside.specs.Images.{Image, bytes_at}
 use Rattle.base_types.specs.declared.snapshot.Snap.{Snap}
 use Rattle.byteorder.specs.Endian.{big_bytes}
 use Rattle.daos_model.specs.declared.durable.ContRow.{ContRow}
-use Rattle.daos_model.specs.Durables.{is_row_of, is_snap_at, new_row}
+use Rattle.daos_model.specs.Durables.{new_row}
 use Rattle.vos_image.specs.Content.{Content, number}
 use Rattle.vos_image.specs.Places.{is_new_snap, read_snap, read_snaps, snap_in}
 use Rattle.vos_places.specs.Codec.{IsSnap, snap_bytes, snap_kind}
 use Rattle.vos_places.specs.Tables.{AreNewSnaps, HoldSnaps, HoldsSnap, those}
-use Rattle.vos_places.proofs.Bytes.{Agree, agreed_bytes, agreed_number, byte_known, first_known, number_known, part_known}
+use Rattle.vos_places.proofs.Bytes.{Agree, agreed_bytes, agreed_number, first_known, number_known, part_known}
 use Rattle.vos_places.proofs.Conts.{adds, behind, read, same_read}
 use Rattle.vos_places.proofs.Steps.{AreZeros, rule_goes, rule_was, step_goes, zeros_go, zeros_known, zeros_were}
 

@@ -1,6 +1,6 @@
 -- What a reading of a field says of the field, and the other way round.
 use Rattle.std.proofs.Common.{◌≡◌, ℕ, ◌+◌, ◌==◌, Bool, true, false, List, [], ◌∷◌, Result, Ok, Err, zero, suc, replicate, subst, sym, refl}
-use Rattle.vos_image.specs.Steps.{Step, ◌>>=◌, give, onward, rule, zeros}
+use Rattle.vos_image.specs.Steps.{Step, ◌>>=◌, onward, rule, zeros}
 
 -- a rule that a reading went over holds
 pub rule_was : {B : Type 0} (at : ℕ) (t : Bool) (f : Unit {0} → Step B) (led : List ℕ) (r : B × List ℕ) → (rule at t >>= f) led ≡ Ok r → (t ≡ true) × (f tt led ≡ Ok r)

@@ -1,22 +1,22 @@
 -- A write over a fixed place, and what is read of all places after it.
-use Rattle.std.proofs.Common.{◌≡◌, ◌⊎◌, ℕ, zero, suc, ◌+◌, ◌*◌, ◌-◌, ◌≤◌, ◌<◌, List, [], ◌∷◌, ◌++◌, Option, Some, None, Ok, length, get_or, ◌^◌, refl, sym, ap, subst, ◌∙◌, arith, inl, inr}
+use Rattle.std.proofs.Common.{◌≡◌, ◌⊎◌, ℕ, zero, suc, ◌+◌, ◌*◌, ◌-◌, ◌≤◌, ◌<◌, List, [], ◌∷◌, Option, Some, None, Ok, length, get_or, ◌^◌, refl, sym, ap, subst, ◌∙◌, arith, inl, inr}
 use Rattle.std.specs.Prelude.{set}
 use Rattle.std.proofs.lemmas.Bool.Decides.{nat_tests}
 use Rattle.std.proofs.lemmas.List.{length-set}
 use Rattle.base_outside.specs.ImageLaws.{known_bytes_at, over_inside, over_outside, same_bytes_at}
-use Rattle.base_outside.specs.Images.{Image, Range, bytes_at, over}
+use Rattle.base_outside.specs.Images.{Image, Range, bytes_at}
 use Rattle.base_types.specs.declared.snapshot.Snap.{Snap}
 use Rattle.daos_model.specs.declared.durable.ContRow.{ContRow}
 use Rattle.vos_image.specs.Content.{Content, content_of, number}
 use Rattle.vos_image.specs.Laws.{root_blocks}
-use Rattle.vos_image.specs.Places.{Header, are_bits_right, read_conts, read_header, read_map, read_places, read_snaps, zeros_at}
+use Rattle.vos_image.specs.Places.{are_bits_right, read_conts, read_header, read_map, read_places, read_snaps, zeros_at}
 use Rattle.vos_image.specs.Steps.{Step, zeros}
 use Rattle.vos_places.specs.declared.codec.Counters.{Counters}
-use Rattle.vos_places.specs.Codec.{AreCounters, IsContUnder, cont_bytes, counter_bytes, snap_bytes, with_counters}
+use Rattle.vos_places.specs.Codec.{IsContUnder, cont_bytes, counter_bytes, snap_bytes, with_counters}
 use Rattle.vos_places.specs.Laws.{BeyondStays, ContsAreWritten, CountersAreWritten, IsApart, IsRightBeyond, IsWritten, Keeps, PlacesStay, SnapsAreGivenUp, SnapsAreWritten, TablesAreRead, cont_range, counter_range, covered_by, snap_range, unused_range, with_snap}
-use Rattle.vos_places.specs.Tables.{AreRoots, HoldConts, HoldSnaps, HoldsCont, HoldsSnap, Table, TableStands, places_of, those}
-use Rattle.vos_places.proofs.Bytes.{Agree, first_known, same_number}
-use Rattle.vos_places.proofs.Conts.{cont_held, cont_stays, conts_read, conts_stay, read}
+use Rattle.vos_places.specs.Tables.{HoldConts, HoldSnaps, HoldsCont, HoldsSnap, Table, TableStands, those}
+use Rattle.vos_places.proofs.Bytes.{first_known, same_number}
+use Rattle.vos_places.proofs.Conts.{cont_held, cont_stays, conts_read, conts_stay}
 use Rattle.vos_places.proofs.Header.{SameBesides, counters_read, header_stays, lease_read, lease_small, roots_read}
 use Rattle.vos_places.proofs.Map.{SameMap, map_as, taken_as}
 use Rattle.vos_places.proofs.Snaps.{snap_given_up, snap_held, snap_stays, snaps_read, snaps_stay}
@@ -59,9 +59,10 @@ conts_set c d p i q [] o is below h new same more = absurd (omega arith)
 conts_set c d p zero q (x ∷ os) o is below h new same more =
     let e : q ≡ p = omega arith in
     (subst (λ (z : ℕ). HoldsCont d z o) e new, conts_stay c d (p + 64) os (λ j low high. same j (omega arith) (omega arith) (inr (omega arith))) more h.1)
-conts_set c d p (suc i) q (x ∷ os) o is below h new same more =
-    (cont_stays c d p x (λ j low high. same j low (omega arith) (inl (omega arith))) more h.0,
-    conts_set c d (p + 64) i q os o (omega arith) (omega arith) h.1 new (λ j low high out. same j (omega arith) (omega arith) out) more)
+conts_set c d p (suc i) q (x ∷ os) o is below h new same more = (
+  cont_stays c d p x (λ j low high. same j low (omega arith) (inl (omega arith))) more h.0,
+  conts_set c d (p + 64) i q os o (omega arith) (omega arith) h.1 new (λ j low high out. same j (omega arith) (omega arith) out) more,
+)
 
 snaps_set : (c d : Content) (p i q : ℕ) (os : List (Option Snap)) (o : Option Snap) → q ≡ p + 32 * i → i < length os → HoldSnaps c p os → ((x : Option Snap) → HoldsSnap c q x → HoldsSnap d q o)
     → ((j : ℕ) → p ≤ j → j < p + 32 * length os → (j < q) ⊎ (q + 32 ≤ j) → d.bytes j ≡ c.bytes j) → HoldSnaps d p (set os i o)
@@ -69,9 +70,10 @@ snaps_set c d p i q [] o is below h new same = absurd (omega arith)
 snaps_set c d p zero q (x ∷ os) o is below h new same =
     let e : q ≡ p = omega arith in
     (subst (λ (z : ℕ). HoldsSnap d z o) e (new x (subst (λ (z : ℕ). HoldsSnap c z x) (sym e) h.0)), snaps_stay c d (p + 32) os (λ j low high. same j (omega arith) (omega arith) (inr (omega arith))) h.1)
-snaps_set c d p (suc i) q (x ∷ os) o is below h new same =
-    (snap_stays c d p x (λ j low high. same j low (omega arith) (inl (omega arith))) h.0,
-    snaps_set c d (p + 32) i q os o (omega arith) (omega arith) h.1 new (λ j low high out. same j (omega arith) (omega arith) out))
+snaps_set c d p (suc i) q (x ∷ os) o is below h new same = (
+  snap_stays c d p x (λ j low high. same j low (omega arith) (inl (omega arith))) h.0,
+  snaps_set c d (p + 32) i q os o (omega arith) (omega arith) h.1 new (λ j low high out. same j (omega arith) (omega arith) out),
+)
 
 -- ---- a range that is written
 

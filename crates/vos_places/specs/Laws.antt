@@ -1,5 +1,5 @@
 -- What is written over fixed places is what is read of them.
-use Rattle.std.specs.Prelude.{◌≡◌, ◌≤◌, ◌<◌, ℕ, ◌+◌, ◌*◌, true, false, List, [], ◌∷◌, Option, Some, None, Ok, get_or, length, set}
+use Rattle.std.specs.Prelude.{◌≡◌, ◌≤◌, ◌<◌, ℕ, ◌+◌, ◌*◌, true, false, [], Option, Some, None, Ok, get_or, length, set}
 use Rattle.std.specs.List.{list_any}
 use Rattle.base_outside.specs.Images.{Image, Range, over}
 use Rattle.base_types.specs.declared.snapshot.Snap.{Snap}
