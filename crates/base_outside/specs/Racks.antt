@@ -38,6 +38,14 @@ pub record IsTakenBack (may_leave : Image → Type 0) (faults extent : ℕ) (ima
   pub same_size : size ≡ extent
   pub home : out ≡ false
 
+-- of each target it may hand out no clock that it might not have handed out before
+abbrev pub ClocksAreKept : {C : Type 0} → (ℕ → C → Type 0) → (ℕ → C → Type 0) → Type 0
+ClocksAreKept {C} gives gives' = (u : ℕ) (c : C) → gives' u c → gives u c
+
+-- of each target but t
+abbrev pub OtherClocksAreKept : {C : Type 0} → ℕ → (ℕ → C → Type 0) → (ℕ → C → Type 0) → Type 0
+OtherClocksAreKept {C} t gives gives' = (u : ℕ) (c : C) → u ≢ t → gives' u c → gives u c
+
 -- the region of a target, where there is such a target and its region is at home
 abbrev pub at_home : {X : Type 0} → List (Option X) → ℕ → Option X
 at_home regions t = option_flatten (slice_get regions t)

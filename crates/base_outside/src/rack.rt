@@ -2,7 +2,7 @@
 ghost use Rattle.std.specs.Prelude.{◌≡◌, ℕ, Bool, true, false, IfOk, OnOk, OnErr, IsTrue};
 ghost use Rattle.base_outside.specs.Causes.{HasCause};
 ghost use Rattle.base_outside.specs.Images.{Image, Only, NoMore};
-ghost use Rattle.base_outside.specs.Racks.{AllAreKept, OthersAreKept, IsHeldBack, IsTakenBack};
+ghost use Rattle.base_outside.specs.Racks.{AllAreKept, ClocksAreKept, OtherClocksAreKept, OthersAreKept, IsHeldBack, IsTakenBack};
 
 use crate::clock::Clock;
 use crate::region::Region;
@@ -38,6 +38,9 @@ pub trait Rack {
     /// How many bytes a target's region has, when it is next handed out.
     ghost next_size: { Self → ℕ → ℕ };
 
+    /// Whether a clock may be the one that it hands out next for a target.
+    ghost gives: { Self → ℕ → Self.Clock → Type 0 };
+
     /// Hands out the region of target `t`: with its own size where the rack keeps one already,
     /// and else a new one of `size` bytes. It was opened anew, or is new.
     ///
@@ -55,10 +58,13 @@ pub trait Rack {
         ensures held_back { OnErr result (IsTrue Self.Region.tells → IsHeldBack (next_image self.old t) (next_image self.new t) (next_leaves self.old t) (next_leaves self.new t)
             (next_faults self.old t) (next_faults self.new t) (next_size self.old t) (next_size self.new t) (is_out self.old t) (is_out self.new t)) }
         ensures others { IsTrue Self.Region.tells → OthersAreKept t (next_image self.old) (next_image self.new) (next_leaves self.old) (next_leaves self.new)
-            (next_faults self.old) (next_faults self.new) (next_size self.old) (next_size self.new) (is_out self.old) (is_out self.new) };
+            (next_faults self.old) (next_faults self.new) (next_size self.old) (next_size self.new) (is_out self.old) (is_out self.new) }
+        ensures clocks { ClocksAreKept (gives self.old) (gives self.new) };
 
     /// Hands out a clock for target `t`.
     fn clock(&mut self, t: TargetId) -> Self::Clock
+        ensures clock { gives self.old t result }
+        ensures other_clocks { OtherClocksAreKept t (gives self.old) (gives self.new) }
         ensures count { count self.new ≡ count self.old }
         ensures kept { IsTrue Self.Region.tells → AllAreKept (next_image self.old) (next_image self.new) (next_leaves self.old) (next_leaves self.new)
             (next_faults self.old) (next_faults self.new) (next_size self.old) (next_size self.new) (is_out self.old) (is_out self.new) };
@@ -69,7 +75,8 @@ pub trait Rack {
         ensures back { IsTrue Self.Region.tells → is_out self.old t ≡ true → IsTakenBack (Self.Region.may_leave region) (Self.Region.count region) (Self.Region.extent region)
             (next_image self.new t) (next_leaves self.new t) (next_faults self.new t) (next_size self.new t) (is_out self.new t) }
         ensures others { IsTrue Self.Region.tells → OthersAreKept t (next_image self.old) (next_image self.new) (next_leaves self.old) (next_leaves self.new)
-            (next_faults self.old) (next_faults self.new) (next_size self.old) (next_size self.new) (is_out self.old) (is_out self.new) };
+            (next_faults self.old) (next_faults self.new) (next_size self.old) (next_size self.new) (is_out self.old) (is_out self.new) }
+        ensures clocks { ClocksAreKept (gives self.old) (gives self.new) };
 
     /// How often it has failed, up to 2^64 - 1.
     fn faults(&self) -> u64

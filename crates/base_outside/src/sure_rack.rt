@@ -58,6 +58,8 @@ impl Rack for SureRack {
 
     ghost next_size = { λ r t. size_at_home r t };
 
+    ghost gives = { λ _ _ clock. clock ≡ 0 };
+
     ghost cannot_burn = { refl };
 
     fn region(&mut self, t: TargetId, _size: u64) -> Result<SureRegion, Failed>

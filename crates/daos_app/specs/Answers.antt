@@ -28,15 +28,15 @@ use Rattle.daos_summary.specs.Summaries.{summary_text}
 
 -- What the report of a run is: legal for the script by the headline, over regions of zeros that nothing disturbs, whichever attempts are taken
 -- as resolved; and in the form in which a text determines its report, which is read back of its text.
--- It tells of turns in the order asked, where each target issues epochs at the readings that its own clock gives; the targets of the run issued all epochs; and where there is room for all that the script writes, and places for
+-- It tells of turns in the order asked, where each target issues epochs at the readings that the clock handed out for it gives; the targets of the run issued all epochs; and where there is room for all that the script writes, and places for
 -- its snapshots, no attempt is refused for want of these, nor one to make a snapshot where there are places, whatever room there is. The order of epochs is
 -- that of real time where the clocks keep the bound. A client that is alone is never told to restart where the script asks for no stop, and of a script
 -- without snapshots more is said of it.
-pub record IsRunReport {C : Type 0} (is_read : C → C → Type 0) (next_reading : C → Option ℕ) (g : Given) (q : Report) : Type 0 where
+pub record IsRunReport {C : Type 0} (gives : ℕ → C → Type 0) (is_read : C → C → Type 0) (next_reading : C → Option ℕ) (g : Given) (q : Report) : Type 0 where
   pub form : IsReportOf g.script q
   pub back : IsReadBack g.script q
   pub legal : IsLegal g q
-  pub ordered : FollowsFromZeros is_read next_reading g q
+  pub ordered : FollowsFromZeros gives is_read next_reading g q
   pub issued : AreIssuedThere q
   pub in_real_time : IsInRealTime g q
   pub room : FindsPlaces g.script g.job.attempts 0 → HasRoom g.script g.job.attempts g.opening.free → FindsRoom q
@@ -45,37 +45,37 @@ pub record IsRunReport {C : Type 0} (is_read : C → C → Type 0) (next_reading
   pub lone : IsPlain g.script → HasOneClient g.script → g.script.stops ≡ [] → IsOfLoneClient g q
 
 -- the text of such a report
-pub record IsReported {C : Type 0} (is_read : C → C → Type 0) (next_reading : C → Option ℕ) (job : Job) (script : Script) (text : List ℕ) : Type 0 where
+pub record IsReported {C : Type 0} (gives : ℕ → C → Type 0) (is_read : C → C → Type 0) (next_reading : C → Option ℕ) (job : Job) (script : Script) (text : List ℕ) : Type 0 where
   pub report : Report
-  pub of_run : IsRunReport is_read next_reading (fresh script job) report
+  pub of_run : IsRunReport gives is_read next_reading (fresh script job) report
   pub told : text ≡ report_text script report
 
 -- the summary of such a report, of the generated script of so many commands; that makes no snapshot and asks for no stop, so what is said of a report
 -- without these is said of this one
-pub record IsSummed {C : Type 0} (is_read : C → C → Type 0) (next_reading : C → Option ℕ) (job : Job) (count : ℕ) (text : List ℕ) : Type 0 where
+pub record IsSummed {C : Type 0} (gives : ℕ → C → Type 0) (is_read : C → C → Type 0) (next_reading : C → Option ℕ) (job : Job) (count : ℕ) (text : List ℕ) : Type 0 where
   pub report : Report
-  pub of_run : IsRunReport is_read next_reading (fresh (script_of job.targets count) job) report
+  pub of_run : IsRunReport gives is_read next_reading (fresh (script_of job.targets count) job) report
   pub told : text ≡ summary_text report count
 
 -- what a run tells: the source was read to its end, and the text is that of one report for the script that was read, for the targets asked
-pub record IsRun {C : Type 0} (is_read : C → C → Type 0) (next_reading : C → Option ℕ) (job : Job) (left left_now : Option (List ℕ)) (text : List ℕ) : Type 0 where
+pub record IsRun {C : Type 0} (gives : ℕ → C → Type 0) (is_read : C → C → Type 0) (next_reading : C → Option ℕ) (job : Job) (left left_now : Option (List ℕ)) (text : List ℕ) : Type 0 where
   pub script : Script
   pub read : IsRead job.targets left left_now script
-  pub reported : IsReported is_read next_reading job script text
+  pub reported : IsReported gives is_read next_reading job script text
 
 -- what a job tells: a run its report, a load the summary of its report; no other is run so far
-abbrev pub IsTextOf : {C : Type 0} → (C → C → Type 0) → (C → Option ℕ) → Job → Task → Option (List ℕ) → Option (List ℕ) → List ℕ → Type 0
-IsTextOf is_read next_reading job Run left left_now text = IsRun is_read next_reading job left left_now text
-IsTextOf is_read next_reading job (Load count) left left_now text = IsSummed is_read next_reading job count text
-IsTextOf is_read next_reading job (Rebuild target) left left_now text = ⊥
-IsTextOf is_read next_reading job Dfs left left_now text = ⊥
-IsTextOf is_read next_reading job Audit left left_now text = ⊥
+abbrev pub IsTextOf : {C : Type 0} → (ℕ → C → Type 0) → (C → C → Type 0) → (C → Option ℕ) → Job → Task → Option (List ℕ) → Option (List ℕ) → List ℕ → Type 0
+IsTextOf gives is_read next_reading job Run left left_now text = IsRun gives is_read next_reading job left left_now text
+IsTextOf gives is_read next_reading job (Load count) left left_now text = IsSummed gives is_read next_reading job count text
+IsTextOf gives is_read next_reading job (Rebuild target) left left_now text = ⊥
+IsTextOf gives is_read next_reading job Dfs left left_now text = ⊥
+IsTextOf gives is_read next_reading job Audit left left_now text = ⊥
 
 -- what the program writes for words and the bytes that were read: what the job tells that the words ask for
-pub record IsTold {C : Type 0} (is_read : C → C → Type 0) (next_reading : C → Option ℕ) (words : List (List ℕ)) (left left_now : Option (List ℕ)) (text : List ℕ) : Type 0 where
+pub record IsTold {C : Type 0} (gives : ℕ → C → Type 0) (is_read : C → C → Type 0) (next_reading : C → Option ℕ) (words : List (List ℕ)) (left left_now : Option (List ℕ)) (text : List ℕ) : Type 0 where
   pub job : Job
   pub asked : run_job_of words ≡ Ok job
-  pub told : IsTextOf is_read next_reading job job.task left left_now text
+  pub told : IsTextOf gives is_read next_reading job job.task left left_now text
 
 -- words ask for a load that is run so far
 pub record AsksLoad (words : List (List ℕ)) : Type 0 where

@@ -52,8 +52,8 @@ pub fn run_daos<R: Threads + Wait + Sync, S: Source, K: Sink, B: Rack, G: Gate +
     // At the end the sink holds what it held and then the text that the words ask for, and nothing else:
     // of a run the text of one report for the script that was read, of a load the summary of one report
     // for the generated script; after a fault of the sink, a part of it from the front.
-    ensures done { result ≡ Status.Done → ((text : List ℕ) × IsTold B.Clock.is_read B.Clock.next (map string_bytes words.now) (S.left source.old) (S.left source.new) text × Appends (K.held sink.old) (K.held sink.new) text) }
-    ensures prefix { result ≡ Status.WriteFault → ((text : List ℕ) × IsTold B.Clock.is_read B.Clock.next (map string_bytes words.now) (S.left source.old) (S.left source.new) text × AppendsPrefix (K.held sink.old) (K.held sink.new) text) }
+    ensures done { result ≡ Status.Done → ((text : List ℕ) × IsTold (B.gives rack.old) B.Clock.is_read B.Clock.next (map string_bytes words.now) (S.left source.old) (S.left source.new) text × Appends (K.held sink.old) (K.held sink.new) text) }
+    ensures prefix { result ≡ Status.WriteFault → ((text : List ℕ) × IsTold (B.gives rack.old) B.Clock.is_read B.Clock.next (map string_bytes words.now) (S.left source.old) (S.left source.new) text × AppendsPrefix (K.held sink.old) (K.held sink.new) text) }
 
     // A load reads nothing, and so has no answer that reading has.
     ensures unread_by_load { AsksLoad (map string_bytes words.now) → source.new ≡ source.old }

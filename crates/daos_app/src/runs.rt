@@ -35,7 +35,7 @@ pub fn run_text<R: Threads + Wait + Sync, B: Rack, G: Gate + Sync>(
     requires job { IsInForm job.now }
     requires script { scripts.IsInForm job.now.targets script.now }
     requires keys { ScriptHasKeys script.now }
-    ensures reported { IfOk result (λ text. IsReported B.Clock.is_read B.Clock.next job.now script.now text.items) }
+    ensures reported { IfOk result (λ text. IsReported (B.gives rack.old) B.Clock.is_read B.Clock.next job.now script.now text.items) }
     ensures refusals { IsOkUnless result RunStop.Memory }
     ensures rack { B.count rack.new ≡ B.count rack.old }
 {
@@ -60,7 +60,7 @@ pub fn load_text<R: Threads + Wait + Sync, B: Rack, G: Gate + Sync>(
     requires job { IsInForm job.now }
     requires some { 0 < count }
     requires few { count ≤ 10000 }
-    ensures summed { IfOk result (λ text. IsSummed B.Clock.is_read B.Clock.next job.now count text.items) }
+    ensures summed { IfOk result (λ text. IsSummed (B.gives rack.old) B.Clock.is_read B.Clock.next job.now count text.items) }
     ensures refusals { IsOkUnless result RunStop.Memory }
     ensures rack { B.count rack.new ≡ B.count rack.old }
 {

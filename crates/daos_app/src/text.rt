@@ -30,7 +30,7 @@ fn report_text_of<R: Threads + Wait + Sync, S: Source, B: Rack, G: Gate + Sync>(
     gate: &G,
 ) -> Result<Vec<u8>, Status>
     requires job { IsInForm job.now }
-    ensures text { IfOk result (λ text. IsRun B.Clock.is_read B.Clock.next job.now (S.left source.old) (S.left source.new) text.items) }
+    ensures text { IfOk result (λ text. IsRun (B.gives rack.old) B.Clock.is_read B.Clock.next job.now (S.left source.old) (S.left source.new) text.items) }
     ensures refused { IfErr result (IsRefusal (IsRefused job.now.targets (S.left source.old) (S.left source.new))) }
     ensures no_words { (fault : WordFault) → IsErrOf result (Status.Words fault) → ⊥ }
     ensures fault { IsErrOf result Status.ReadFault → Rose (S.count source.old) (S.count source.new) }
@@ -61,7 +61,7 @@ fn summary_text_of<R: Threads + Wait + Sync, B: Rack, G: Gate + Sync>(
 ) -> Result<Vec<u8>, Status>
     requires job { IsInForm job.now }
     requires load { job.now.task ≡ Task.Load count }
-    ensures text { IfOk result (λ text. IsSummed B.Clock.is_read B.Clock.next job.now count text.items) }
+    ensures text { IfOk result (λ text. IsSummed (B.gives rack.old) B.Clock.is_read B.Clock.next job.now count text.items) }
     ensures refused { IfErr result (λ status. status ≡ Status.Memory) }
     ensures rack { B.count rack.new ≡ B.count rack.old }
 {
@@ -87,7 +87,7 @@ pub fn text_of<R: Threads + Wait + Sync, S: Source, B: Rack, G: Gate + Sync>(
     rack: &mut B,
     gate: &G,
 ) -> Result<Vec<u8>, Status>
-    ensures text { IfOk result (λ text. IsTold B.Clock.is_read B.Clock.next (map string_bytes words.now) (S.left source.old) (S.left source.new) text.items) }
+    ensures text { IfOk result (λ text. IsTold (B.gives rack.old) B.Clock.is_read B.Clock.next (map string_bytes words.now) (S.left source.old) (S.left source.new) text.items) }
     ensures refused { IfErr result (IsRefusal (RefusesScript (map string_bytes words.now) (S.left source.old) (S.left source.new))) }
     ensures words { (fault : WordFault) → IsErrOf result (Status.Words fault) ↔ (run_job_of (map string_bytes words.now) ≡ Err fault) }
     ensures fault { IsErrOf result Status.ReadFault → Rose (S.count source.old) (S.count source.new) }

@@ -81,6 +81,8 @@ impl<R: Files<File = File> + Drop> Rack for FileRack<R> {
 
     ghost next_size = { λ _ _. 0 };
 
+    ghost gives = { λ _ _ clock. clock ≡ 0 };
+
     ghost cannot_burn = { refl };
 
     fn region(&mut self, t: TargetId, size: u64) -> Result<FileRegion, Failed>

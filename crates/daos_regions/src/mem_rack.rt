@@ -96,6 +96,8 @@ impl Rack for MemRack {
 
     ghost next_size = { λ r t. (kept_region r.regions t).disk.size };
 
+    ghost gives = { λ _ _ clock. clock ≡ 0 };
+
     ghost cannot_burn = { refl };
 
     fn region(&mut self, t: TargetId, _size: u64) -> Result<MemRegion, Failed>

@@ -21,7 +21,7 @@ use Rattle.daos_run.specs.declared.stop.RunStop.TheVariants as stop
 use Rattle.daos_run.specs.declared.stop.RunStop.TheVariants.{Memory as NoMemory}
 use Rattle.daos_run.specs.Comes.{ComesFrom, ComesFromClocks, FollowsFromZeros}
 use Rattle.daos_run.specs.Opens.{MayRun, given}
-use Rattle.daos_run.specs.Slots.{AreFree, AreSet, HaveStores, IsAt, StoresAreServed, stores_in}
+use Rattle.daos_run.specs.Slots.{AreFree, AreSet, EachClock, HaveStores, IsAt, StoresAreServed, stores_in}
 use Rattle.daos_run.specs.Starts.{IsNewStore}
 use Rattle.daos_run.specs.Stops.{HasRisen, IsOpeningFault, MayStop}
 use Rattle.daos_run.proofs.Places.{in-place, store-at, stores-many}
@@ -238,7 +238,7 @@ module _ {C : Type 0} (targets size_mib : ℕ) (slots : List (Option (PlainStore
         unstopped : s.stops ≡ [] → stop_numbers q.lines ≡ []
         unstopped none = no-stops-told (fresh s j) (resolved (durables_of ordered.follows.last)) q headline.told none
 
-      module _ (is_read : C → C → Type 0) (next_reading : C → Option ℕ) where
+      module _ (gives : ℕ → C → Type 0) (G : EachClock gives slots) (is_read : C → C → Type 0) (next_reading : C → Option ℕ) where
         -- it comes to this report, with their clocks
         abbrev pub ComesByClocks : Report → Type 0
         ComesByClocks q = ComesFromClocks told_by plain_state found_in is_read next_reading (fresh s j) slots new q
@@ -246,7 +246,7 @@ module _ {C : Type 0} (targets size_mib : ℕ) (slots : List (Option (PlainStore
         come-by_clocks : (q : Report) → ComesFromClocks told_by plain_state found_in is_read next_reading their-given slots new q → ComesByClocks q
         come-by_clocks q k = subst (λ g. ComesFromClocks told_by plain_state found_in is_read next_reading g slots new q) is-fresh k
 
-        from-zeros : (q : Report) → ComesByClocks q → s.targets ≡ targets → FollowsFromZeros is_read next_reading (fresh s j) q
+        from-zeros : (q : Report) → ComesByClocks q → s.targets ≡ targets → FollowsFromZeros gives is_read next_reading (fresh s j) q
         from-zeros q k same = record {
           follows = k.from.comes.ordered.follows;
           opened = λ t z here.
@@ -259,10 +259,10 @@ module _ {C : Type 0} (targets size_mib : ℕ) (slots : List (Option (PlainStore
           clocks = λ t low.
               let x = H.set.each t (subst (λ n. t < n) same low) in
               let y = set.each t (subst (λ n. t < n) same low) in
-              record { before = x.0.1; after = y.0.1; gave = k.clocks t x.0.1 y.0.1 (record { before = x.0; after = y.0; at = x.1; there = y.1; first = refl; last = refl }) };
+              record { before = x.0.1; given = G t x.0 x.1; after = y.0.1; gave = k.clocks t x.0.1 y.0.1 (record { before = x.0; after = y.0; at = x.1; there = y.1; first = refl; last = refl }) };
         }
 
-        pub follows-order : (result : Result Report RunStop) → IfOk result (ComesFromClocks told_by plain_state found_in is_read next_reading their-given slots new) → s.targets ≡ targets → IfOk result (FollowsFromZeros is_read next_reading (fresh s j))
+        pub follows-order : (result : Result Report RunStop) → IfOk result (ComesFromClocks told_by plain_state found_in is_read next_reading their-given slots new) → s.targets ≡ targets → IfOk result (FollowsFromZeros gives is_read next_reading (fresh s j))
         follows-order result K same = on-ok result (λ q k. from-zeros q (come-by_clocks q k) same) K
 
       module _ (result : Result Report RunStop) (R : IfOk result Comes) where

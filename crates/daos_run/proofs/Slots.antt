@@ -4,7 +4,7 @@ use Rattle.std.proofs.Common.{inl, inr, sym, ◌∙◌, ap, subst, arith}
 use Rattle.std.proofs.lemmas.Bool.{cases_eq}
 use Rattle.std.proofs.lemmas.Option.{slice_get_within}
 use Rattle.model_laws.specs.Lists.{length-replicate}
-use Rattle.daos_run.specs.Slots.{HaveStores, IsAt}
+use Rattle.daos_run.specs.Slots.{AreSet, IsAt}
 use Rattle.run_targets.specs.Ends.{one-there}
 use Rattle.run_targets.specs.Below.{TargetOf, length-set}
 use Rattle.world_base.specs.StepLaws.{set-here, set-there}
@@ -16,10 +16,10 @@ pub record AreNone {T : Type 0} (slots : List (Option T)) (count room cap : ℕ)
 
 -- ---- places that are set, one after another
 
--- so many of the places have a store, which is so, and a clock; the others have nothing yet
-pub record AreSetSoFar {S C : Type 0} (P : S → Type 0) (targets n : ℕ) (slots : List (Option (S × C))) : Type 0 where
+-- so many of the places have a store and a clock, which are so; the others have nothing yet
+pub record AreSetSoFar {S C : Type 0} (P : ℕ → S → C → Type 0) (targets n : ℕ) (slots : List (Option (S × C))) : Type 0 where
   pub many : length slots ≡ targets
-  pub are : (t : ℕ) → t < n → (x : S × C) × IsAt slots t x × P x.0
+  pub are : (t : ℕ) → t < n → (x : S × C) × IsAt slots t x × P t x.0 x.1
   pub unset : (t : ℕ) → n ≤ t → t < targets → slice_get slots t ≡ Some None
 
 at-replicate : {T : Type 0} (n t : ℕ) (x : T) → t < n → slice_get (replicate n x) t ≡ Some x
@@ -27,7 +27,7 @@ at-replicate zero t x low = absurd (omega (arith, low))
 at-replicate (suc n) zero x low = refl
 at-replicate (suc n) (suc t) x low = at-replicate n t x (omega (arith, low))
 
-module _ {S C : Type 0} (P : S → Type 0) where
+module _ {S C : Type 0} (P : ℕ → S → C → Type 0) where
   pub none-set : (targets : ℕ) (slots : List (Option (S × C))) → slots ≡ replicate targets None → AreSetSoFar P targets 0 slots
   none-set targets slots none = record {
     many = ap length none ∙ length-replicate targets None;
@@ -35,11 +35,11 @@ module _ {S C : Type 0} (P : S → Type 0) where
     unset = λ t high low. ap (λ l. slice_get l t) none ∙ at-replicate targets t None low;
   }
 
-  pub one-set : (targets n : ℕ) (slots slots' : List (Option (S × C))) (store : S) (clock : C) → AreSetSoFar P targets n slots → n < targets → slots' ≡ set slots n (Some (store, clock)) → P store → AreSetSoFar P targets (n + 1) slots'
+  pub one-set : (targets n : ℕ) (slots slots' : List (Option (S × C))) (store : S) (clock : C) → AreSetSoFar P targets n slots → n < targets → slots' ≡ set slots n (Some (store, clock)) → P n store clock → AreSetSoFar P targets (n + 1) slots'
   one-set targets n slots slots' store clock k within is new = record {
     many = ap length is ∙ length-set slots n (Some (store, clock)) ∙ k.many;
     are = λ t low. elim (cases_eq t n) [
-      | inl same ↦ ((store, clock), ap (slice_get slots') same ∙ ap (λ l. slice_get l n) is ∙ set-here slots n None (Some (store, clock)) (k.unset n (omega arith) within), new)
+      | inl same ↦ ((store, clock), ap (slice_get slots') same ∙ ap (λ l. slice_get l n) is ∙ set-here slots n None (Some (store, clock)) (k.unset n (omega arith) within), subst (λ i. P i store clock) (sym same) new)
       | inr apart ↦
           let x = k.are t (omega (arith, low, apart)) in
           (x.0, ap (λ l. slice_get l t) is ∙ set-there slots n t (Some (store, clock)) apart ∙ x.1, x.2)
@@ -47,15 +47,15 @@ module _ {S C : Type 0} (P : S → Type 0) where
     unset = λ t high low. ap (λ l. slice_get l t) is ∙ set-there slots n t (Some (store, clock)) (λ same. omega (arith, high, same)) ∙ k.unset t (omega (arith, high)) low;
   }
 
-  pub all-are-set : (targets n : ℕ) (slots : List (Option (S × C))) → AreSetSoFar P targets n slots → n ≡ targets → HaveStores (λ t store. P store) targets slots
-  all-are-set targets n slots k done = record {
-    set = record { many = k.many; each = λ t within. (let x = k.are t (omega (arith, within, done)) in (x.0, x.1)) };
-    each = λ t x at.
-        let low : t < targets = subst (λ m. t < m) k.many (slice_get_within slots t (Some x) at) in
-        let y = k.are t (omega (arith, low, done)) in
-        let same : y.0 ≡ x = (let e : Some (Some y.0) ≡ Some (Some x) = sym y.1 ∙ at in cc) in
-        subst (λ z. P z.0) same y.2;
-  }
+  pub all-are-set : (targets n : ℕ) (slots : List (Option (S × C))) → AreSetSoFar P targets n slots → n ≡ targets → AreSet targets slots
+  all-are-set targets n slots k done = record { many = k.many; each = λ t within. (let x = k.are t (omega (arith, within, done)) in (x.0, x.1)) }
+
+  pub all-are-so : (targets n : ℕ) (slots : List (Option (S × C))) → AreSetSoFar P targets n slots → n ≡ targets → (t : ℕ) (x : S × C) → IsAt slots t x → P t x.0 x.1
+  all-are-so targets n slots k done t x at =
+      let low : t < targets = subst (λ m. t < m) k.many (slice_get_within slots t (Some x) at) in
+      let y = k.are t (omega (arith, low, done)) in
+      let same : y.0 ≡ x = (let e : Some (Some y.0) ≡ Some (Some x) = sym y.1 ∙ at in cc) in
+      subst (λ z. P t z.0 z.1) same y.2
 
 -- ---- lists with one more at the end
 

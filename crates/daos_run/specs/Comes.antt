@@ -59,11 +59,11 @@ pub record BreaksOff (g : Given) (B lasts : List Durable) : Type 0 where
   pub opens : CanOpen lasts
 
 -- A report over regions of zeros tells of the turns in the order asked, from where each target keeps the script's containers alone, with as many blocks
--- free as the opening says, was opened once, with no floor, and remembers nothing yet. Each target has a clock of its own, at whose readings it issues epochs.
-pub record FollowsFromZeros {C : Type 0} (is_read : C → C → Type 0) (next_reading : C → Option ℕ) (g : Given) (q : Report) : Type 0 where
+-- free as the opening says, was opened once, with no floor, and remembers nothing yet. Each target has the clock that was handed out for it, at whose readings it issues epochs.
+pub record FollowsFromZeros {C : Type 0} (gives : ℕ → C → Type 0) (is_read : C → C → Type 0) (next_reading : C → Option ℕ) (g : Given) (q : Report) : Type 0 where
   pub follows : FollowsOrder g q
   pub opened : (t : ℕ) (s : TargetState) → slice_get follows.first.targets t ≡ Some s → s.durable ≡ enlisted (declared_conts g.script) (empty_durable 1)
   pub free : (t : ℕ) (s : TargetState) → slice_get follows.first.targets t ≡ Some s → s.free ≡ g.opening.free t
   pub floor : (t : ℕ) (s : TargetState) → slice_get follows.first.targets t ≡ Some s → s.opening ≡ (record { 0 = 0 }, Opening)
   pub memory : (t : ℕ) (s : TargetState) → slice_get follows.first.targets t ≡ Some s → s.memory ≡ memory_at_first s.durable
-  pub clocks : (t : ℕ) → t < g.script.targets → HasClock is_read next_reading g q follows t
+  pub clocks : (t : ℕ) → t < g.script.targets → HasClock (gives t) is_read next_reading g q follows t

@@ -18,6 +18,10 @@ pub record AreSet {S C : Type 0} (targets : ℕ) (slots : List (Option (S × C))
 abbrev pub EachStore : {S C : Type 0} → (ℕ → S → Type 0) → List (Option (S × C)) → Type 0
 EachStore {S} {C} P slots = (t : ℕ) (x : S × C) → IsAt slots t x → P t x.0
 
+-- what holds of each target's clock, by the target's number
+abbrev pub EachClock : {S C : Type 0} → (ℕ → C → Type 0) → List (Option (S × C)) → Type 0
+EachClock {S} {C} P slots = (t : ℕ) (x : S × C) → IsAt slots t x → P t x.1
+
 -- each of so many targets has a store, which is so, and a clock
 pub record HaveStores {S C : Type 0} (P : ℕ → S → Type 0) (targets : ℕ) (slots : List (Option (S × C))) : Type 0 where
   pub set : AreSet targets slots

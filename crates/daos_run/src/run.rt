@@ -11,7 +11,7 @@ ghost use Rattle.model_reports.specs.Rooms.{FindsRoom, HasPlaces, HasRoom, Snaps
 ghost use Rattle.daos_run.specs.Alone.{IsOfLoneClient};
 ghost use Rattle.base_types.specs.Scripts.{IsInForm};
 ghost use Rattle.script_traits.specs.Plain.{IsPlain};
-ghost use Rattle.daos_run.specs.Slots.{HaveStores};
+ghost use Rattle.daos_run.specs.Slots.{EachClock, HaveStores};
 ghost use Rattle.daos_run.specs.Starts.{IsNewStore};
 ghost use Rattle.script_traits.specs.Keyed.{ScriptHasKeys};
 
@@ -40,6 +40,7 @@ fn set_all<B: Rack>(
     requires most_size { job.now.size_mib ≤ 32 }
     requires unset { parts.old ≡ replicate job.now.targets None }
     ensures set { OnOk result (HaveStores (λ t store. IsNewStore job.now.size_mib store) job.now.targets parts.new) }
+    ensures clocks { OnOk result (EachClock (B.gives rack.old) parts.new) }
     ensures rack { B.count rack.new ≡ B.count rack.old }
 {
     for t in 0..job.targets {
@@ -51,8 +52,8 @@ fn set_all<B: Rack>(
 
 /// Runs a script and reports what became of its commands. So far the store of each target is a list in
 /// memory: the rack gives its clock alone. The outside can't fail such a store, so only stop lines stop a
-/// target, and none is given up. Each target reads the clock that the rack has for it, by `ordered` at just
-/// the readings at which it issues epochs. The script may make snapshots, read at them and aggregate;
+/// target, and none is given up. Each target reads the clock that the rack hands out for it, by `ordered` at
+/// just the readings at which it issues epochs. The script may make snapshots, read at them and aggregate;
 /// `lone` is of scripts that don't, and `alone` of any.
 ///
 /// # Errors
@@ -76,7 +77,7 @@ pub fn run_script<R: Threads + Wait + Sync, B: Rack, G: Gate + Sync>(
     ensures legal { IfOk result (IsLegal (fresh script.now job.now)) }
     ensures form { ScriptHasKeys script.now → IfOk result (IsReportOf script.now) }
     ensures back { ScriptHasKeys script.now → IfOk result (IsReadBack script.now) }
-    ensures ordered { IfOk result (FollowsFromZeros B.Clock.is_read B.Clock.next (fresh script.now job.now)) }
+    ensures ordered { IfOk result (FollowsFromZeros (B.gives rack.old) B.Clock.is_read B.Clock.next (fresh script.now job.now)) }
     ensures issued { IfOk result AreIssuedThere }
     ensures in_real_time { IfOk result (IsInRealTime (fresh script.now job.now)) }
     ensures none_down { IfOk result (λ report. report.down ≡ None) }

@@ -54,6 +54,8 @@ impl Rack for PlannedRack {
 
     ghost next_size = { λ r t. size_at_home r.inner t };
 
+    ghost gives = { λ _ _ _. Unit {0} };
+
     ghost cannot_burn = { refl };
 
     fn region(&mut self, t: TargetId, size: u64) -> Result<SureRegion, Failed> {

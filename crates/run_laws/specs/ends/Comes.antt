@@ -156,10 +156,11 @@ pub record IsOrdered {S : Type 0} (durable : S → Option Durable) (state : S �
 abbrev pub ClocksGave : {C : Type 0} → (C → C → Type 0) → (C → Option ℕ) → (g : Given) (q : Report) → FollowsOrder g q → (ℕ → C → C → Type 0) → Type 0
 ClocksGave {C} is_read next_reading g q f AreOf = (t : ℕ) (c d : C) → AreOf t c d → HasGiven is_read next_reading c (readings_of t (orders-are-runs (rules_of g) g.job.order f.first f.last f.run)) d
 
--- A target's clock, before the run that a report follows and after it, gave just the readings at which the target issued epochs, or found that none are
+-- A target's clock, as it is given before the run that a report follows and as it is after it, gave just the readings at which the target issued epochs, or found that none are
 -- left, and no others: one after another, each where it is the clock's next one, if that is told.
-pub record HasClock {C : Type 0} (is_read : C → C → Type 0) (next_reading : C → Option ℕ) (g : Given) (q : Report) (f : FollowsOrder g q) (t : ℕ) : Type 0 where
+pub record HasClock {C : Type 0} (gives : C → Type 0) (is_read : C → C → Type 0) (next_reading : C → Option ℕ) (g : Given) (q : Report) (f : FollowsOrder g q) (t : ℕ) : Type 0 where
   pub before : C
+  pub given : gives before
   pub after : C
   pub gave : HasGiven is_read next_reading before (readings_of t (orders-are-runs (rules_of g) g.job.order f.first f.last f.run)) after
 

@@ -33,7 +33,7 @@ returns-clause-back g c keys =
 pub returns-clause-ordered : goal.returns-clause-ordered
 returns-clause-ordered g c =
     let new = c.in_ok-set_all.ensures.set in
-    follows-order c.args.job.now.targets c.args.job.now.size_mib c.set_all.new.parts new c.run_on.new.parts c.run_on.ensures.set c.run_on.ensures.served c.args.script.now c.args.job.now refl _ _ c.run_on.result (c.run_on.ensures.read _ (all-kept c.args.job.now.targets c.args.job.now.size_mib c.set_all.new.parts new) (λ t. c.args.job.now.size_mib * 4096 - 1264) (all-free c.args.job.now.targets c.args.job.now.size_mib c.set_all.new.parts new)) c.requires.script.read_for
+    follows-order c.args.job.now.targets c.args.job.now.size_mib c.set_all.new.parts new c.run_on.new.parts c.run_on.ensures.set c.run_on.ensures.served c.args.script.now c.args.job.now refl _ c.in_ok-set_all.ensures.clocks _ _ c.run_on.result (c.run_on.ensures.read _ (all-kept c.args.job.now.targets c.args.job.now.size_mib c.set_all.new.parts new) (λ t. c.args.job.now.size_mib * 4096 - 1264) (all-free c.args.job.now.targets c.args.job.now.size_mib c.set_all.new.parts new)) c.requires.script.read_for
 
 pub returns-clause-issued : goal.returns-clause-issued
 returns-clause-issued g c =
