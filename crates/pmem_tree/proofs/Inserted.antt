@@ -180,3 +180,7 @@ too_few t b0 b1 b one h d n =
 
 pub too_few_1 : (t : Shape) (b0 : Budget) → (b0.ranges < 1) ⊎ (b0.bytes < 1) → TooFew t b0
 too_few_1 t b0 h d n = elim h [ inl f ↦ inl (omega arith) | inr f ↦ inr (omega arith) ]
+
+-- what is left too little stays so
+pub few_less : (t : Shape) (r y : ℕ) (b0 b1 : Budget) → IsSpent r y b0 b1 → TooFew t b0 → TooFew t b1
+few_less t r y b0 b1 s h d n = elim (h d n) [ inl f ↦ inl (omega (arith, f, s.ranges_least)) | inr f ↦ inr (omega (arith, f, s.bytes_least)) ]

@@ -21,6 +21,10 @@ StepsAtMost each besides t before now = (d : ℕ) → length (entries t) < 2 ^ d
 abbrev pub StagesAtMost : ℕ → ℕ → Shape → Budget → Budget → Type 0
 StagesAtMost each besides t before now = (d : ℕ) → length (entries t) < 2 ^ d → IsSpent (each * d + besides) (256 * (each * d + besides)) before now
 
+-- fewer ranges or bytes are left than a change of a tree may want, whose number of pairs has so many digits
+abbrev pub IsShort : ℕ → Budget → Type 0
+IsShort d b = (b.ranges < 16 * d + 32) ⊎ (b.bytes < 256 * (16 * d + 32))
+
 -- fewer ranges or bytes were left than a change of the tree may want
 abbrev pub TooFew : Shape → Budget → Type 0
-TooFew t b = (d : ℕ) → length (entries t) < 2 ^ d → (b.ranges < 16 * d + 32) ⊎ (b.bytes < 256 * (16 * d + 32))
+TooFew t b = (d : ℕ) → length (entries t) < 2 ^ d → IsShort d b

@@ -111,8 +111,8 @@ impl Tree {
     ///
     /// # Errors
     ///
-    /// `TooMuch` comes only where no range or fewer than 256 bytes are left to stage. `Stopped` comes
-    /// only where the pages answered it, and `NoBlock` never.
+    /// `TooMuch` comes only where no range or fewer than 256 bytes are left to stage. After it no more are left.
+    /// `Stopped` comes only where the pages answered it, and `NoBlock` never.
     pub fn put_value<P: Pages, L: Ledger>(
         &mut self,
         pages: &mut P,
@@ -129,6 +129,7 @@ impl Tree {
         ensures kept { self.new ≡ self.old }
         ensures no_block { IsErrOf result TreeNo.NoBlock → ⊥ }
         ensures too_much { IsErrOf result TreeNo.TooMuch → ((P.budget pages.old).ranges < 1) ⊎ ((P.budget pages.old).bytes < 256) }
+        ensures few_left { IsErrOf result TreeNo.TooMuch → ((P.budget pages.new).ranges < 1) ⊎ ((P.budget pages.new).bytes < 256) }
         ensures steps { OfTree P.tells (P.blocks pages.old) self.old.kind self.old.root (λ t. StepsAtMost 16 16 t steps.old steps.new) }
         ensures staged { IsSpent 1 256 (P.budget pages.old) (P.budget pages.new) }
         ensures free { (P.budget pages.new).free ≡ (P.budget pages.old).free }
@@ -150,7 +151,8 @@ impl Tree {
     ///
     /// `NoBlock` comes exactly where no block is free. Where the pages tell their blocks, `TooMuch` comes
     /// only where fewer than `16 * d + 32` ranges or 256 times as many bytes are left to stage, with a
-    /// number of pairs of `d` binary digits. `Stopped` comes only where the pages answered it.
+    /// number of pairs of `d` binary digits. After it no more are left. `Stopped` comes only where the
+    /// pages answered it.
     pub fn insert<P: Pages, L: Ledger>(
         &mut self,
         pages: &mut P,
@@ -167,6 +169,7 @@ impl Tree {
         ensures root_kept { OnErr result (self.new.root ≡ self.old.root) }
         ensures no_block { IsErrOf result TreeNo.NoBlock ↔ ((P.budget pages.old).free ≡ 0) }
         ensures too_much { IsErrOf result TreeNo.TooMuch → OfTree P.tells (P.blocks pages.old) self.old.kind self.old.root (λ t. entry_at key.now (entries t) ≡ None → TooFew t (P.budget pages.old)) }
+        ensures few_left { IsErrOf result TreeNo.TooMuch → OfTree P.tells (P.blocks pages.old) self.old.kind self.old.root (λ t. entry_at key.now (entries t) ≡ None → TooFew t (P.budget pages.new)) }
         ensures steps { OfTree P.tells (P.blocks pages.old) self.old.kind self.old.root (λ t. StepsAtMost 16 16 t steps.old steps.new) }
         ensures staged { OnOk result (OfTree P.tells (P.blocks pages.old) self.old.kind self.old.root (λ t. entry_at key.now (entries t) ≡ None → StagesAtMost 4 8 t (P.budget pages.old) (P.budget pages.new))) }
         ensures few { OnOk result (OfTree P.tells (P.blocks pages.old) self.old.kind self.old.root (λ t. entry_at key.now (entries t) ≡ None → StagesAtEnd 6 key.now t (P.budget pages.old) (P.budget pages.new))) }
@@ -198,7 +201,8 @@ impl Tree {
     ///
     /// `NoBlock` comes only where the key isn't there and no block is free. Where the pages tell their blocks,
     /// `TooMuch` comes only where fewer than `16 * d + 32` ranges or 256 times as many bytes are left to stage,
-    /// with a number of pairs of `d` binary digits. `Stopped` comes only where the pages answered it.
+    /// with a number of pairs of `d` binary digits. After it no more are left. `Stopped` comes only where the
+    /// pages answered it.
     pub fn set<P: Pages, L: Ledger>(
         &mut self,
         pages: &mut P,
@@ -217,6 +221,7 @@ impl Tree {
         ensures no_block { IsErrOf result TreeNo.NoBlock → (P.budget pages.old).free ≡ 0 }
         ensures missing { IsErrOf result TreeNo.NoBlock → OfTree P.tells (P.blocks pages.old) self.old.kind self.old.root (λ t. entry_at key.now (entries t) ≡ None) }
         ensures too_much { IsErrOf result TreeNo.TooMuch → OfTree P.tells (P.blocks pages.old) self.old.kind self.old.root (λ t. TooFew t (P.budget pages.old)) }
+        ensures few_left { IsErrOf result TreeNo.TooMuch → OfTree P.tells (P.blocks pages.old) self.old.kind self.old.root (λ t. TooFew t (P.budget pages.new)) }
         ensures steps { OfTree P.tells (P.blocks pages.old) self.old.kind self.old.root (λ t. StepsAtMost 16 16 t steps.old steps.new) }
         ensures staged { OnOk result (OfTree P.tells (P.blocks pages.old) self.old.kind self.old.root (λ t. StagesAtMost 4 8 t (P.budget pages.old) (P.budget pages.new))) }
         ensures few { OnOk result (OfTree P.tells (P.blocks pages.old) self.old.kind self.old.root (λ t. entry_at key.now (entries t) ≡ None → StagesAtEnd 6 key.now t (P.budget pages.old) (P.budget pages.new))) }
@@ -247,8 +252,8 @@ impl Tree {
     /// # Errors
     ///
     /// Where the pages tell their blocks, `TooMuch` comes only where fewer than `16 * d + 32` ranges or 256
-    /// times as many bytes are left to stage, with a number of pairs of `d` binary digits. `Stopped` comes
-    /// only where the pages answered it, and `NoBlock` never.
+    /// times as many bytes are left to stage, with a number of pairs of `d` binary digits. After it no more are left.
+    /// `Stopped` comes only where the pages answered it, and `NoBlock` never.
     pub fn remove<P: Pages, L: Ledger>(
         &mut self,
         pages: &mut P,
@@ -263,6 +268,7 @@ impl Tree {
         ensures root_kept { OnErr result (self.new.root ≡ self.old.root) }
         ensures no_block { IsErrOf result TreeNo.NoBlock → ⊥ }
         ensures too_much { IsErrOf result TreeNo.TooMuch → OfTree P.tells (P.blocks pages.old) self.old.kind self.old.root (λ t. (e : Entry) → entry_at key.now (entries t) ≡ Some e → TooFew t (P.budget pages.old)) }
+        ensures few_left { IsErrOf result TreeNo.TooMuch → OfTree P.tells (P.blocks pages.old) self.old.kind self.old.root (λ t. (e : Entry) → entry_at key.now (entries t) ≡ Some e → TooFew t (P.budget pages.new)) }
         ensures steps { OfTree P.tells (P.blocks pages.old) self.old.kind self.old.root (λ t. StepsAtMost 16 16 t steps.old steps.new) }
         ensures staged { OnOk result (OfTree P.tells (P.blocks pages.old) self.old.kind self.old.root (λ t. StagesAtMost 8 16 t (P.budget pages.old) (P.budget pages.new))) }
         ensures free { OnOk result (IsTrue P.tells → (P.budget pages.new).free ≡ (P.budget pages.old).free + 1) }

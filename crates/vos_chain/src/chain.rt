@@ -27,6 +27,7 @@ fn put_link<P: Pages>(pages: &mut P, next: u32, part: &[u8]) -> Result<u32, Tree
     ensures made { IfOk result (λ b. IsTrue P.tells → P.blocks pages.new ≡ put (P.blocks pages.old) b (Some (link_bytes next part.now))) }
     ensures no_block { IsErrOf result TreeNo.NoBlock → (P.budget pages.old).free ≡ 0 }
     ensures too_much { IsErrOf result TreeNo.TooMuch → HasFewer 2 257 (P.budget pages.old) }
+    ensures few_left { IsErrOf result TreeNo.TooMuch → HasFewer 1 256 (P.budget pages.new) }
     ensures not_stopped { IsErrOf result TreeNo.Stopped → ⊥ }
     ensures staged { IsSpent 2 257 (P.budget pages.old) (P.budget pages.new) }
     ensures free { OnOk result ((P.budget pages.new).free + 1 ≡ (P.budget pages.old).free) }
@@ -43,12 +44,14 @@ fn put_link<P: Pages>(pages: &mut P, next: u32, part: &[u8]) -> Result<u32, Tree
 /// # Errors
 ///
 /// `NoBlock` comes only where fewer blocks are free than the bytes need, and `TooMuch` only where fewer
-/// ranges or bytes are left to stage than that takes. After one the stage has to be dropped.
+/// ranges or bytes are left to stage than that takes. After `TooMuch` no block more can be staged.
+/// After one the stage has to be dropped.
 pub fn write_chain<P: Pages>(pages: &mut P, bytes: &[u8]) -> Result<u32, TreeNo>
     requires { length bytes.now ≤ 65535 }
     ensures made { IfOk result (λ b. IsTrue P.tells → MadeChain (P.blocks pages.old) bytes.now (P.blocks pages.new) b) }
     ensures no_block { IsErrOf result TreeNo.NoBlock → (P.budget pages.old).free < chain_blocks (length bytes.now) }
     ensures too_much { IsErrOf result TreeNo.TooMuch → HasFewer (2 * chain_blocks (length bytes.now)) (257 * chain_blocks (length bytes.now)) (P.budget pages.old) }
+    ensures few_left { IsErrOf result TreeNo.TooMuch → HasFewer 1 256 (P.budget pages.new) }
     ensures not_stopped { IsErrOf result TreeNo.Stopped → ⊥ }
     ensures staged { IsSpent (2 * chain_blocks (length bytes.now)) (257 * chain_blocks (length bytes.now)) (P.budget pages.old) (P.budget pages.new) }
     ensures free { OnOk result ((P.budget pages.new).free + chain_blocks (length bytes.now) ≡ (P.budget pages.old).free) }
@@ -133,6 +136,7 @@ fn give_link<P: Pages, L: Ledger>(
     ensures given { OnOk result (IsTrue P.tells → P.blocks pages.new ≡ put (P.blocks pages.old) block None) }
     ensures no_block { IsErrOf result TreeNo.NoBlock → ⊥ }
     ensures too_much { IsErrOf result TreeNo.TooMuch → HasFewer 1 1 (P.budget pages.old) }
+    ensures few_left { IsErrOf result TreeNo.TooMuch → HasFewer 1 1 (P.budget pages.new) }
     ensures staged { IsSpent 1 1 (P.budget pages.old) (P.budget pages.new) }
     ensures free { OnOk result (IsTrue P.tells → (P.budget pages.new).free ≡ (P.budget pages.old).free + 1) }
     ensures steps { steps.new ≡ steps.old + 1 }
@@ -151,7 +155,8 @@ fn give_link<P: Pages, L: Ledger>(
 /// # Errors
 ///
 /// `TooMuch` comes only where fewer ranges or bytes are left to stage than the chain has blocks, `Stopped`
-/// only where the pages answered it, and `NoBlock` never. After one the stage has to be dropped.
+/// only where the pages answered it, and `NoBlock` never. After `TooMuch` no range or no byte is left.
+/// After one the stage has to be dropped.
 pub fn give_chain<P: Pages, L: Ledger>(
     pages: &mut P,
     first: u32,
@@ -162,6 +167,7 @@ pub fn give_chain<P: Pages, L: Ledger>(
     ensures given { OnOk result (OfChain P.tells (P.blocks pages.old) first count (λ c. Changed (maybe chain_owner) (P.blocks pages.old) (Some c) (P.blocks pages.new) None)) }
     ensures no_block { IsErrOf result TreeNo.NoBlock → ⊥ }
     ensures too_much { IsErrOf result TreeNo.TooMuch → HasFewer (chain_blocks count) (chain_blocks count) (P.budget pages.old) }
+    ensures few_left { IsErrOf result TreeNo.TooMuch → HasFewer 1 1 (P.budget pages.new) }
     ensures staged { IsSpent (chain_blocks count) (chain_blocks count) (P.budget pages.old) (P.budget pages.new) }
     ensures free { OnOk result (IsTrue P.tells → (P.budget pages.new).free ≡ (P.budget pages.old).free + chain_blocks count) }
     ensures steps { steps.new ≤ steps.old + chain_blocks count }

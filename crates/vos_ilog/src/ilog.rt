@@ -160,8 +160,8 @@ impl Ilog {
     /// # Errors
     ///
     /// `NoBlock` comes exactly where no block is free. `TooMuch` comes only where fewer ranges or bytes are
-    /// left to stage than the tree may want, and `Stopped` only where the pages answered it. After one the
-    /// stage has to be dropped.
+    /// left to stage than the tree may want, and `Stopped` only where the pages answered it. After `TooMuch`
+    /// fewer are left than one change of the tree may want. After one the stage has to be dropped.
     pub fn add<P: Pages, L: Ledger>(
         &mut self,
         pages: &mut P,
@@ -176,6 +176,7 @@ impl Ilog {
         ensures root_kept { OnErr result (self.new.tree.root ≡ self.old.tree.root) }
         ensures no_block { IsErrOf result TreeNo.NoBlock ↔ ((P.budget pages.old).free ≡ 0) }
         ensures too_much { IsErrOf result TreeNo.TooMuch → OfThing P.tells log_owner hung_root (P.blocks pages.old) self.old.tree.root (λ g. has_entry_at (moment_of entry) (things g) ≡ false → TooFew g.0 (P.budget pages.old)) }
+        ensures few_left { IsErrOf result TreeNo.TooMuch → OfThing P.tells log_owner hung_root (P.blocks pages.old) self.old.tree.root (λ g. has_entry_at (moment_of entry) (things g) ≡ false → TooFew g.0 (P.budget pages.new)) }
         ensures steps { OfThing P.tells log_owner hung_root (P.blocks pages.old) self.old.tree.root (λ g. StepsAtMost 16 16 g.0 steps.old steps.new) }
         ensures staged { OnOk result (OfThing P.tells log_owner hung_root (P.blocks pages.old) self.old.tree.root (λ g. has_entry_at (moment_of entry) (things g) ≡ false → StagesAtMost 4 8 g.0 (P.budget pages.old) (P.budget pages.new))) }
         ensures free { OnOk result ((P.budget pages.new).free + 1 ≡ (P.budget pages.old).free) }
@@ -290,6 +291,7 @@ impl Ilog {
         ensures kept { self.new ≡ self.old }
         ensures no_block { IsErrOf result TreeNo.NoBlock → ⊥ }
         ensures too_much { IsErrOf result TreeNo.TooMuch → ((P.budget pages.old).ranges < 1) ⊎ ((P.budget pages.old).bytes < 256) }
+        ensures few_left { IsErrOf result TreeNo.TooMuch → ((P.budget pages.new).ranges < 1) ⊎ ((P.budget pages.new).bytes < 256) }
         ensures steps { OfThing P.tells log_owner hung_root (P.blocks pages.old) self.old.tree.root (λ g. StepsAtMost 16 16 g.0 steps.old steps.new) }
         ensures staged { IsSpent 1 256 (P.budget pages.old) (P.budget pages.new) }
         ensures free { (P.budget pages.new).free ≡ (P.budget pages.old).free }
@@ -323,6 +325,7 @@ impl Ilog {
         ensures kind { self.new.tree.kind ≡ 4 }
         ensures no_block { IsErrOf result TreeNo.NoBlock → ⊥ }
         ensures too_much { IsErrOf result TreeNo.TooMuch → OfThing P.tells log_owner hung_root (P.blocks pages.old) self.old.tree.root (λ g. SaysAt at mark (things g) → TooFew g.0 (P.budget pages.old)) }
+        ensures few_left { IsErrOf result TreeNo.TooMuch → OfThing P.tells log_owner hung_root (P.blocks pages.old) self.old.tree.root (λ g. SaysAt at mark (things g) → TooFew g.0 (P.budget pages.new)) }
         ensures steps { OfThing P.tells log_owner hung_root (P.blocks pages.old) self.old.tree.root (λ g. StepsAtMost 16 16 g.0 steps.old steps.new) }
         ensures staged { OnOk result (OfThing P.tells log_owner hung_root (P.blocks pages.old) self.old.tree.root (λ g. StagesAtMost 8 16 g.0 (P.budget pages.old) (P.budget pages.new))) }
         ensures free { OnOk result (IsTrue P.tells → (P.budget pages.new).free ≡ (P.budget pages.old).free + 1) }
@@ -339,7 +342,8 @@ impl Ilog {
     /// # Errors
     ///
     /// `TooMuch` comes only where fewer ranges or bytes are left to stage than the tree may want, `Stopped`
-    /// only where the pages answered it, and `NoBlock` never. After one the stage has to be dropped.
+    /// only where the pages answered it, and `NoBlock` never. After `TooMuch` fewer are left than one
+    /// change of the tree may want. After one the stage has to be dropped.
     pub fn change_at<P: Pages, L: Ledger>(
         &mut self,
         pages: &mut P,
@@ -354,6 +358,7 @@ impl Ilog {
         ensures kind { self.new.tree.kind ≡ 4 }
         ensures no_block { IsErrOf result TreeNo.NoBlock → ⊥ }
         ensures too_much { IsErrOf result TreeNo.TooMuch → OfThing P.tells log_owner hung_root (P.blocks pages.old) self.old.tree.root (λ g. TooFew g.0 (P.budget pages.old)) }
+        ensures few_left { IsErrOf result TreeNo.TooMuch → OfThing P.tells log_owner hung_root (P.blocks pages.old) self.old.tree.root (λ g. TooFew g.0 (P.budget pages.new)) }
         ensures steps { OfThing P.tells log_owner hung_root (P.blocks pages.old) self.old.tree.root (λ g. StepsAtMost 18 16 g.0 steps.old steps.new) }
         ensures staged { OnOk result (OfThing P.tells log_owner hung_root (P.blocks pages.old) self.old.tree.root (λ g. StagesAtMost 8 16 g.0 (P.budget pages.old) (P.budget pages.new))) }
         ensures root { keeps change ≡ true → self.new.tree.root ≡ self.old.tree.root }

@@ -1,6 +1,7 @@
 // Writes of objects are settled or pruned one after another, by their names.
 ghost use Rattle.std.specs.Prelude.{◌≡◌, ◌≤◌, ◌+◌, true, ℕ, All, OnOk, IsErrOf, ⊤};
 ghost use Rattle.base_types.specs.declared.entry.Settle.TheVariants.{Commit as commit_step};
+ghost use Rattle.pmem_tree.specs.Calls.{IsShort};
 ghost use Rattle.pmem_tree_base.specs.Calls.{Goes};
 ghost use Rattle.pmem_tree_base.specs.declared.refusal.TreeNo.{TreeNo};
 ghost use Rattle.vos_levels.specs.Calls.{HasThing, OfThing};
@@ -27,7 +28,8 @@ impl Objects {
     /// # Errors
     ///
     /// As `settle_write`: `TooMuch` comes only where fewer ranges or bytes are left to stage than all of them
-    /// and one change of the largest tree may want.
+    /// and one change of the largest tree may want. After `TooMuch` fewer are left than one change of the
+    /// largest tree may want.
     pub fn settle_each<P: Pages, L: Ledger>(
         &mut self,
         pages: &mut P,
@@ -44,6 +46,7 @@ impl Objects {
         ensures kept { self.new ≡ self.old }
         ensures no_block { IsErrOf result TreeNo.NoBlock → ⊥ }
         ensures too_much { IsErrOf result TreeNo.TooMuch → OfThing P.tells objects_owner hung_root (P.blocks pages.old) self.old.tree.root (λ g. (d : ℕ) → ObjectsAreSmall d g → Lacks (each_cost names.now (for_one d) 1) d (P.budget pages.old)) }
+        ensures few_left { IsErrOf result TreeNo.TooMuch → OfThing P.tells objects_owner hung_root (P.blocks pages.old) self.old.tree.root (λ g. (d : ℕ) → ObjectsAreSmall d g → IsShort d (P.budget pages.new)) }
         ensures staged { OnOk result (OfThing P.tells objects_owner hung_root (P.blocks pages.old) self.old.tree.root (λ g. (d : ℕ) → ObjectsAreSmall d g → Spends (each_cost names.now (for_one d) 1) (P.budget pages.old) (P.budget pages.new))) }
         ensures committed { step ≡ commit_step → OnOk result (Spends (each_cost names.now 1 0) (P.budget pages.old) (P.budget pages.new)) }
         ensures gives { OnOk result (OfThing P.tells objects_owner hung_root (P.blocks pages.old) self.old.tree.root (λ g. (P.budget pages.old).free + settled_blocks attempt step names.now (objects_versions g) ≤ (P.budget pages.new).free)) }
@@ -75,6 +78,7 @@ impl Objects {
         ensures kept { self.new ≡ self.old }
         ensures no_block { IsErrOf result TreeNo.NoBlock → ⊥ }
         ensures too_much { IsErrOf result TreeNo.TooMuch → OfThing P.tells objects_owner hung_root (P.blocks pages.old) self.old.tree.root (λ g. (d : ℕ) → ObjectsAreSmall d g → Lacks (each_cost names.now (for_one d) 1) d (P.budget pages.old)) }
+        ensures few_left { IsErrOf result TreeNo.TooMuch → OfThing P.tells objects_owner hung_root (P.blocks pages.old) self.old.tree.root (λ g. (d : ℕ) → ObjectsAreSmall d g → IsShort d (P.budget pages.new)) }
         ensures staged { OnOk result (OfThing P.tells objects_owner hung_root (P.blocks pages.old) self.old.tree.root (λ g. (d : ℕ) → ObjectsAreSmall d g → Spends (each_cost names.now (for_one d) 1) (P.budget pages.old) (P.budget pages.new))) }
         ensures gives { OnOk result (OfThing P.tells objects_owner hung_root (P.blocks pages.old) self.old.tree.root (λ g. (P.budget pages.old).free + removed_blocks names.now (objects_versions g) ≤ (P.budget pages.new).free)) }
         ensures goes { Goes P.stopped P.count P.burns pages.old pages.new }

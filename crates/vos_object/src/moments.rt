@@ -1,6 +1,7 @@
 // The writes of some moments are settled or pruned, wherever they stand.
 ghost use Rattle.std.specs.Prelude.{◌≡◌, ◌≤◌, ◌+◌, true, ℕ, OnOk, IsErrOf, IsTrue, ⊤};
 ghost use Rattle.base_types.specs.declared.entry.Settle.TheVariants.{Commit as commit_step};
+ghost use Rattle.pmem_tree.specs.Calls.{IsShort};
 ghost use Rattle.pmem_tree_base.specs.Calls.{Goes};
 ghost use Rattle.vos_levels.specs.Calls.{Becomes, HasThing, OfThing};
 ghost use Rattle.vos_levels.specs.Levels.{hung_root};
@@ -35,8 +36,9 @@ impl Objects {
     /// # Errors
     ///
     /// `TooMuch` comes only where fewer ranges or bytes are left to stage than all of them and one change of the
-    /// largest tree may want, and `Stopped` only where the pages answered it. After these the stage has to be
-    /// dropped. After `Memory` nothing is staged.
+    /// largest tree may want, and `Stopped` only where the pages answered it. After `TooMuch` fewer are left
+    /// than one change of the largest tree may want. After these the stage has to be dropped. After `Memory`
+    /// nothing is staged.
     pub fn settle<P: Pages, L: Ledger>(
         &mut self,
         pages: &mut P,
@@ -53,6 +55,7 @@ impl Objects {
         ensures turns { OnOk result (OfThing P.tells objects_owner hung_root (P.blocks pages.old) self.old.tree.root (λ g. Turned (SettleTurn attempt step) (settled_each attempt step) (settled_names attempt which.now step (objects_versions g)) (P.blocks pages.old) g (P.blocks pages.new) self.new.tree.root)) }
         ensures kept { self.new ≡ self.old }
         ensures too_much { IsErrOf result SettleNo.TooMuch → OfThing P.tells objects_owner hung_root (P.blocks pages.old) self.old.tree.root (λ g. (d : ℕ) → ObjectsAreSmall d g → Lacks (each_cost (settled_names attempt which.now step (objects_versions g)) (for_one d) 1) d (P.budget pages.old)) }
+        ensures few_left { IsErrOf result SettleNo.TooMuch → OfThing P.tells objects_owner hung_root (P.blocks pages.old) self.old.tree.root (λ g. (d : ℕ) → ObjectsAreSmall d g → IsShort d (P.budget pages.new)) }
         ensures staged { OnOk result (OfThing P.tells objects_owner hung_root (P.blocks pages.old) self.old.tree.root (λ g. (d : ℕ) → ObjectsAreSmall d g → Spends (each_cost (settled_names attempt which.now step (objects_versions g)) (for_one d) 1) (P.budget pages.old) (P.budget pages.new))) }
         ensures committed { step ≡ commit_step → OnOk result (OfThing P.tells objects_owner hung_root (P.blocks pages.old) self.old.tree.root (λ g. Spends (each_cost (settled_names attempt which.now step (objects_versions g)) 1 0) (P.budget pages.old) (P.budget pages.new))) }
         ensures gives { OnOk result (OfThing P.tells objects_owner hung_root (P.blocks pages.old) self.old.tree.root (λ g. (P.budget pages.old).free + settled_freed attempt which.now step (objects_versions g) ≤ (P.budget pages.new).free)) }
@@ -92,6 +95,7 @@ impl Objects {
         ensures turns { OnOk result (OfThing P.tells objects_owner hung_root (P.blocks pages.old) self.old.tree.root (λ g. Turned RemoveTurn removed_each (pruned_names path.now gone.now (objects_versions g)) (P.blocks pages.old) g (P.blocks pages.new) self.new.tree.root)) }
         ensures kept { self.new ≡ self.old }
         ensures too_much { IsErrOf result SettleNo.TooMuch → OfThing P.tells objects_owner hung_root (P.blocks pages.old) self.old.tree.root (λ g. (d : ℕ) → ObjectsAreSmall d g → Lacks (each_cost (pruned_names path.now gone.now (objects_versions g)) (for_one d) 1) d (P.budget pages.old)) }
+        ensures few_left { IsErrOf result SettleNo.TooMuch → OfThing P.tells objects_owner hung_root (P.blocks pages.old) self.old.tree.root (λ g. (d : ℕ) → ObjectsAreSmall d g → IsShort d (P.budget pages.new)) }
         ensures staged { OnOk result (OfThing P.tells objects_owner hung_root (P.blocks pages.old) self.old.tree.root (λ g. (d : ℕ) → ObjectsAreSmall d g → Spends (each_cost (pruned_names path.now gone.now (objects_versions g)) (for_one d) 1) (P.budget pages.old) (P.budget pages.new))) }
         ensures gives { OnOk result (OfThing P.tells objects_owner hung_root (P.blocks pages.old) self.old.tree.root (λ g. (P.budget pages.old).free + pruned_freed path.now gone.now (objects_versions g) ≤ (P.budget pages.new).free)) }
         ensures memory { IsErrOf result SettleNo.Memory → (IsTrue P.tells → P.blocks pages.new ≡ P.blocks pages.old) × (P.budget pages.new ≡ P.budget pages.old) }

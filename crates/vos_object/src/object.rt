@@ -11,6 +11,7 @@ ghost use Rattle.daos_model.specs.Durables.{version_key};
 ghost use Rattle.daos_model.specs.Forms.{is_read_in_form, is_unit};
 ghost use Rattle.daos_model.specs.Ordered.{in_order};
 ghost use Rattle.daos_model.specs.Versions.{map_below};
+ghost use Rattle.pmem_tree.specs.Calls.{IsShort};
 ghost use Rattle.pmem_tree_base.specs.Calls.{Goes};
 ghost use Rattle.pmem_tree_base.specs.declared.refusal.TreeNo.{TreeNo};
 ghost use Rattle.vos_levels.specs.Calls.{HasThing, OfThing};
@@ -61,7 +62,8 @@ impl Objects {
     ///
     /// `NoBlock` comes only where fewer blocks are free than the write takes at most. `TooMuch` comes only
     /// where fewer ranges or bytes are left to stage than its pairs, its bytes and one change of the largest
-    /// tree may want, and `Stopped` only where the pages answered it. After one the stage has to be dropped.
+    /// tree may want, and `Stopped` only where the pages answered it. After `TooMuch` fewer are left
+    /// than one change of the largest tree may want. After one the stage has to be dropped.
     pub fn update<P: Pages, L: Ledger>(
         &mut self,
         pages: &mut P,
@@ -78,6 +80,7 @@ impl Objects {
         ensures kind { self.new.tree.kind ≡ 1 }
         ensures no_block { IsErrOf result TreeNo.NoBlock → (P.budget pages.old).free < most_blocks write.now.write }
         ensures too_much { IsErrOf result TreeNo.TooMuch → OfThing P.tells objects_owner hung_root (P.blocks pages.old) self.old.tree.root (λ g. IsNewIn (new_version epoch by write.now) g → (d : ℕ) → ObjectsAreSmall d g → LacksFor (data_blocks write.now.write) (below_object_pairs write.now.write (for_pair d)) d (P.budget pages.old)) }
+        ensures few_left { IsErrOf result TreeNo.TooMuch → OfThing P.tells objects_owner hung_root (P.blocks pages.old) self.old.tree.root (λ g. IsNewIn (new_version epoch by write.now) g → (d : ℕ) → ObjectsAreSmall d g → IsShort d (P.budget pages.new)) }
         ensures staged { OnOk result (OfThing P.tells objects_owner hung_root (P.blocks pages.old) self.old.tree.root (λ g. IsNewIn (new_version epoch by write.now) g → (d : ℕ) → ObjectsAreSmall d g → SpendsAtMost (data_blocks write.now.write) (object_pairs write.now.write (for_pair d)) (P.budget pages.old) (P.budget pages.new))) }
         ensures free { OnOk result ((P.budget pages.old).free ≤ (P.budget pages.new).free + most_blocks write.now.write) }
         ensures counted { most_blocks write.now.write < write_blocks write.now.write }
@@ -114,6 +117,7 @@ impl Objects {
         ensures kind { self.new.tree.kind ≡ 1 }
         ensures no_block { IsErrOf result TreeNo.NoBlock → (P.budget pages.old).free < most_blocks write.now.write }
         ensures too_much { IsErrOf result TreeNo.TooMuch → OfThing P.tells objects_owner hung_root (P.blocks pages.old) self.old.tree.root (λ g. IsNewIn (new_version epoch by write.now) g → (d : ℕ) → ObjectsAreSmall d g → LacksFor (data_blocks write.now.write) (below_object_pairs write.now.write (for_pair d)) d (P.budget pages.old)) }
+        ensures few_left { IsErrOf result TreeNo.TooMuch → OfThing P.tells objects_owner hung_root (P.blocks pages.old) self.old.tree.root (λ g. IsNewIn (new_version epoch by write.now) g → (d : ℕ) → ObjectsAreSmall d g → IsShort d (P.budget pages.new)) }
         ensures staged { OnOk result (OfThing P.tells objects_owner hung_root (P.blocks pages.old) self.old.tree.root (λ g. IsNewIn (new_version epoch by write.now) g → (d : ℕ) → ObjectsAreSmall d g → SpendsAtMost (data_blocks write.now.write) (object_pairs write.now.write (for_pair d)) (P.budget pages.old) (P.budget pages.new))) }
         ensures free { OnOk result ((P.budget pages.old).free ≤ (P.budget pages.new).free + most_blocks write.now.write) }
         ensures counted { most_blocks write.now.write < write_blocks write.now.write }

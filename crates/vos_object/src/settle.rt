@@ -1,6 +1,7 @@
 // Settling and pruning of objects, one write at a time.
 ghost use Rattle.std.specs.Prelude.{◌≡◌, ◌≤◌, ◌+◌, true, ℕ, OnOk, IsErrOf, ⊤};
 ghost use Rattle.base_types.specs.declared.entry.Settle.TheVariants.{Commit as commit_step};
+ghost use Rattle.pmem_tree.specs.Calls.{IsShort};
 ghost use Rattle.pmem_tree_base.specs.Calls.{Goes};
 ghost use Rattle.pmem_tree_base.specs.declared.refusal.TreeNo.{TreeNo};
 ghost use Rattle.vos_levels.specs.Calls.{HasThing, OfThing};
@@ -45,8 +46,9 @@ impl Objects {
     /// # Errors
     ///
     /// `TooMuch` comes only where fewer ranges or bytes are left to stage than its entries and one change of
-    /// the largest tree may want, `Stopped` only where the pages answered it, and `NoBlock` never. After one
-    /// the stage has to be dropped.
+    /// the largest tree may want, `Stopped` only where the pages answered it, and `NoBlock` never. After `TooMuch`
+    /// fewer are left than one change of the largest tree may want. After one the stage has to be
+    /// dropped.
     pub fn settle_write<P: Pages, L: Ledger>(
         &mut self,
         pages: &mut P,
@@ -63,6 +65,7 @@ impl Objects {
         ensures kept { self.new ≡ self.old }
         ensures no_block { IsErrOf result TreeNo.NoBlock → ⊥ }
         ensures too_much { IsErrOf result TreeNo.TooMuch → OfThing P.tells objects_owner hung_root (P.blocks pages.old) self.old.tree.root (λ g. (d : ℕ) → ObjectsAreSmall d g → Lacks (objects_cost name.now.kind name.now.path.dkey name.now.path.akey (for_one d) 1) d (P.budget pages.old)) }
+        ensures few_left { IsErrOf result TreeNo.TooMuch → OfThing P.tells objects_owner hung_root (P.blocks pages.old) self.old.tree.root (λ g. (d : ℕ) → ObjectsAreSmall d g → IsShort d (P.budget pages.new)) }
         ensures staged { OnOk result (OfThing P.tells objects_owner hung_root (P.blocks pages.old) self.old.tree.root (λ g. (d : ℕ) → ObjectsAreSmall d g → Spends (objects_cost name.now.kind name.now.path.dkey name.now.path.akey (for_one d) 1) (P.budget pages.old) (P.budget pages.new))) }
         ensures committed { step ≡ commit_step → OnOk result (Spends (objects_cost name.now.kind name.now.path.dkey name.now.path.akey 1 0) (P.budget pages.old) (P.budget pages.new)) }
         ensures free { OnOk result (OfThing P.tells objects_owner hung_root (P.blocks pages.old) self.old.tree.root (λ g. (P.budget pages.new).free ≡ (P.budget pages.old).free + write_freed (settling attempt name.now step) name.now.path g)) }
@@ -99,6 +102,7 @@ impl Objects {
         ensures kept { self.new ≡ self.old }
         ensures no_block { IsErrOf result TreeNo.NoBlock → ⊥ }
         ensures too_much { IsErrOf result TreeNo.TooMuch → OfThing P.tells objects_owner hung_root (P.blocks pages.old) self.old.tree.root (λ g. (d : ℕ) → ObjectsAreSmall d g → Lacks (objects_cost name.now.kind name.now.path.dkey name.now.path.akey (for_one d) 1) d (P.budget pages.old)) }
+        ensures few_left { IsErrOf result TreeNo.TooMuch → OfThing P.tells objects_owner hung_root (P.blocks pages.old) self.old.tree.root (λ g. (d : ℕ) → ObjectsAreSmall d g → IsShort d (P.budget pages.new)) }
         ensures staged { OnOk result (OfThing P.tells objects_owner hung_root (P.blocks pages.old) self.old.tree.root (λ g. (d : ℕ) → ObjectsAreSmall d g → Spends (objects_cost name.now.kind name.now.path.dkey name.now.path.akey (for_one d) 1) (P.budget pages.old) (P.budget pages.new))) }
         ensures free { OnOk result (OfThing P.tells objects_owner hung_root (P.blocks pages.old) self.old.tree.root (λ g. (P.budget pages.new).free ≡ (P.budget pages.old).free + removed_freed (writer_of name.now.path name.now.kind (moment_of name.now) (objects_versions g)) name.now.kind (moment_of name.now) name.now.path g)) }
         ensures gives { OnOk result (OfThing P.tells objects_owner hung_root (P.blocks pages.old) self.old.tree.root (λ g. (P.budget pages.old).free + done_blocks name.now.path name.now.kind (moment_of name.now) (objects_versions g) ≤ (P.budget pages.new).free)) }

@@ -2,6 +2,7 @@
 ghost use Rattle.std.specs.Prelude.{◌≡◌, ◌≤◌, ◌<◌, ◌+◌, true, ℕ, OnOk, IsErrOf, List};
 ghost use Rattle.base_types.specs.Operations.{write_path};
 ghost use Rattle.daos_model.specs.Forms.{is_write_in_form};
+ghost use Rattle.pmem_tree.specs.Calls.{IsShort};
 ghost use Rattle.pmem_tree_base.specs.Calls.{Goes};
 ghost use Rattle.pmem_tree_base.specs.declared.refusal.TreeNo.{TreeNo};
 ghost use Rattle.vos_levels.specs.Calls.{HasThing, OfThing};
@@ -31,7 +32,8 @@ use vos_values::values::akey_value;
 ///
 /// `NoBlock` comes only where fewer blocks are free than the bytes and the pairs may want, `TooMuch` only
 /// where fewer ranges or bytes are left to stage than that, and `Stopped` only where the pages answered
-/// it. After one the stage has to be dropped.
+/// it. After `TooMuch` fewer are left than one change of the largest tree may want. After one the
+/// stage has to be dropped.
 pub fn write_akeys<P: Pages, L: Ledger>(
     akeys: &mut Tree,
     pages: &mut P,
@@ -49,6 +51,7 @@ pub fn write_akeys<P: Pages, L: Ledger>(
     ensures kind { akeys.new.kind ≡ 3 }
     ensures no_block { IsErrOf result TreeNo.NoBlock → (P.budget pages.old).free < data_blocks write.now + akey_pairs write.now 1 }
     ensures too_much { IsErrOf result TreeNo.TooMuch → OfThing P.tells (hung akey_level) hung_root (P.blocks pages.old) akeys.old.root (λ g. AkeysAreNew stamp g → (d : ℕ) → AkeysAreSmall d g → LacksFor (data_blocks write.now) (values_pairs write.now (for_pair d)) d (P.budget pages.old)) }
+    ensures few_left { IsErrOf result TreeNo.TooMuch → OfThing P.tells (hung akey_level) hung_root (P.blocks pages.old) akeys.old.root (λ g. AkeysAreNew stamp g → (d : ℕ) → AkeysAreSmall d g → IsShort d (P.budget pages.new)) }
     ensures staged { OnOk result (OfThing P.tells (hung akey_level) hung_root (P.blocks pages.old) akeys.old.root (λ g. AkeysAreNew stamp g → (d : ℕ) → AkeysAreSmall d g → SpendsAtMost (data_blocks write.now) (akey_pairs write.now (for_pair d)) (P.budget pages.old) (P.budget pages.new))) }
     ensures free { OnOk result ((P.budget pages.old).free ≤ (P.budget pages.new).free + (data_blocks write.now + akey_pairs write.now 1)) }
     ensures goes { Goes P.stopped P.count P.burns pages.old pages.new }

@@ -3,6 +3,7 @@ ghost use Rattle.std.specs.Prelude.{◌≡◌, ◌≤◌, ◌<◌, ◌+◌, true
 ghost use Rattle.base_types.specs.Operations.{write_path};
 ghost use Rattle.base_types.specs.declared.operation.Write.TheVariants.{PunchDkey as punch_write};
 ghost use Rattle.daos_model.specs.Forms.{is_write_in_form};
+ghost use Rattle.pmem_tree.specs.Calls.{IsShort};
 ghost use Rattle.pmem_tree_base.specs.Calls.{Goes};
 ghost use Rattle.pmem_tree_base.specs.declared.refusal.TreeNo.{TreeNo};
 ghost use Rattle.vos_levels.specs.Calls.{HasThing, OfThing};
@@ -53,6 +54,7 @@ fn write_below<P: Pages, L: Ledger>(
     ensures written { IfOk result (λ now. OfAt P.tells (below_owner akey_level) below_roots (P.blocks pages.old) roots (λ g. BelowDkeyIsNew stamp g → (o : ObjectKeyOf) (d a : List ℕ) → write_path write.now ≡ akey_path o d a → Turns (below_owner akey_level) below_roots (below_dkey_versions o d) (P.blocks pages.old) g (P.blocks pages.new) now (HasMore (fresh stamp write.now)) (DkeyNoted stamp write.now (some_name a)))) }
     ensures no_block { IsErrOf result TreeNo.NoBlock → (P.budget pages.old).free < data_blocks write.now + (akey_pairs write.now 1 + log_pairs write.now 1) }
     ensures too_much { IsErrOf result TreeNo.TooMuch → OfAt P.tells (below_owner akey_level) below_roots (P.blocks pages.old) roots (λ g. BelowDkeyIsNew stamp g → (d : ℕ) → BelowDkeyIsSmall d g → LacksFor (data_blocks write.now) (akey_pairs write.now (for_pair d) + log_pairs write.now (for_pair d)) d (P.budget pages.old)) }
+    ensures few_left { IsErrOf result TreeNo.TooMuch → OfAt P.tells (below_owner akey_level) below_roots (P.blocks pages.old) roots (λ g. BelowDkeyIsNew stamp g → (d : ℕ) → BelowDkeyIsSmall d g → IsShort d (P.budget pages.new)) }
     ensures staged { OnOk result (OfAt P.tells (below_owner akey_level) below_roots (P.blocks pages.old) roots (λ g. BelowDkeyIsNew stamp g → (d : ℕ) → BelowDkeyIsSmall d g → SpendsAtMost (data_blocks write.now) (akey_pairs write.now (for_pair d) + log_pairs write.now (for_pair d)) (P.budget pages.old) (P.budget pages.new))) }
     ensures free { OnOk result ((P.budget pages.old).free ≤ (P.budget pages.new).free + (data_blocks write.now + (akey_pairs write.now 1 + log_pairs write.now 1))) }
     ensures goes { Goes P.stopped P.count P.burns pages.old pages.new }
@@ -83,6 +85,7 @@ fn punch_log<P: Pages, L: Ledger>(
     ensures written { IfOk result (λ now. OfAt P.tells (below_owner akey_level) below_roots (P.blocks pages.old) roots (λ g. BelowDkeyIsNew stamp g → (o : ObjectKeyOf) (d : List ℕ) → Turns (below_owner akey_level) below_roots (below_dkey_versions o d) (P.blocks pages.old) g (P.blocks pages.new) now (HasMore (fresh stamp (punch_write (dkey_path o d)))) (DkeyNoted stamp (punch_write (dkey_path o d)) no_name))) }
     ensures no_block { IsErrOf result TreeNo.NoBlock → (P.budget pages.old).free < 1 }
     ensures too_much { IsErrOf result TreeNo.TooMuch → OfAt P.tells (below_owner akey_level) below_roots (P.blocks pages.old) roots (λ g. BelowDkeyIsNew stamp g → (d : ℕ) → BelowDkeyIsSmall d g → LacksFor 0 0 d (P.budget pages.old)) }
+    ensures few_left { IsErrOf result TreeNo.TooMuch → OfAt P.tells (below_owner akey_level) below_roots (P.blocks pages.old) roots (λ g. BelowDkeyIsNew stamp g → (d : ℕ) → BelowDkeyIsSmall d g → IsShort d (P.budget pages.new)) }
     ensures staged { OnOk result (OfAt P.tells (below_owner akey_level) below_roots (P.blocks pages.old) roots (λ g. BelowDkeyIsNew stamp g → (d : ℕ) → BelowDkeyIsSmall d g → SpendsAtMost 0 (for_pair d) (P.budget pages.old) (P.budget pages.new))) }
     ensures free { OnOk result ((P.budget pages.old).free ≤ (P.budget pages.new).free + 1) }
     ensures goes { Goes P.stopped P.count P.burns pages.old pages.new }
@@ -112,6 +115,7 @@ fn write_dkey<P: Pages, L: Ledger>(
     ensures written { IfOk result (λ now. OfAt P.tells (below_owner akey_level) below_roots (P.blocks pages.old) roots (λ g. BelowDkeyIsNew stamp g → (o : ObjectKeyOf) (d : List ℕ) → IsAtDkey o d (write_path write.now) → Turns (below_owner akey_level) below_roots (below_dkey_versions o d) (P.blocks pages.old) g (P.blocks pages.new) now (HasMore (fresh stamp write.now)) (DkeyNoted stamp write.now (write_path write.now).akey))) }
     ensures no_block { IsErrOf result TreeNo.NoBlock → (P.budget pages.old).free < data_blocks write.now + below_dkey_pairs write.now 1 }
     ensures too_much { IsErrOf result TreeNo.TooMuch → OfAt P.tells (below_owner akey_level) below_roots (P.blocks pages.old) roots (λ g. BelowDkeyIsNew stamp g → (d : ℕ) → BelowDkeyIsSmall d g → LacksFor (data_blocks write.now) (below_dkey_pairs write.now (for_pair d)) d (P.budget pages.old)) }
+    ensures few_left { IsErrOf result TreeNo.TooMuch → OfAt P.tells (below_owner akey_level) below_roots (P.blocks pages.old) roots (λ g. BelowDkeyIsNew stamp g → (d : ℕ) → BelowDkeyIsSmall d g → IsShort d (P.budget pages.new)) }
     ensures staged { OnOk result (OfAt P.tells (below_owner akey_level) below_roots (P.blocks pages.old) roots (λ g. BelowDkeyIsNew stamp g → (d : ℕ) → BelowDkeyIsSmall d g → SpendsAtMost (data_blocks write.now) (below_dkey_pairs write.now (for_pair d)) (P.budget pages.old) (P.budget pages.new))) }
     ensures free { OnOk result ((P.budget pages.old).free ≤ (P.budget pages.new).free + (data_blocks write.now + below_dkey_pairs write.now 1)) }
     ensures goes { Goes P.stopped P.count P.burns pages.old pages.new }
@@ -132,7 +136,8 @@ fn write_dkey<P: Pages, L: Ledger>(
 ///
 /// `NoBlock` comes only where fewer blocks are free than the bytes and the pairs may want, `TooMuch` only
 /// where fewer ranges or bytes are left to stage than that, and `Stopped` only where the pages answered
-/// it. After one the stage has to be dropped.
+/// it. After `TooMuch` fewer are left than one change of the largest tree may want. After one the
+/// stage has to be dropped.
 pub fn write_dkeys<P: Pages, L: Ledger>(
     dkeys: &mut Tree,
     pages: &mut P,
@@ -150,6 +155,7 @@ pub fn write_dkeys<P: Pages, L: Ledger>(
     ensures kind { dkeys.new.kind ≡ 2 }
     ensures no_block { IsErrOf result TreeNo.NoBlock → (P.budget pages.old).free < data_blocks write.now + dkey_pairs write.now 1 }
     ensures too_much { IsErrOf result TreeNo.TooMuch → OfThing P.tells (hung dkey_level) hung_root (P.blocks pages.old) dkeys.old.root (λ g. DkeysAreNew stamp g → (d : ℕ) → DkeysAreSmall d g → LacksFor (data_blocks write.now) (below_dkey_pairs write.now (for_pair d)) d (P.budget pages.old)) }
+    ensures few_left { IsErrOf result TreeNo.TooMuch → OfThing P.tells (hung dkey_level) hung_root (P.blocks pages.old) dkeys.old.root (λ g. DkeysAreNew stamp g → (d : ℕ) → DkeysAreSmall d g → IsShort d (P.budget pages.new)) }
     ensures staged { OnOk result (OfThing P.tells (hung dkey_level) hung_root (P.blocks pages.old) dkeys.old.root (λ g. DkeysAreNew stamp g → (d : ℕ) → DkeysAreSmall d g → SpendsAtMost (data_blocks write.now) (dkey_pairs write.now (for_pair d)) (P.budget pages.old) (P.budget pages.new))) }
     ensures free { OnOk result ((P.budget pages.old).free ≤ (P.budget pages.new).free + (data_blocks write.now + dkey_pairs write.now 1)) }
     ensures goes { Goes P.stopped P.count P.burns pages.old pages.new }

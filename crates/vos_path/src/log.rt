@@ -50,8 +50,8 @@ fn value_of(stamp: Stamp, punch: bool) -> Value
 /// # Errors
 ///
 /// `NoBlock` comes only where no block is free. `TooMuch` comes only where fewer ranges or bytes are left
-/// to stage than the tree may want, and `Stopped` only where the pages answered it. After one the stage
-/// has to be dropped.
+/// to stage than the tree may want, and `Stopped` only where the pages answered it. After `TooMuch`
+/// fewer are left than one change of the tree may want. After one the stage has to be dropped.
 pub fn note<P: Pages, L: Ledger>(
     root: u32,
     pages: &mut P,
@@ -64,6 +64,7 @@ pub fn note<P: Pages, L: Ledger>(
     ensures noted { IfOk result (λ now. OfThing P.tells log_owner hung_root (P.blocks pages.old) root (λ g. has_punch_at stamp.at (things g) ≡ false → Becomes log_owner hung_root things (P.blocks pages.old) g (P.blocks pages.new) now (IsNoted (fresh_entry stamp punch)))) }
     ensures no_block { IsErrOf result TreeNo.NoBlock → (P.budget pages.old).free < 1 }
     ensures too_much { IsErrOf result TreeNo.TooMuch → OfThing P.tells log_owner hung_root (P.blocks pages.old) root (λ g. TooFew g.0 (P.budget pages.old)) }
+    ensures few_left { IsErrOf result TreeNo.TooMuch → OfThing P.tells log_owner hung_root (P.blocks pages.old) root (λ g. TooFew g.0 (P.budget pages.new)) }
     ensures staged { OnOk result (OfThing P.tells log_owner hung_root (P.blocks pages.old) root (λ g. StagesAtMost 4 8 g.0 (P.budget pages.old) (P.budget pages.new))) }
     ensures free { OnOk result ((P.budget pages.old).free ≤ (P.budget pages.new).free + 1) }
     ensures goes { Goes P.stopped P.count P.burns pages.old pages.new }
@@ -101,6 +102,7 @@ pub fn note_update<P: Pages, L: Ledger>(
     ensures noted { IfOk result (λ now. OfThing P.tells log_owner hung_root (P.blocks pages.old) root (λ g. has_punch_at stamp.at (things g) ≡ false → Becomes log_owner hung_root things (P.blocks pages.old) g (P.blocks pages.new) now (IsNotedIf (is_update write.now) (fresh_entry stamp false)))) }
     ensures no_block { IsErrOf result TreeNo.NoBlock → (P.budget pages.old).free < log_pairs write.now 1 }
     ensures too_much { IsErrOf result TreeNo.TooMuch → OfThing P.tells log_owner hung_root (P.blocks pages.old) root (λ g. TooFew g.0 (P.budget pages.old)) }
+    ensures few_left { IsErrOf result TreeNo.TooMuch → OfThing P.tells log_owner hung_root (P.blocks pages.old) root (λ g. TooFew g.0 (P.budget pages.new)) }
     ensures staged { OnOk result (OfThing P.tells log_owner hung_root (P.blocks pages.old) root (λ g. (d : ℕ) → IsSmall d g → SpendsAtMost 0 (log_pairs write.now (for_pair d)) (P.budget pages.old) (P.budget pages.new))) }
     ensures free { OnOk result ((P.budget pages.old).free ≤ (P.budget pages.new).free + log_pairs write.now 1) }
     ensures goes { Goes P.stopped P.count P.burns pages.old pages.new }

@@ -4,6 +4,7 @@ ghost use Rattle.base_types.specs.Operations.{write_path};
 ghost use Rattle.base_types.specs.declared.operation.Write.TheVariants.{PunchObject as punch_write};
 ghost use Rattle.base_types.specs.Paths.{record_size};
 ghost use Rattle.daos_model.specs.Forms.{is_write_in_form, is_unit};
+ghost use Rattle.pmem_tree.specs.Calls.{IsShort};
 ghost use Rattle.pmem_tree_base.specs.Calls.{Goes};
 ghost use Rattle.pmem_tree_base.specs.declared.refusal.TreeNo.{TreeNo};
 ghost use Rattle.vos_levels.specs.Calls.{HasThing, OfThing};
@@ -52,6 +53,7 @@ fn write_below<P: Pages, L: Ledger>(
     ensures written { IfOk result (λ now. OfAt P.tells (below_owner dkey_level) below_roots (P.blocks pages.old) roots (λ g. BelowObjectIsNew stamp g → (o : ObjectKeyOf) → IsAtObject o (write_path write.now) → Turns (below_owner dkey_level) below_roots (below_object_versions o) (P.blocks pages.old) g (P.blocks pages.new) now (HasMore (fresh stamp write.now)) (ObjectNoted stamp write.now (write_path write.now).dkey (write_path write.now).akey))) }
     ensures no_block { IsErrOf result TreeNo.NoBlock → (P.budget pages.old).free < data_blocks write.now + (dkey_pairs write.now 1 + log_pairs write.now 1) }
     ensures too_much { IsErrOf result TreeNo.TooMuch → OfAt P.tells (below_owner dkey_level) below_roots (P.blocks pages.old) roots (λ g. BelowObjectIsNew stamp g → (d : ℕ) → BelowObjectIsSmall d g → LacksFor (data_blocks write.now) (dkey_pairs write.now (for_pair d) + log_pairs write.now (for_pair d)) d (P.budget pages.old)) }
+    ensures few_left { IsErrOf result TreeNo.TooMuch → OfAt P.tells (below_owner dkey_level) below_roots (P.blocks pages.old) roots (λ g. BelowObjectIsNew stamp g → (d : ℕ) → BelowObjectIsSmall d g → IsShort d (P.budget pages.new)) }
     ensures staged { OnOk result (OfAt P.tells (below_owner dkey_level) below_roots (P.blocks pages.old) roots (λ g. BelowObjectIsNew stamp g → (d : ℕ) → BelowObjectIsSmall d g → SpendsAtMost (data_blocks write.now) (dkey_pairs write.now (for_pair d) + log_pairs write.now (for_pair d)) (P.budget pages.old) (P.budget pages.new))) }
     ensures free { OnOk result ((P.budget pages.old).free ≤ (P.budget pages.new).free + (data_blocks write.now + (dkey_pairs write.now 1 + log_pairs write.now 1))) }
     ensures goes { Goes P.stopped P.count P.burns pages.old pages.new }
@@ -82,6 +84,7 @@ fn punch_log<P: Pages, L: Ledger>(
     ensures written { IfOk result (λ now. OfAt P.tells (below_owner dkey_level) below_roots (P.blocks pages.old) roots (λ g. BelowObjectIsNew stamp g → (o : ObjectKeyOf) → Turns (below_owner dkey_level) below_roots (below_object_versions o) (P.blocks pages.old) g (P.blocks pages.new) now (HasMore (fresh stamp (punch_write (object_path o)))) (ObjectNoted stamp (punch_write (object_path o)) no_name no_name))) }
     ensures no_block { IsErrOf result TreeNo.NoBlock → (P.budget pages.old).free < 1 }
     ensures too_much { IsErrOf result TreeNo.TooMuch → OfAt P.tells (below_owner dkey_level) below_roots (P.blocks pages.old) roots (λ g. BelowObjectIsNew stamp g → (d : ℕ) → BelowObjectIsSmall d g → LacksFor 0 0 d (P.budget pages.old)) }
+    ensures few_left { IsErrOf result TreeNo.TooMuch → OfAt P.tells (below_owner dkey_level) below_roots (P.blocks pages.old) roots (λ g. BelowObjectIsNew stamp g → (d : ℕ) → BelowObjectIsSmall d g → IsShort d (P.budget pages.new)) }
     ensures staged { OnOk result (OfAt P.tells (below_owner dkey_level) below_roots (P.blocks pages.old) roots (λ g. BelowObjectIsNew stamp g → (d : ℕ) → BelowObjectIsSmall d g → SpendsAtMost 0 (for_pair d) (P.budget pages.old) (P.budget pages.new))) }
     ensures free { OnOk result ((P.budget pages.old).free ≤ (P.budget pages.new).free + 1) }
     ensures goes { Goes P.stopped P.count P.burns pages.old pages.new }
@@ -110,6 +113,7 @@ fn write_object<P: Pages, L: Ledger>(
     ensures written { IfOk result (λ now. OfAt P.tells (below_owner dkey_level) below_roots (P.blocks pages.old) roots (λ g. BelowObjectIsNew stamp g → (o : ObjectKeyOf) → IsAtObject o (write_path write.now) → Turns (below_owner dkey_level) below_roots (below_object_versions o) (P.blocks pages.old) g (P.blocks pages.new) now (HasMore (fresh stamp write.now)) (ObjectNoted stamp write.now (write_path write.now).dkey (write_path write.now).akey))) }
     ensures no_block { IsErrOf result TreeNo.NoBlock → (P.budget pages.old).free < data_blocks write.now + below_object_pairs write.now 1 }
     ensures too_much { IsErrOf result TreeNo.TooMuch → OfAt P.tells (below_owner dkey_level) below_roots (P.blocks pages.old) roots (λ g. BelowObjectIsNew stamp g → (d : ℕ) → BelowObjectIsSmall d g → LacksFor (data_blocks write.now) (below_object_pairs write.now (for_pair d)) d (P.budget pages.old)) }
+    ensures few_left { IsErrOf result TreeNo.TooMuch → OfAt P.tells (below_owner dkey_level) below_roots (P.blocks pages.old) roots (λ g. BelowObjectIsNew stamp g → (d : ℕ) → BelowObjectIsSmall d g → IsShort d (P.budget pages.new)) }
     ensures staged { OnOk result (OfAt P.tells (below_owner dkey_level) below_roots (P.blocks pages.old) roots (λ g. BelowObjectIsNew stamp g → (d : ℕ) → BelowObjectIsSmall d g → SpendsAtMost (data_blocks write.now) (below_object_pairs write.now (for_pair d)) (P.budget pages.old) (P.budget pages.new))) }
     ensures free { OnOk result ((P.budget pages.old).free ≤ (P.budget pages.new).free + (data_blocks write.now + below_object_pairs write.now 1)) }
     ensures goes { Goes P.stopped P.count P.burns pages.old pages.new }
@@ -130,7 +134,8 @@ fn write_object<P: Pages, L: Ledger>(
 ///
 /// `NoBlock` comes only where fewer blocks are free than the bytes and the pairs may want, `TooMuch` only
 /// where fewer ranges or bytes are left to stage than that, and `Stopped` only where the pages answered
-/// it. After one the stage has to be dropped.
+/// it. After `TooMuch` fewer are left than one change of the largest tree may want. After one the
+/// stage has to be dropped.
 pub fn write_objects<P: Pages, L: Ledger>(
     objects: &mut Tree,
     pages: &mut P,
@@ -148,6 +153,7 @@ pub fn write_objects<P: Pages, L: Ledger>(
     ensures kind { objects.new.kind ≡ 1 }
     ensures no_block { IsErrOf result TreeNo.NoBlock → (P.budget pages.old).free < data_blocks write.now + object_pairs write.now 1 }
     ensures too_much { IsErrOf result TreeNo.TooMuch → OfThing P.tells objects_owner hung_root (P.blocks pages.old) objects.old.root (λ g. IsNewIn (fresh stamp write.now) g → (d : ℕ) → ObjectsAreSmall d g → LacksFor (data_blocks write.now) (below_object_pairs write.now (for_pair d)) d (P.budget pages.old)) }
+    ensures few_left { IsErrOf result TreeNo.TooMuch → OfThing P.tells objects_owner hung_root (P.blocks pages.old) objects.old.root (λ g. IsNewIn (fresh stamp write.now) g → (d : ℕ) → ObjectsAreSmall d g → IsShort d (P.budget pages.new)) }
     ensures staged { OnOk result (OfThing P.tells objects_owner hung_root (P.blocks pages.old) objects.old.root (λ g. IsNewIn (fresh stamp write.now) g → (d : ℕ) → ObjectsAreSmall d g → SpendsAtMost (data_blocks write.now) (object_pairs write.now (for_pair d)) (P.budget pages.old) (P.budget pages.new))) }
     ensures free { OnOk result ((P.budget pages.old).free ≤ (P.budget pages.new).free + (data_blocks write.now + object_pairs write.now 1)) }
     ensures goes { Goes P.stopped P.count P.burns pages.old pages.new }

@@ -4,6 +4,7 @@ ghost use Rattle.base_types.specs.Operations.{write_path};
 ghost use Rattle.base_types.specs.declared.operation.Write.TheVariants.{Extent as extent_write, PunchAkey as akey_punch, Single as single_write};
 ghost use Rattle.base_types.specs.declared.path.Path.{Path as PathOf};
 ghost use Rattle.daos_model.specs.Forms.{is_write_in_form};
+ghost use Rattle.pmem_tree.specs.Calls.{IsShort};
 ghost use Rattle.pmem_tree_base.specs.Calls.{Goes};
 ghost use Rattle.pmem_tree_base.specs.declared.refusal.TreeNo.{TreeNo};
 ghost use Rattle.vos_levels.specs.Levels.{HasMore};
@@ -41,6 +42,7 @@ fn write_single<P: Pages, L: Ledger>(
     ensures written { IfOk result (λ now. OfAt P.tells values_owner values_roots (P.blocks pages.old) roots (λ g. ValuesAreNew stamp g → (p : PathOf) → Turns values_owner values_roots (values_versions p) (P.blocks pages.old) g (P.blocks pages.new) now (HasMore (fresh stamp (single_write p bytes.now))) (ValuesNoted stamp (single_write p bytes.now)))) }
     ensures no_block { IsErrOf result TreeNo.NoBlock → (P.budget pages.old).free < chain_blocks (length bytes.now) + 2 }
     ensures too_much { IsErrOf result TreeNo.TooMuch → OfAt P.tells values_owner values_roots (P.blocks pages.old) roots (λ g. ValuesAreNew stamp g → (d : ℕ) → ValuesAreSmall d g → LacksFor (chain_blocks (length bytes.now)) (for_pair d) d (P.budget pages.old)) }
+    ensures few_left { IsErrOf result TreeNo.TooMuch → OfAt P.tells values_owner values_roots (P.blocks pages.old) roots (λ g. ValuesAreNew stamp g → (d : ℕ) → ValuesAreSmall d g → IsShort d (P.budget pages.new)) }
     ensures staged { OnOk result (OfAt P.tells values_owner values_roots (P.blocks pages.old) roots (λ g. ValuesAreNew stamp g → (d : ℕ) → ValuesAreSmall d g → SpendsAtMost (chain_blocks (length bytes.now)) (2 * for_pair d) (P.budget pages.old) (P.budget pages.new))) }
     ensures free { OnOk result ((P.budget pages.old).free ≤ (P.budget pages.new).free + (chain_blocks (length bytes.now) + 2)) }
     ensures goes { Goes P.stopped P.count P.burns pages.old pages.new }
@@ -78,6 +80,7 @@ fn write_extent<P: Pages, L: Ledger>(
     ensures written { IfOk result (λ now. OfAt P.tells values_owner values_roots (P.blocks pages.old) roots (λ g. ValuesAreNew stamp g → (p : PathOf) → Turns values_owner values_roots (values_versions p) (P.blocks pages.old) g (P.blocks pages.new) now (HasMore (fresh stamp (extent_write p low bytes.now))) (ValuesNoted stamp (extent_write p low bytes.now)))) }
     ensures no_block { IsErrOf result TreeNo.NoBlock → (P.budget pages.old).free < chain_blocks (length bytes.now) + 2 }
     ensures too_much { IsErrOf result TreeNo.TooMuch → OfAt P.tells values_owner values_roots (P.blocks pages.old) roots (λ g. ValuesAreNew stamp g → (d : ℕ) → ValuesAreSmall d g → LacksFor (chain_blocks (length bytes.now)) (for_pair d) d (P.budget pages.old)) }
+    ensures few_left { IsErrOf result TreeNo.TooMuch → OfAt P.tells values_owner values_roots (P.blocks pages.old) roots (λ g. ValuesAreNew stamp g → (d : ℕ) → ValuesAreSmall d g → IsShort d (P.budget pages.new)) }
     ensures staged { OnOk result (OfAt P.tells values_owner values_roots (P.blocks pages.old) roots (λ g. ValuesAreNew stamp g → (d : ℕ) → ValuesAreSmall d g → SpendsAtMost (chain_blocks (length bytes.now)) (2 * for_pair d) (P.budget pages.old) (P.budget pages.new))) }
     ensures free { OnOk result ((P.budget pages.old).free ≤ (P.budget pages.new).free + (chain_blocks (length bytes.now) + 2)) }
     ensures goes { Goes P.stopped P.count P.burns pages.old pages.new }
@@ -116,6 +119,7 @@ fn punch_values<P: Pages, L: Ledger>(
     ensures written { IfOk result (λ now. OfAt P.tells values_owner values_roots (P.blocks pages.old) roots (λ g. ValuesAreNew stamp g → (p : PathOf) → Turns values_owner values_roots (values_versions p) (P.blocks pages.old) g (P.blocks pages.new) now (HasMore (fresh stamp (akey_punch p))) (ValuesNoted stamp (akey_punch p)))) }
     ensures no_block { IsErrOf result TreeNo.NoBlock → (P.budget pages.old).free < 1 }
     ensures too_much { IsErrOf result TreeNo.TooMuch → OfAt P.tells values_owner values_roots (P.blocks pages.old) roots (λ g. (d : ℕ) → ValuesAreSmall d g → LacksFor 0 0 d (P.budget pages.old)) }
+    ensures few_left { IsErrOf result TreeNo.TooMuch → OfAt P.tells values_owner values_roots (P.blocks pages.old) roots (λ g. (d : ℕ) → ValuesAreSmall d g → IsShort d (P.budget pages.new)) }
     ensures staged { OnOk result (OfAt P.tells values_owner values_roots (P.blocks pages.old) roots (λ g. (d : ℕ) → ValuesAreSmall d g → SpendsAtMost 0 (for_pair d) (P.budget pages.old) (P.budget pages.new))) }
     ensures free { OnOk result ((P.budget pages.old).free ≤ (P.budget pages.new).free + 1) }
     ensures goes { Goes P.stopped P.count P.burns pages.old pages.new }
@@ -136,7 +140,8 @@ fn punch_values<P: Pages, L: Ledger>(
 ///
 /// `NoBlock` comes only where fewer blocks are free than the bytes and the pairs may want, `TooMuch` only
 /// where fewer ranges or bytes are left to stage than that, and `Stopped` only where the pages answered
-/// it. After one the stage has to be dropped.
+/// it. After `TooMuch` fewer are left than one change of the largest tree may want. After one the
+/// stage has to be dropped.
 pub fn write_values<P: Pages, L: Ledger>(
     roots: AkeyRoots,
     pages: &mut P,
@@ -151,6 +156,7 @@ pub fn write_values<P: Pages, L: Ledger>(
     ensures written { IfOk result (λ now. OfAt P.tells values_owner values_roots (P.blocks pages.old) roots (λ g. ValuesAreNew stamp g → Turns values_owner values_roots (values_versions (write_path write.now)) (P.blocks pages.old) g (P.blocks pages.new) now (HasMore (fresh stamp write.now)) (ValuesNoted stamp write.now))) }
     ensures no_block { IsErrOf result TreeNo.NoBlock → (P.budget pages.old).free < data_blocks write.now + values_pairs write.now 1 }
     ensures too_much { IsErrOf result TreeNo.TooMuch → OfAt P.tells values_owner values_roots (P.blocks pages.old) roots (λ g. ValuesAreNew stamp g → (d : ℕ) → ValuesAreSmall d g → LacksFor (data_blocks write.now) (values_pairs write.now (for_pair d)) d (P.budget pages.old)) }
+    ensures few_left { IsErrOf result TreeNo.TooMuch → OfAt P.tells values_owner values_roots (P.blocks pages.old) roots (λ g. ValuesAreNew stamp g → (d : ℕ) → ValuesAreSmall d g → IsShort d (P.budget pages.new)) }
     ensures staged { OnOk result (OfAt P.tells values_owner values_roots (P.blocks pages.old) roots (λ g. ValuesAreNew stamp g → (d : ℕ) → ValuesAreSmall d g → SpendsAtMost (data_blocks write.now) (values_pairs write.now (for_pair d)) (P.budget pages.old) (P.budget pages.new))) }
     ensures free { OnOk result ((P.budget pages.old).free ≤ (P.budget pages.new).free + (data_blocks write.now + values_pairs write.now 1)) }
     ensures goes { Goes P.stopped P.count P.burns pages.old pages.new }

@@ -2,6 +2,7 @@
 ghost use Rattle.std.specs.Prelude.{◌≡◌, ◌<◌, ◌≤◌, ◌+◌, true, ℕ, IfOk, OnOk, OnErr, IsErrOf, IsTrue, ⊤};
 ghost use Rattle.base_types.specs.Paths.{record_size};
 ghost use Rattle.daos_model.specs.Forms.{is_unit};
+ghost use Rattle.pmem_tree.specs.Calls.{IsShort};
 ghost use Rattle.pmem_tree_base.specs.Calls.{Goes};
 ghost use Rattle.pmem_tree_base.specs.declared.refusal.TreeNo.{TreeNo};
 ghost use Rattle.vos_levels.specs.Calls.{HasThing, OfThing};
@@ -70,8 +71,9 @@ pub fn find_writer<P: Pages, L: Ledger>(
 /// # Errors
 ///
 /// `TooMuch` comes only where fewer ranges or bytes are left to stage than its entries and one change of
-/// the largest tree may want, `Stopped` only where the pages answered it, and `NoBlock` never. After one
-/// the stage has to be dropped.
+/// the largest tree may want, `Stopped` only where the pages answered it, and `NoBlock` never. After `TooMuch`
+/// fewer are left than one change of the largest tree may want. After one the stage has to be
+/// dropped.
 pub fn remove_write<P: Pages, L: Ledger>(
     objects: &mut Tree,
     pages: &mut P,
@@ -91,6 +93,7 @@ pub fn remove_write<P: Pages, L: Ledger>(
     ensures root { objects.new.root ≡ objects.old.root }
     ensures no_block { IsErrOf result TreeNo.NoBlock → ⊥ }
     ensures too_much { IsErrOf result TreeNo.TooMuch → OfThing P.tells objects_owner hung_root (P.blocks pages.old) objects.old.root (λ g. (d : ℕ) → ObjectsAreSmall d g → Lacks (objects_cost kind path.now.dkey path.now.akey (for_one d) 1) d (P.budget pages.old)) }
+    ensures few_left { IsErrOf result TreeNo.TooMuch → OfThing P.tells objects_owner hung_root (P.blocks pages.old) objects.old.root (λ g. (d : ℕ) → ObjectsAreSmall d g → IsShort d (P.budget pages.new)) }
     ensures staged { OnOk result (OfThing P.tells objects_owner hung_root (P.blocks pages.old) objects.old.root (λ g. (d : ℕ) → ObjectsAreSmall d g → Spends (objects_cost kind path.now.dkey path.now.akey (for_one d) 1) (P.budget pages.old) (P.budget pages.new))) }
     ensures free { OnOk result (OfThing P.tells objects_owner hung_root (P.blocks pages.old) objects.old.root (λ g. (P.budget pages.new).free ≡ (P.budget pages.old).free + removed_freed (writer_of path.now kind at (objects_versions g)) kind at path.now g)) }
     ensures gives { OnOk result (OfThing P.tells objects_owner hung_root (P.blocks pages.old) objects.old.root (λ g. (P.budget pages.old).free + done_blocks path.now kind at (objects_versions g) ≤ (P.budget pages.new).free)) }

@@ -1,5 +1,6 @@
 // What becomes of the akeys below a dkey, of which a write names one.
 ghost use Rattle.std.specs.Prelude.{◌≡◌, ◌<◌, ◌+◌, true, ℕ, OnOk, IsErrOf, ⊤};
+ghost use Rattle.pmem_tree.specs.Calls.{IsShort};
 ghost use Rattle.pmem_tree_base.specs.Calls.{Goes};
 ghost use Rattle.pmem_tree_base.specs.declared.refusal.TreeNo.{TreeNo};
 ghost use Rattle.vos_values.specs.Keys.{IsName};
@@ -45,6 +46,7 @@ pub fn change_akeys<P: Pages, L: Ledger>(
     ensures kind { akeys.new.kind ≡ 3 }
     ensures no_block { IsErrOf result TreeNo.NoBlock → ⊥ }
     ensures too_much { IsErrOf result TreeNo.TooMuch → OfThing P.tells (hung akey_level) hung_root (P.blocks pages.old) akeys.old.root (λ g. (d : ℕ) → AkeysAreSmall d g → Lacks (akeys_cost task.kind (for_one d) 1) d (P.budget pages.old)) }
+    ensures few_left { IsErrOf result TreeNo.TooMuch → OfThing P.tells (hung akey_level) hung_root (P.blocks pages.old) akeys.old.root (λ g. (d : ℕ) → AkeysAreSmall d g → IsShort d (P.budget pages.new)) }
     ensures staged { OnOk result (OfThing P.tells (hung akey_level) hung_root (P.blocks pages.old) akeys.old.root (λ g. (d : ℕ) → AkeysAreSmall d g → Spends (akeys_cost task.kind (for_one d) 1) (P.budget pages.old) (P.budget pages.new))) }
     ensures root { akeys.new.root ≡ akeys.old.root }
     ensures committed { keeps task.change ≡ true → OnOk result (Spends (akeys_cost task.kind 1 0) (P.budget pages.old) (P.budget pages.new)) }

@@ -1,5 +1,6 @@
 // What becomes of the dkeys below an object, of which a write names one.
 ghost use Rattle.std.specs.Prelude.{◌≡◌, ◌<◌, ◌+◌, true, ℕ, IfOk, IfSome, OnOk, IsErrOf, ⊤};
+ghost use Rattle.pmem_tree.specs.Calls.{IsShort};
 ghost use Rattle.pmem_tree_base.specs.Calls.{Goes};
 ghost use Rattle.pmem_tree_base.specs.declared.refusal.TreeNo.{TreeNo};
 ghost use Rattle.vos_values.specs.Keys.{IsName};
@@ -39,6 +40,7 @@ fn change_punch<P: Pages, L: Ledger>(
     ensures changed { IfOk result (λ now. OfAt P.tells (below_owner akey_level) below_roots (P.blocks pages.old) roots (λ g. Turned (below_owner akey_level) below_roots (P.blocks pages.old) g (P.blocks pages.new) now (DkeyTurn task no_name))) }
     ensures no_block { IsErrOf result TreeNo.NoBlock → ⊥ }
     ensures too_much { IsErrOf result TreeNo.TooMuch → OfAt P.tells (below_owner akey_level) below_roots (P.blocks pages.old) roots (λ g. (d : ℕ) → BelowDkeyIsSmall d g → Lacks (below_dkey_cost task.kind no_name (for_one d) 1) d (P.budget pages.old)) }
+    ensures few_left { IsErrOf result TreeNo.TooMuch → OfAt P.tells (below_owner akey_level) below_roots (P.blocks pages.old) roots (λ g. (d : ℕ) → BelowDkeyIsSmall d g → IsShort d (P.budget pages.new)) }
     ensures staged { OnOk result (OfAt P.tells (below_owner akey_level) below_roots (P.blocks pages.old) roots (λ g. (d : ℕ) → BelowDkeyIsSmall d g → Spends (below_dkey_cost task.kind no_name (for_one d) 1) (P.budget pages.old) (P.budget pages.new))) }
     ensures root { keeps task.change ≡ true → IfOk result (λ now. now ≡ roots) }
     ensures committed { keeps task.change ≡ true → OnOk result (Spends (below_dkey_cost task.kind no_name 1 0) (P.budget pages.old) (P.budget pages.new)) }
@@ -68,6 +70,7 @@ fn change_below<P: Pages, L: Ledger>(
     ensures changed { IfOk result (λ now. OfAt P.tells (below_owner akey_level) below_roots (P.blocks pages.old) roots (λ g. Turned (below_owner akey_level) below_roots (P.blocks pages.old) g (P.blocks pages.new) now (DkeyTurn task (some_name akey.now)))) }
     ensures no_block { IsErrOf result TreeNo.NoBlock → ⊥ }
     ensures too_much { IsErrOf result TreeNo.TooMuch → OfAt P.tells (below_owner akey_level) below_roots (P.blocks pages.old) roots (λ g. (d : ℕ) → BelowDkeyIsSmall d g → Lacks (below_dkey_cost task.kind (some_name akey.now) (for_one d) 1) d (P.budget pages.old)) }
+    ensures few_left { IsErrOf result TreeNo.TooMuch → OfAt P.tells (below_owner akey_level) below_roots (P.blocks pages.old) roots (λ g. (d : ℕ) → BelowDkeyIsSmall d g → IsShort d (P.budget pages.new)) }
     ensures staged { OnOk result (OfAt P.tells (below_owner akey_level) below_roots (P.blocks pages.old) roots (λ g. (d : ℕ) → BelowDkeyIsSmall d g → Spends (below_dkey_cost task.kind (some_name akey.now) (for_one d) 1) (P.budget pages.old) (P.budget pages.new))) }
     ensures root { keeps task.change ≡ true → IfOk result (λ now. now ≡ roots) }
     ensures committed { keeps task.change ≡ true → OnOk result (Spends (below_dkey_cost task.kind (some_name akey.now) 1 0) (P.budget pages.old) (P.budget pages.new)) }
@@ -102,6 +105,7 @@ fn change_dkey<P: Pages, L: Ledger>(
     ensures changed { IfOk result (λ now. OfAt P.tells (below_owner akey_level) below_roots (P.blocks pages.old) roots (λ g. Turned (below_owner akey_level) below_roots (P.blocks pages.old) g (P.blocks pages.new) now (DkeyTurn task akey.now))) }
     ensures no_block { IsErrOf result TreeNo.NoBlock → ⊥ }
     ensures too_much { IsErrOf result TreeNo.TooMuch → OfAt P.tells (below_owner akey_level) below_roots (P.blocks pages.old) roots (λ g. (d : ℕ) → BelowDkeyIsSmall d g → Lacks (below_dkey_cost task.kind akey.now (for_one d) 1) d (P.budget pages.old)) }
+    ensures few_left { IsErrOf result TreeNo.TooMuch → OfAt P.tells (below_owner akey_level) below_roots (P.blocks pages.old) roots (λ g. (d : ℕ) → BelowDkeyIsSmall d g → IsShort d (P.budget pages.new)) }
     ensures staged { OnOk result (OfAt P.tells (below_owner akey_level) below_roots (P.blocks pages.old) roots (λ g. (d : ℕ) → BelowDkeyIsSmall d g → Spends (below_dkey_cost task.kind akey.now (for_one d) 1) (P.budget pages.old) (P.budget pages.new))) }
     ensures root { keeps task.change ≡ true → IfOk result (λ now. now ≡ roots) }
     ensures committed { keeps task.change ≡ true → OnOk result (Spends (below_dkey_cost task.kind akey.now 1 0) (P.budget pages.old) (P.budget pages.new)) }
@@ -139,6 +143,7 @@ pub fn change_dkeys<P: Pages, L: Ledger>(
     ensures kind { dkeys.new.kind ≡ 2 }
     ensures no_block { IsErrOf result TreeNo.NoBlock → ⊥ }
     ensures too_much { IsErrOf result TreeNo.TooMuch → OfThing P.tells (hung dkey_level) hung_root (P.blocks pages.old) dkeys.old.root (λ g. (d : ℕ) → DkeysAreSmall d g → Lacks (dkeys_cost task.kind akey.now (for_one d) 1) d (P.budget pages.old)) }
+    ensures few_left { IsErrOf result TreeNo.TooMuch → OfThing P.tells (hung dkey_level) hung_root (P.blocks pages.old) dkeys.old.root (λ g. (d : ℕ) → DkeysAreSmall d g → IsShort d (P.budget pages.new)) }
     ensures staged { OnOk result (OfThing P.tells (hung dkey_level) hung_root (P.blocks pages.old) dkeys.old.root (λ g. (d : ℕ) → DkeysAreSmall d g → Spends (dkeys_cost task.kind akey.now (for_one d) 1) (P.budget pages.old) (P.budget pages.new))) }
     ensures root { dkeys.new.root ≡ dkeys.old.root }
     ensures committed { keeps task.change ≡ true → OnOk result (Spends (dkeys_cost task.kind akey.now 1 0) (P.budget pages.old) (P.budget pages.new)) }

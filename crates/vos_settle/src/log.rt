@@ -82,7 +82,8 @@ pub fn find_mark<P: Pages, L: Ledger>(
 /// # Errors
 ///
 /// `TooMuch` comes only where fewer ranges or bytes are left to stage than the tree may want, `Stopped`
-/// only where the pages answered it, and `NoBlock` never. After one the stage has to be dropped.
+/// only where the pages answered it, and `NoBlock` never. After `TooMuch` fewer are left than one
+/// change of the tree may want. After one the stage has to be dropped.
 pub fn change_entry<P: Pages, L: Ledger>(
     root: u32,
     pages: &mut P,
@@ -96,6 +97,7 @@ pub fn change_entry<P: Pages, L: Ledger>(
     ensures changed { IfOk result (λ now. OfThing P.tells log_owner hung_root (P.blocks pages.old) root (λ g. Turned log_owner hung_root (P.blocks pages.old) g (P.blocks pages.new) now (λ a b. things b ≡ log_after which change at (things a)))) }
     ensures no_block { IsErrOf result TreeNo.NoBlock → ⊥ }
     ensures too_much { IsErrOf result TreeNo.TooMuch → OfThing P.tells log_owner hung_root (P.blocks pages.old) root (λ g. TooFew g.0 (P.budget pages.old)) }
+    ensures few_left { IsErrOf result TreeNo.TooMuch → OfThing P.tells log_owner hung_root (P.blocks pages.old) root (λ g. TooFew g.0 (P.budget pages.new)) }
     ensures staged { OnOk result (OfThing P.tells log_owner hung_root (P.blocks pages.old) root (λ g. StagesAtMost 8 16 g.0 (P.budget pages.old) (P.budget pages.new))) }
     ensures root { keeps change ≡ true → IfOk result (λ now. now ≡ root) }
     ensures committed { keeps change ≡ true → IsSpent 1 256 (P.budget pages.old) (P.budget pages.new) }
@@ -134,6 +136,7 @@ pub fn change_noted<P: Pages, L: Ledger>(
     ensures changed { IfOk result (λ now. OfThing P.tells log_owner hung_root (P.blocks pages.old) root (λ g. Turned log_owner hung_root (P.blocks pages.old) g (P.blocks pages.new) now (λ a b. things b ≡ noted_after task (things a)))) }
     ensures no_block { IsErrOf result TreeNo.NoBlock → ⊥ }
     ensures too_much { IsErrOf result TreeNo.TooMuch → OfThing P.tells log_owner hung_root (P.blocks pages.old) root (λ g. TooFew g.0 (P.budget pages.old)) }
+    ensures few_left { IsErrOf result TreeNo.TooMuch → OfThing P.tells log_owner hung_root (P.blocks pages.old) root (λ g. TooFew g.0 (P.budget pages.new)) }
     ensures staged { OnOk result (OfThing P.tells log_owner hung_root (P.blocks pages.old) root (λ g. (d : ℕ) → IsSmall d g → Spends (noted_cost task.kind (for_one d)) (P.budget pages.old) (P.budget pages.new))) }
     ensures root { keeps task.change ≡ true → IfOk result (λ now. now ≡ root) }
     ensures committed { keeps task.change ≡ true → Spends (noted_cost task.kind 1) (P.budget pages.old) (P.budget pages.new) }

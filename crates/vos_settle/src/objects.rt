@@ -1,6 +1,7 @@
 // What becomes of objects, of which a write names one.
 ghost use Rattle.std.specs.Prelude.{◌≡◌, ◌<◌, ◌+◌, true, ℕ, IfOk, IfSome, OnOk, IsErrOf, ⊤};
 ghost use Rattle.std.specs.Prelude.{Some as some_name, None as no_name};
+ghost use Rattle.pmem_tree.specs.Calls.{IsShort};
 ghost use Rattle.pmem_tree_base.specs.Calls.{Goes};
 ghost use Rattle.pmem_tree_base.specs.declared.refusal.TreeNo.{TreeNo};
 ghost use Rattle.vos_values.specs.declared.keys.Layout.TheVariants.{Two};
@@ -42,6 +43,7 @@ fn change_punch<P: Pages, L: Ledger>(
     ensures changed { IfOk result (λ now. OfAt P.tells (below_owner dkey_level) below_roots (P.blocks pages.old) roots (λ g. Turned (below_owner dkey_level) below_roots (P.blocks pages.old) g (P.blocks pages.new) now (ObjectTurn task no_name no_name))) }
     ensures no_block { IsErrOf result TreeNo.NoBlock → ⊥ }
     ensures too_much { IsErrOf result TreeNo.TooMuch → OfAt P.tells (below_owner dkey_level) below_roots (P.blocks pages.old) roots (λ g. (d : ℕ) → BelowObjectIsSmall d g → Lacks (for_one d) d (P.budget pages.old)) }
+    ensures few_left { IsErrOf result TreeNo.TooMuch → OfAt P.tells (below_owner dkey_level) below_roots (P.blocks pages.old) roots (λ g. (d : ℕ) → BelowObjectIsSmall d g → IsShort d (P.budget pages.new)) }
     ensures staged { OnOk result (OfAt P.tells (below_owner dkey_level) below_roots (P.blocks pages.old) roots (λ g. (d : ℕ) → BelowObjectIsSmall d g → Spends (for_one d) (P.budget pages.old) (P.budget pages.new))) }
     ensures root { keeps task.change ≡ true → IfOk result (λ now. now ≡ roots) }
     ensures committed { keeps task.change ≡ true → OnOk result (Spends 1 (P.budget pages.old) (P.budget pages.new)) }
@@ -73,6 +75,7 @@ fn change_below<P: Pages, L: Ledger>(
     ensures changed { IfOk result (λ now. OfAt P.tells (below_owner dkey_level) below_roots (P.blocks pages.old) roots (λ g. Turned (below_owner dkey_level) below_roots (P.blocks pages.old) g (P.blocks pages.new) now (ObjectTurn task (some_name dkey.now) akey.now))) }
     ensures no_block { IsErrOf result TreeNo.NoBlock → ⊥ }
     ensures too_much { IsErrOf result TreeNo.TooMuch → OfAt P.tells (below_owner dkey_level) below_roots (P.blocks pages.old) roots (λ g. (d : ℕ) → BelowObjectIsSmall d g → Lacks (below_object_cost task.kind (some_name dkey.now) akey.now (for_one d) 1) d (P.budget pages.old)) }
+    ensures few_left { IsErrOf result TreeNo.TooMuch → OfAt P.tells (below_owner dkey_level) below_roots (P.blocks pages.old) roots (λ g. (d : ℕ) → BelowObjectIsSmall d g → IsShort d (P.budget pages.new)) }
     ensures staged { OnOk result (OfAt P.tells (below_owner dkey_level) below_roots (P.blocks pages.old) roots (λ g. (d : ℕ) → BelowObjectIsSmall d g → Spends (below_object_cost task.kind (some_name dkey.now) akey.now (for_one d) 1) (P.budget pages.old) (P.budget pages.new))) }
     ensures root { keeps task.change ≡ true → IfOk result (λ now. now ≡ roots) }
     ensures committed { keeps task.change ≡ true → OnOk result (Spends (below_object_cost task.kind (some_name dkey.now) akey.now 1 0) (P.budget pages.old) (P.budget pages.new)) }
@@ -107,6 +110,7 @@ fn change_object<P: Pages, L: Ledger>(
     ensures changed { IfOk result (λ now. OfAt P.tells (below_owner dkey_level) below_roots (P.blocks pages.old) roots (λ g. Turned (below_owner dkey_level) below_roots (P.blocks pages.old) g (P.blocks pages.new) now (ObjectTurn task path.now.dkey path.now.akey))) }
     ensures no_block { IsErrOf result TreeNo.NoBlock → ⊥ }
     ensures too_much { IsErrOf result TreeNo.TooMuch → OfAt P.tells (below_owner dkey_level) below_roots (P.blocks pages.old) roots (λ g. (d : ℕ) → BelowObjectIsSmall d g → Lacks (below_object_cost task.kind path.now.dkey path.now.akey (for_one d) 1) d (P.budget pages.old)) }
+    ensures few_left { IsErrOf result TreeNo.TooMuch → OfAt P.tells (below_owner dkey_level) below_roots (P.blocks pages.old) roots (λ g. (d : ℕ) → BelowObjectIsSmall d g → IsShort d (P.budget pages.new)) }
     ensures staged { OnOk result (OfAt P.tells (below_owner dkey_level) below_roots (P.blocks pages.old) roots (λ g. (d : ℕ) → BelowObjectIsSmall d g → Spends (below_object_cost task.kind path.now.dkey path.now.akey (for_one d) 1) (P.budget pages.old) (P.budget pages.new))) }
     ensures root { keeps task.change ≡ true → IfOk result (λ now. now ≡ roots) }
     ensures committed { keeps task.change ≡ true → OnOk result (Spends (below_object_cost task.kind path.now.dkey path.now.akey 1 0) (P.budget pages.old) (P.budget pages.new)) }
@@ -145,6 +149,7 @@ pub fn change_objects<P: Pages, L: Ledger>(
     ensures kind { objects.new.kind ≡ 1 }
     ensures no_block { IsErrOf result TreeNo.NoBlock → ⊥ }
     ensures too_much { IsErrOf result TreeNo.TooMuch → OfThing P.tells objects_owner hung_root (P.blocks pages.old) objects.old.root (λ g. (d : ℕ) → ObjectsAreSmall d g → Lacks (objects_cost task.kind path.now.dkey path.now.akey (for_one d) 1) d (P.budget pages.old)) }
+    ensures few_left { IsErrOf result TreeNo.TooMuch → OfThing P.tells objects_owner hung_root (P.blocks pages.old) objects.old.root (λ g. (d : ℕ) → ObjectsAreSmall d g → IsShort d (P.budget pages.new)) }
     ensures staged { OnOk result (OfThing P.tells objects_owner hung_root (P.blocks pages.old) objects.old.root (λ g. (d : ℕ) → ObjectsAreSmall d g → Spends (objects_cost task.kind path.now.dkey path.now.akey (for_one d) 1) (P.budget pages.old) (P.budget pages.new))) }
     ensures root { objects.new.root ≡ objects.old.root }
     ensures committed { keeps task.change ≡ true → OnOk result (Spends (objects_cost task.kind path.now.dkey path.now.akey 1 0) (P.budget pages.old) (P.budget pages.new)) }

@@ -35,8 +35,8 @@ pub fn are_roots(one: Roots, other: Roots) -> bool
 ///
 /// # Errors
 ///
-/// `TooMuch` comes only where no range or fewer than 256 bytes are left to stage. `Stopped` comes only
-/// where the pages answered it, and `NoBlock` never.
+/// `TooMuch` comes only where no range or fewer than 256 bytes are left to stage. After it no more are left.
+/// `Stopped` comes only where the pages answered it, and `NoBlock` never.
 pub fn put_unless<P: Pages, L: Ledger>(
     tree: &mut Tree,
     pages: &mut P,
@@ -53,6 +53,7 @@ pub fn put_unless<P: Pages, L: Ledger>(
     ensures kept { tree.new ≡ tree.old }
     ensures no_block { IsErrOf result TreeNo.NoBlock → ⊥ }
     ensures too_much { IsErrOf result TreeNo.TooMuch → ((P.budget pages.old).ranges < 1) ⊎ ((P.budget pages.old).bytes < 256) }
+    ensures few_left { IsErrOf result TreeNo.TooMuch → ((P.budget pages.new).ranges < 1) ⊎ ((P.budget pages.new).bytes < 256) }
     ensures staged { IsSpent 1 256 (P.budget pages.old) (P.budget pages.new) }
     ensures had { had ≡ true → P.budget pages.new ≡ P.budget pages.old }
     ensures free { (P.budget pages.new).free ≡ (P.budget pages.old).free }

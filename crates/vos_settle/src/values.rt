@@ -1,5 +1,6 @@
 // What becomes of an akey: its log, the versions of its single value, and its extents.
 ghost use Rattle.std.specs.Prelude.{◌≡◌, ◌<◌, ◌+◌, true, ℕ, IfOk, OnOk, IsErrOf, ⊤};
+ghost use Rattle.pmem_tree.specs.Calls.{IsShort};
 ghost use Rattle.pmem_tree_base.specs.Calls.{Goes};
 ghost use Rattle.pmem_tree_base.specs.declared.refusal.TreeNo.{TreeNo};
 ghost use Rattle.vos_levels.specs.Changes.{keeps};
@@ -35,6 +36,7 @@ fn change_single<P: Pages, L: Ledger>(
     ensures changed { IfOk result (λ now. OfAt P.tells values_owner values_roots (P.blocks pages.old) roots (λ g. Turned values_owner values_roots (P.blocks pages.old) g (P.blocks pages.new) now (ValuesTurn task))) }
     ensures no_block { IsErrOf result TreeNo.NoBlock → ⊥ }
     ensures too_much { IsErrOf result TreeNo.TooMuch → OfAt P.tells values_owner values_roots (P.blocks pages.old) roots (λ g. (d : ℕ) → ValuesAreSmall d g → Lacks (values_cost task.kind (for_one d)) d (P.budget pages.old)) }
+    ensures few_left { IsErrOf result TreeNo.TooMuch → OfAt P.tells values_owner values_roots (P.blocks pages.old) roots (λ g. (d : ℕ) → ValuesAreSmall d g → IsShort d (P.budget pages.new)) }
     ensures staged { OnOk result (OfAt P.tells values_owner values_roots (P.blocks pages.old) roots (λ g. (d : ℕ) → ValuesAreSmall d g → Spends (values_cost task.kind (for_one d)) (P.budget pages.old) (P.budget pages.new))) }
     ensures root { keeps task.change ≡ true → IfOk result (λ now. now ≡ roots) }
     ensures committed { keeps task.change ≡ true → OnOk result (Spends (values_cost task.kind 1) (P.budget pages.old) (P.budget pages.new)) }
@@ -73,6 +75,7 @@ fn change_extent<P: Pages, L: Ledger>(
     ensures changed { IfOk result (λ now. OfAt P.tells values_owner values_roots (P.blocks pages.old) roots (λ g. Turned values_owner values_roots (P.blocks pages.old) g (P.blocks pages.new) now (ValuesTurn task))) }
     ensures no_block { IsErrOf result TreeNo.NoBlock → ⊥ }
     ensures too_much { IsErrOf result TreeNo.TooMuch → OfAt P.tells values_owner values_roots (P.blocks pages.old) roots (λ g. (d : ℕ) → ValuesAreSmall d g → Lacks (values_cost task.kind (for_one d)) d (P.budget pages.old)) }
+    ensures few_left { IsErrOf result TreeNo.TooMuch → OfAt P.tells values_owner values_roots (P.blocks pages.old) roots (λ g. (d : ℕ) → ValuesAreSmall d g → IsShort d (P.budget pages.new)) }
     ensures staged { OnOk result (OfAt P.tells values_owner values_roots (P.blocks pages.old) roots (λ g. (d : ℕ) → ValuesAreSmall d g → Spends (values_cost task.kind (for_one d)) (P.budget pages.old) (P.budget pages.new))) }
     ensures root { keeps task.change ≡ true → IfOk result (λ now. now ≡ roots) }
     ensures committed { keeps task.change ≡ true → OnOk result (Spends (values_cost task.kind 1) (P.budget pages.old) (P.budget pages.new)) }
@@ -115,6 +118,7 @@ fn change_punch<P: Pages, L: Ledger>(
     ensures changed { IfOk result (λ now. OfAt P.tells values_owner values_roots (P.blocks pages.old) roots (λ g. Turned values_owner values_roots (P.blocks pages.old) g (P.blocks pages.new) now (ValuesTurn task))) }
     ensures no_block { IsErrOf result TreeNo.NoBlock → ⊥ }
     ensures too_much { IsErrOf result TreeNo.TooMuch → OfAt P.tells values_owner values_roots (P.blocks pages.old) roots (λ g. (d : ℕ) → ValuesAreSmall d g → Lacks (values_cost task.kind (for_one d)) d (P.budget pages.old)) }
+    ensures few_left { IsErrOf result TreeNo.TooMuch → OfAt P.tells values_owner values_roots (P.blocks pages.old) roots (λ g. (d : ℕ) → ValuesAreSmall d g → IsShort d (P.budget pages.new)) }
     ensures staged { OnOk result (OfAt P.tells values_owner values_roots (P.blocks pages.old) roots (λ g. (d : ℕ) → ValuesAreSmall d g → Spends (values_cost task.kind (for_one d)) (P.budget pages.old) (P.budget pages.new))) }
     ensures root { keeps task.change ≡ true → IfOk result (λ now. now ≡ roots) }
     ensures committed { keeps task.change ≡ true → OnOk result (Spends (values_cost task.kind 1) (P.budget pages.old) (P.budget pages.new)) }
@@ -137,8 +141,9 @@ fn change_punch<P: Pages, L: Ledger>(
 /// # Errors
 ///
 /// `TooMuch` comes only where fewer ranges or bytes are left to stage than its entries and one change of
-/// the largest tree may want, `Stopped` only where the pages answered it, and `NoBlock` never. After one
-/// the stage has to be dropped.
+/// the largest tree may want, `Stopped` only where the pages answered it, and `NoBlock` never. After `TooMuch`
+/// fewer are left than one change of the largest tree may want. After one the stage has to be
+/// dropped.
 pub fn change_values<P: Pages, L: Ledger>(
     roots: AkeyRoots,
     pages: &mut P,
@@ -150,6 +155,7 @@ pub fn change_values<P: Pages, L: Ledger>(
     ensures changed { IfOk result (λ now. OfAt P.tells values_owner values_roots (P.blocks pages.old) roots (λ g. Turned values_owner values_roots (P.blocks pages.old) g (P.blocks pages.new) now (ValuesTurn task))) }
     ensures no_block { IsErrOf result TreeNo.NoBlock → ⊥ }
     ensures too_much { IsErrOf result TreeNo.TooMuch → OfAt P.tells values_owner values_roots (P.blocks pages.old) roots (λ g. (d : ℕ) → ValuesAreSmall d g → Lacks (values_cost task.kind (for_one d)) d (P.budget pages.old)) }
+    ensures few_left { IsErrOf result TreeNo.TooMuch → OfAt P.tells values_owner values_roots (P.blocks pages.old) roots (λ g. (d : ℕ) → ValuesAreSmall d g → IsShort d (P.budget pages.new)) }
     ensures staged { OnOk result (OfAt P.tells values_owner values_roots (P.blocks pages.old) roots (λ g. (d : ℕ) → ValuesAreSmall d g → Spends (values_cost task.kind (for_one d)) (P.budget pages.old) (P.budget pages.new))) }
     ensures root { keeps task.change ≡ true → IfOk result (λ now. now ≡ roots) }
     ensures committed { keeps task.change ≡ true → OnOk result (Spends (values_cost task.kind 1) (P.budget pages.old) (P.budget pages.new)) }

@@ -189,7 +189,8 @@ impl Single {
     ///
     /// `NoBlock` comes only where fewer blocks are free than the bytes need and one more. `TooMuch` comes
     /// only where fewer ranges or bytes are left to stage than the chain and the tree may want, and
-    /// `Stopped` only where the pages answered it. After one the stage has to be dropped.
+    /// `Stopped` only where the pages answered it. After `TooMuch` fewer are left than one change of
+    /// the tree may want. After one the stage has to be dropped.
     pub fn add<P: Pages, L: Ledger>(
         &mut self,
         pages: &mut P,
@@ -207,6 +208,7 @@ impl Single {
         ensures kind { self.new.tree.kind ≡ 5 }
         ensures no_block { IsErrOf result TreeNo.NoBlock → (P.budget pages.old).free < chain_blocks (length bytes.now) + 1 }
         ensures too_much { IsErrOf result TreeNo.TooMuch → OfThing P.tells single_owner hung_root (P.blocks pages.old) self.old.tree.root (λ g. has_version_at at (things g) ≡ false → TooFewFor (chain_blocks (length bytes.now)) g.0 (P.budget pages.old)) }
+        ensures few_left { IsErrOf result TreeNo.TooMuch → OfThing P.tells single_owner hung_root (P.blocks pages.old) self.old.tree.root (λ g. has_version_at at (things g) ≡ false → TooFew g.0 (P.budget pages.new)) }
         ensures steps { OfThing P.tells single_owner hung_root (P.blocks pages.old) self.old.tree.root (λ g. StepsAtMost 16 16 g.0 steps.old steps.new) }
         ensures staged { OnOk result (OfThing P.tells single_owner hung_root (P.blocks pages.old) self.old.tree.root (λ g. has_version_at at (things g) ≡ false → StagesFor (chain_blocks (length bytes.now)) g.0 (P.budget pages.old) (P.budget pages.new))) }
         ensures free { OnOk result ((P.budget pages.new).free + (chain_blocks (length bytes.now) + 1) ≡ (P.budget pages.old).free) }
@@ -224,7 +226,8 @@ impl Single {
     /// # Errors
     ///
     /// `TooMuch` comes only where fewer ranges or bytes are left to stage than the tree may want, `Stopped`
-    /// only where the pages answered it, and `NoBlock` never. After one the stage has to be dropped.
+    /// only where the pages answered it, and `NoBlock` never. After `TooMuch` fewer are left than one
+    /// change of the tree may want. After one the stage has to be dropped.
     pub fn change_at<P: Pages, L: Ledger>(
         &mut self,
         pages: &mut P,
@@ -239,6 +242,7 @@ impl Single {
         ensures kind { self.new.tree.kind ≡ 5 }
         ensures no_block { IsErrOf result TreeNo.NoBlock → ⊥ }
         ensures too_much { IsErrOf result TreeNo.TooMuch → OfThing P.tells single_owner hung_root (P.blocks pages.old) self.old.tree.root (λ g. TooFew g.0 (P.budget pages.old)) }
+        ensures few_left { IsErrOf result TreeNo.TooMuch → OfThing P.tells single_owner hung_root (P.blocks pages.old) self.old.tree.root (λ g. TooFew g.0 (P.budget pages.new)) }
         ensures steps { OfThing P.tells single_owner hung_root (P.blocks pages.old) self.old.tree.root (λ g. StepsAtMost 18 21 g.0 steps.old steps.new) }
         ensures staged { OnOk result (OfThing P.tells single_owner hung_root (P.blocks pages.old) self.old.tree.root (λ g. StagesLess g.0 (P.budget pages.old) (P.budget pages.new))) }
         ensures root { keeps change ≡ true → self.new.tree.root ≡ self.old.tree.root }

@@ -14,7 +14,7 @@ use Rattle.pmem_pages.specs.declared.node.TreeKey.{TreeKey}
 use Rattle.pmem_pages.specs.declared.node.Value.{Value}
 use Rattle.pmem_pages.proofs.Owning.{not_free}
 use Rattle.pmem_pages.proofs.Shapes.{is_tree_on}
-use Rattle.pmem_tree.specs.Calls.{StagesAtMost, TooFew}
+use Rattle.pmem_tree.specs.Calls.{IsShort, StagesAtMost, TooFew}
 use Rattle.pmem_tree.specs.Changes.{Puts, Removes}
 use Rattle.pmem_tree_base.specs.Find.{value_of}
 use Rattle.vos_values.specs.declared.values.VersionMark.{VersionMark}
@@ -139,6 +139,10 @@ too_few_first n t b h d few = elim h [ inl r ↦ inl (omega (arith, r)) | inr r 
 
 pub too_few_then : (n : ℕ) (t : Shape) (b c : Budget) → IsSpent (2 * n) (257 * n) b c → TooFew t c → TooFewFor n t b
 too_few_then n t b c s h d few = elim (h d few) [ inl r ↦ inl (omega (arith, r, s.ranges_most)) | inr r ↦ inr (omega (arith, r, s.bytes_most)) ]
+
+-- where not even one block can be staged, any tree may want more
+pub short_any : (r y d : ℕ) (b : Budget) → r ≤ 1 → y ≤ 256 → HasFewer r y b → IsShort d b
+short_any r y d b one block h = elim h [ inl x ↦ inl (omega (arith, x, one)) | inr x ↦ inr (omega (arith, x, block)) ]
 
 pub stages_for : (n : ℕ) (t : Shape) (a b c : Budget) → IsSpent (2 * n) (257 * n) a b → StagesAtMost 4 8 t b c → StagesFor n t a c
 stages_for n t a b c s h d few =

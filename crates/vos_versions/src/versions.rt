@@ -49,7 +49,8 @@ fn mark_in(value: Option<Value>) -> Option<VersionMark>
 ///
 /// `NoBlock` comes only where fewer blocks are free than the bytes need and one more. `TooMuch` comes
 /// only where fewer ranges or bytes are left to stage than the chain and the tree may want, and
-/// `Stopped` only where the pages answered it. After one the stage has to be dropped.
+/// `Stopped` only where the pages answered it. After `TooMuch` fewer are left than one change of
+/// the tree may want. After one the stage has to be dropped.
 pub fn add<P: Pages, L: Ledger>(
     tree: &mut Tree,
     pages: &mut P,
@@ -68,6 +69,7 @@ pub fn add<P: Pages, L: Ledger>(
     ensures kind { tree.new.kind ≡ tree.old.kind }
     ensures no_block { IsErrOf result TreeNo.NoBlock → (P.budget pages.old).free < chain_blocks (length bytes.now) + 1 }
     ensures too_much { IsErrOf result TreeNo.TooMuch → OfTree P.tells (P.blocks pages.old) tree.old.kind tree.old.root (λ t. entry_at key.now (entries t) ≡ None → TooFewFor (chain_blocks (length bytes.now)) t (P.budget pages.old)) }
+    ensures few_left { IsErrOf result TreeNo.TooMuch → OfTree P.tells (P.blocks pages.old) tree.old.kind tree.old.root (λ t. entry_at key.now (entries t) ≡ None → TooFew t (P.budget pages.new)) }
     ensures steps { OfTree P.tells (P.blocks pages.old) tree.old.kind tree.old.root (λ t. StepsAtMost 16 16 t steps.old steps.new) }
     ensures staged { OnOk result (OfTree P.tells (P.blocks pages.old) tree.old.kind tree.old.root (λ t. entry_at key.now (entries t) ≡ None → StagesFor (chain_blocks (length bytes.now)) t (P.budget pages.old) (P.budget pages.new))) }
     ensures free { OnOk result ((P.budget pages.new).free + (chain_blocks (length bytes.now) + 1) ≡ (P.budget pages.old).free) }
@@ -122,6 +124,7 @@ fn put_done<P: Pages, L: Ledger>(
     ensures kept { tree.new ≡ tree.old }
     ensures no_block { IsErrOf result TreeNo.NoBlock → ⊥ }
     ensures too_much { IsErrOf result TreeNo.TooMuch → ((P.budget pages.old).ranges < 1) ⊎ ((P.budget pages.old).bytes < 256) }
+    ensures few_left { IsErrOf result TreeNo.TooMuch → ((P.budget pages.new).ranges < 1) ⊎ ((P.budget pages.new).bytes < 256) }
     ensures steps { OfTree P.tells (P.blocks pages.old) tree.old.kind tree.old.root (λ t. StepsAtMost 16 16 t steps.old steps.new) }
     ensures staged { IsSpent 1 256 (P.budget pages.old) (P.budget pages.new) }
     ensures free { (P.budget pages.new).free ≡ (P.budget pages.old).free }
@@ -154,6 +157,7 @@ fn drop_at<P: Pages, L: Ledger>(
     ensures kind { tree.new.kind ≡ tree.old.kind }
     ensures no_block { IsErrOf result TreeNo.NoBlock → ⊥ }
     ensures too_much { IsErrOf result TreeNo.TooMuch → OfTree P.tells (P.blocks pages.old) tree.old.kind tree.old.root (λ t. (e : Entry) → entry_at key.now (entries t) ≡ Some e → TooFew t (P.budget pages.old)) }
+    ensures few_left { IsErrOf result TreeNo.TooMuch → OfTree P.tells (P.blocks pages.old) tree.old.kind tree.old.root (λ t. (e : Entry) → entry_at key.now (entries t) ≡ Some e → TooFew t (P.budget pages.new)) }
     ensures steps { OfTree P.tells (P.blocks pages.old) tree.old.kind tree.old.root (λ t. StepsAtMost 16 21 t steps.old steps.new) }
     ensures staged { OnOk result (OfTree P.tells (P.blocks pages.old) tree.old.kind tree.old.root (λ t. StagesLess t (P.budget pages.old) (P.budget pages.new))) }
     ensures free { OnOk result (IsTrue P.tells → (P.budget pages.new).free ≡ (P.budget pages.old).free + (chain_blocks mark.length + 1)) }
@@ -172,7 +176,8 @@ fn drop_at<P: Pages, L: Ledger>(
 /// # Errors
 ///
 /// `TooMuch` comes only where fewer ranges or bytes are left to stage than the tree may want, `Stopped`
-/// only where the pages answered it, and `NoBlock` never. After one the stage has to be dropped.
+/// only where the pages answered it, and `NoBlock` never. After `TooMuch` fewer are left than one
+/// change of the tree may want. After one the stage has to be dropped.
 pub fn change_at<P: Pages, L: Ledger>(
     tree: &mut Tree,
     pages: &mut P,
@@ -187,6 +192,7 @@ pub fn change_at<P: Pages, L: Ledger>(
     ensures kind { tree.new.kind ≡ tree.old.kind }
     ensures no_block { IsErrOf result TreeNo.NoBlock → ⊥ }
     ensures too_much { IsErrOf result TreeNo.TooMuch → OfTree P.tells (P.blocks pages.old) tree.old.kind tree.old.root (λ t. TooFew t (P.budget pages.old)) }
+    ensures few_left { IsErrOf result TreeNo.TooMuch → OfTree P.tells (P.blocks pages.old) tree.old.kind tree.old.root (λ t. TooFew t (P.budget pages.new)) }
     ensures steps { OfTree P.tells (P.blocks pages.old) tree.old.kind tree.old.root (λ t. StepsAtMost 18 21 t steps.old steps.new) }
     ensures staged { OnOk result (OfTree P.tells (P.blocks pages.old) tree.old.kind tree.old.root (λ t. StagesLess t (P.budget pages.old) (P.budget pages.new))) }
     ensures root { keeps change ≡ true → tree.new.root ≡ tree.old.root }

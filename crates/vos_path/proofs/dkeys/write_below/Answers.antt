@@ -23,6 +23,11 @@ returns-in_err-write_akeys-clause-too_much g c refused told x held at new d smal
     let is : c.from_residual.result ≡ Err c.in_err-write_akeys.field-0.0 = search rules in
     lacks_more (data_blocks c.args.write.now) (akey_pairs c.args.write.now (for_pair d)) (log_pairs c.args.write.now (for_pair d)) d (g.P.Pages.budget c.args.pages.now) (lacks_more (data_blocks c.args.write.now) (values_pairs c.args.write.now (for_pair d)) (for_pair d) d (g.P.Pages.budget c.args.pages.now) (c.in_err-write_akeys.ensures.too_much (err_other c.in_err-write_akeys.field-0.0 TooMuch (subst (λ z. IsErrOf z TooMuch) is refused)) told x.1 (holds_second log_owner (hung akey_level) (g.P.Pages.blocks c.args.pages.now) x held) (ap (λ r. r.below) at) new.akeys d small.1))
 
+pub returns-in_err-write_akeys-clause-few_left : goal.returns-in_err-write_akeys-clause-few_left
+returns-in_err-write_akeys-clause-few_left g c refused told x held at new d small =
+    let is : c.from_residual.result ≡ Err c.in_err-write_akeys.field-0.0 = search rules in
+    c.in_err-write_akeys.ensures.few_left (err_other c.in_err-write_akeys.field-0.0 TooMuch (subst (λ z. IsErrOf z TooMuch) is refused)) told x.1 (holds_second log_owner (hung akey_level) (g.P.Pages.blocks c.args.pages.now) x held) (ap (λ r. r.below) at) new.akeys d small.1
+
 pub note_update-requires-clause-log : goal.note_update-requires-clause-log
 note_update-requires-clause-log g c told =
     let s = c.requires.here told in
@@ -37,6 +42,13 @@ returns-in_err-log-clause-too_much g c refused told x held at new d small =
     let b = c.in_ok-write_akeys.ensures.written told x.1 (holds_second log_owner (hung akey_level) (g.P.Pages.blocks c.args.pages.now) x held) (ap (λ r. r.below) at) new.akeys p.0 p.1.0 p.1.1.0 p.1.1.1 in
     let spent = c.in_ok-write_akeys.ensures.staged told x.1 (holds_second log_owner (hung akey_level) (g.P.Pages.blocks c.args.pages.now) x held) (ap (λ r. r.below) at) new.akeys d small.1 in
     log_lacks (data_blocks c.args.write.now) (akey_pairs c.args.write.now (for_pair d)) (log_pairs c.args.write.now (for_pair d)) d x.0 (g.P.Pages.budget c.args.pages.now) (g.P.Pages.budget c.write_akeys.new.pages) small.0 spent (c.in_err-log.ensures.too_much (err_other c.in_err-log.field-0.0 TooMuch (subst (λ z. IsErrOf z TooMuch) is refused)) told x.0 (log_after akey_level (g.P.Pages.blocks c.args.pages.now) (g.P.Pages.blocks c.write_akeys.new.pages) x b.now held b.changed) (ap (λ r. r.log) at))
+
+pub returns-in_err-log-clause-few_left : goal.returns-in_err-log-clause-few_left
+returns-in_err-log-clause-few_left g c refused told x held at new d small =
+    let is : c.from_residual-in_err-log.result ≡ Err c.in_err-log.field-0.0 = search rules in
+    let p = akey_path_some c.args.write.now c.requires.form c.requires.below in
+    let b = c.in_ok-write_akeys.ensures.written told x.1 (holds_second log_owner (hung akey_level) (g.P.Pages.blocks c.args.pages.now) x held) (ap (λ r. r.below) at) new.akeys p.0 p.1.0 p.1.1.0 p.1.1.1 in
+    c.in_err-log.ensures.few_left (err_other c.in_err-log.field-0.0 TooMuch (subst (λ z. IsErrOf z TooMuch) is refused)) told x.0 (log_after akey_level (g.P.Pages.blocks c.args.pages.now) (g.P.Pages.blocks c.write_akeys.new.pages) x b.now held b.changed) (ap (λ r. r.log) at) d small.0
 
 pub returns-clause-written : goal.returns-clause-written
 returns-clause-written g c told x held at new ob e a path =

@@ -19,6 +19,10 @@ pub returns-then-goes_below_dkey-clause-too_much : goal.returns-then-goes_below_
 returns-then-goes_below_dkey-clause-too_much g c refused told x held at new d small =
     subst (λ r. LacksFor (data_blocks c.args.write.now) r d (g.P.Pages.budget c.args.pages.now)) (sym (below_dkey_then c.args.write.now (for_pair d) (sym c.goes_below_dkey.ensures ∙ c.if-goes_below_dkey.true))) (c.write_below.ensures.too_much refused told x held at new d small)
 
+pub returns-then-goes_below_dkey-clause-few_left : goal.returns-then-goes_below_dkey-clause-few_left
+returns-then-goes_below_dkey-clause-few_left g c refused told x held at new d small =
+    c.write_below.ensures.few_left refused told x held at new d small
+
 pub returns-then-goes_below_dkey-clause-staged : goal.returns-then-goes_below_dkey-clause-staged
 returns-then-goes_below_dkey-clause-staged g c = on_ok_then c.write_below.result (λ h told x held at new d small.
     subst (λ r. SpendsAtMost (data_blocks c.args.write.now) r (g.P.Pages.budget c.args.pages.now) (g.P.Pages.budget c.write_below.new.pages)) (sym (below_dkey_then c.args.write.now (for_pair d) (sym c.goes_below_dkey.ensures ∙ c.if-goes_below_dkey.true))) (h told x held at new d small)) c.write_below.ensures.staged
@@ -30,6 +34,9 @@ returns-else-goes_below_dkey-clause-written g c = if_ok_then c.punch_log.result 
 
 pub returns-else-goes_below_dkey-clause-too_much : goal.returns-else-goes_below_dkey-clause-too_much
 returns-else-goes_below_dkey-clause-too_much g c refused told x held at new d small = lacks_any (data_blocks c.args.write.now) (below_dkey_pairs c.args.write.now (for_pair d)) d (g.P.Pages.budget c.args.pages.now) (c.punch_log.ensures.too_much refused told x held at new d small)
+
+pub returns-else-goes_below_dkey-clause-few_left : goal.returns-else-goes_below_dkey-clause-few_left
+returns-else-goes_below_dkey-clause-few_left g c refused told x held at new d small = c.punch_log.ensures.few_left refused told x held at new d small
 
 pub returns-else-goes_below_dkey-clause-staged : goal.returns-else-goes_below_dkey-clause-staged
 returns-else-goes_below_dkey-clause-staged g c = on_ok_then c.punch_log.result (λ h told x held at new d small.

@@ -14,6 +14,11 @@ returns-in_err-set-clause-too_much g c refused told x held at =
     let is : c.from_residual.result ≡ Err c.in_err-set.field-0.0 = search rules in
     c.in_err-set.ensures.too_much (err_other c.in_err-set.field-0.0 TooMuch (subst (λ z. IsErrOf z TooMuch) is refused)) told x.0 (log_tree (g.P.Pages.blocks c.args.pages.now) 4 c.args.root x refl held at)
 
+pub returns-in_err-set-clause-few_left : goal.returns-in_err-set-clause-few_left
+returns-in_err-set-clause-few_left g c refused told x held at =
+    let is : c.from_residual.result ≡ Err c.in_err-set.field-0.0 = search rules in
+    c.in_err-set.ensures.few_left (err_other c.in_err-set.field-0.0 TooMuch (subst (λ z. IsErrOf z TooMuch) is refused)) told x.0 (log_tree (g.P.Pages.blocks c.args.pages.now) 4 c.args.root x refl held at)
+
 pub returns-clause-noted : goal.returns-clause-noted
 returns-clause-noted g c told x held at none =
     let m = g.P.Pages.blocks c.args.pages.now in

@@ -24,6 +24,11 @@ returns-in_err-write_dkeys-clause-too_much g c refused told x held at new d smal
     let is : c.from_residual.result ≡ Err c.in_err-write_dkeys.field-0.0 = search rules in
     lacks_more (data_blocks c.args.write.now) (dkey_pairs c.args.write.now (for_pair d)) (log_pairs c.args.write.now (for_pair d)) d (g.P.Pages.budget c.args.pages.now) (lacks_more (data_blocks c.args.write.now) (below_dkey_pairs c.args.write.now (for_pair d)) (for_pair d) d (g.P.Pages.budget c.args.pages.now) (c.in_err-write_dkeys.ensures.too_much (err_other c.in_err-write_dkeys.field-0.0 TooMuch (subst (λ z. IsErrOf z TooMuch) is refused)) told x.1 (holds_second log_owner (hung dkey_level) (g.P.Pages.blocks c.args.pages.now) x held) (ap (λ r. r.below) at) new.dkeys d small.1))
 
+pub returns-in_err-write_dkeys-clause-few_left : goal.returns-in_err-write_dkeys-clause-few_left
+returns-in_err-write_dkeys-clause-few_left g c refused told x held at new d small =
+    let is : c.from_residual.result ≡ Err c.in_err-write_dkeys.field-0.0 = search rules in
+    c.in_err-write_dkeys.ensures.few_left (err_other c.in_err-write_dkeys.field-0.0 TooMuch (subst (λ z. IsErrOf z TooMuch) is refused)) told x.1 (holds_second log_owner (hung dkey_level) (g.P.Pages.blocks c.args.pages.now) x held) (ap (λ r. r.below) at) new.dkeys d small.1
+
 pub note_update-requires-clause-log : goal.note_update-requires-clause-log
 note_update-requires-clause-log g c told =
     let s = c.requires.here told in
@@ -42,6 +47,15 @@ returns-in_err-log-clause-too_much g c refused told x held at new d small =
     let b = c.in_ok-write_dkeys.ensures.written told x.1 (holds_second log_owner (hung dkey_level) (g.P.Pages.blocks c.args.pages.now) x held) (ap (λ r. r.below) at) new.dkeys p.0 k.0 is_at in
     let spent = c.in_ok-write_dkeys.ensures.staged told x.1 (holds_second log_owner (hung dkey_level) (g.P.Pages.blocks c.args.pages.now) x held) (ap (λ r. r.below) at) new.dkeys d small.1 in
     log_lacks (data_blocks c.args.write.now) (dkey_pairs c.args.write.now (for_pair d)) (log_pairs c.args.write.now (for_pair d)) d x.0 (g.P.Pages.budget c.args.pages.now) (g.P.Pages.budget c.write_dkeys.new.pages) small.0 spent (c.in_err-log.ensures.too_much (err_other c.in_err-log.field-0.0 TooMuch (subst (λ z. IsErrOf z TooMuch) is refused)) told x.0 (log_after dkey_level (g.P.Pages.blocks c.args.pages.now) (g.P.Pages.blocks c.write_dkeys.new.pages) x b.now held b.changed) (ap (λ r. r.log) at))
+
+pub returns-in_err-log-clause-few_left : goal.returns-in_err-log-clause-few_left
+returns-in_err-log-clause-few_left g c refused told x held at new d small =
+    let is : c.from_residual-in_err-log.result ≡ Err c.in_err-log.field-0.0 = search rules in
+    let p = object_some c.args.write.now c.requires.form in
+    let k = dkey_there c.args.write.now c.requires.form c.requires.below in
+    let is_at : IsAtDkey p.0 k.0 (write_path c.args.write.now) = record { object = p.1; dkey = k.1 } in
+    let b = c.in_ok-write_dkeys.ensures.written told x.1 (holds_second log_owner (hung dkey_level) (g.P.Pages.blocks c.args.pages.now) x held) (ap (λ r. r.below) at) new.dkeys p.0 k.0 is_at in
+    c.in_err-log.ensures.few_left (err_other c.in_err-log.field-0.0 TooMuch (subst (λ z. IsErrOf z TooMuch) is refused)) told x.0 (log_after dkey_level (g.P.Pages.blocks c.args.pages.now) (g.P.Pages.blocks c.write_dkeys.new.pages) x b.now held b.changed) (ap (λ r. r.log) at) d small.0
 
 pub returns-clause-written : goal.returns-clause-written
 returns-clause-written g c told x held at new ob is_at =

@@ -14,6 +14,11 @@ returns-in_err-log-clause-too_much g c refused told x held at d small =
     let is : c.from_residual.result ≡ Err c.in_err-log.field-0.0 = search rules in
     fewer_left x.0 d (g.P.Pages.budget c.args.pages.now) small.0 (c.in_err-log.ensures.too_much (err_other c.in_err-log.field-0.0 TooMuch (subst (λ z. IsErrOf z TooMuch) is refused)) told x.0 (holds_log (g.P.Pages.blocks c.args.pages.now) x held) (ap (λ r. r.log) at))
 
+pub returns-in_err-log-clause-few_left : goal.returns-in_err-log-clause-few_left
+returns-in_err-log-clause-few_left g c refused told x held at d small =
+    let is : c.from_residual.result ≡ Err c.in_err-log.field-0.0 = search rules in
+    c.in_err-log.ensures.few_left (err_other c.in_err-log.field-0.0 TooMuch (subst (λ z. IsErrOf z TooMuch) is refused)) told x.0 (holds_log (g.P.Pages.blocks c.args.pages.now) x held) (ap (λ r. r.log) at) d small.0
+
 pub returns-clause-written : goal.returns-clause-written
 returns-clause-written g c told x held at fresh p =
     let m = g.P.Pages.blocks c.args.pages.now in

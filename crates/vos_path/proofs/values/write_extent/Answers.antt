@@ -15,6 +15,11 @@ returns-in_err-add-clause-too_much g c refused told x held at fresh d small =
     let is : c.from_residual.result ≡ Err c.in_err-add.field-0.0 = search rules in
     added_lacks (chain_blocks (length c.args.bytes.now)) x.1.1 d (g.P.Pages.budget c.args.pages.now) small.1.1 (c.in_err-add.ensures.too_much (err_other c.in_err-add.field-0.0 TooMuch (subst (λ z. IsErrOf z TooMuch) is refused)) told x.1.1 (holds_extent (g.P.Pages.blocks c.args.pages.now) x held) (ap (λ r. r.extents) at) (fresh.extent c.args.low))
 
+pub returns-in_err-add-clause-few_left : goal.returns-in_err-add-clause-few_left
+returns-in_err-add-clause-few_left g c refused told x held at fresh d small =
+    let is : c.from_residual.result ≡ Err c.in_err-add.field-0.0 = search rules in
+    c.in_err-add.ensures.few_left (err_other c.in_err-add.field-0.0 TooMuch (subst (λ z. IsErrOf z TooMuch) is refused)) told x.1.1 (holds_extent (g.P.Pages.blocks c.args.pages.now) x held) (ap (λ r. r.extents) at) (fresh.extent c.args.low) d small.1.1
+
 pub note-requires-clause-log : goal.note-requires-clause-log
 note-requires-clause-log g c told =
     let s = c.requires.here told in
@@ -29,6 +34,13 @@ returns-in_err-log-clause-too_much g c refused told x held at fresh d small =
     let b = c.in_ok-add.ensures.added told x.1.1 (holds_extent m x held) (ap (λ r. r.extents) at) (fresh.extent c.args.low) in
     let spent = c.in_ok-add.ensures.staged told x.1.1 (holds_extent m x held) (ap (λ r. r.extents) at) (fresh.extent c.args.low) in
     fewer_after (chain_blocks (length c.args.bytes.now)) x.1.1 x.0 d (g.P.Pages.budget c.args.pages.now) (g.P.Pages.budget c.add.new.pages) small.1.1 small.0 spent (c.in_err-log.ensures.too_much (err_other c.in_err-log.field-0.0 TooMuch (subst (λ z. IsErrOf z TooMuch) is refused)) told x.0 (log_after_extent m (g.P.Pages.blocks c.add.new.pages) x b.now held b.changed) (ap (λ r. r.log) at))
+
+pub returns-in_err-log-clause-few_left : goal.returns-in_err-log-clause-few_left
+returns-in_err-log-clause-few_left g c refused told x held at fresh d small =
+    let is : c.from_residual-in_err-log.result ≡ Err c.in_err-log.field-0.0 = search rules in
+    let m = g.P.Pages.blocks c.args.pages.now in
+    let b = c.in_ok-add.ensures.added told x.1.1 (holds_extent m x held) (ap (λ r. r.extents) at) (fresh.extent c.args.low) in
+    c.in_err-log.ensures.few_left (err_other c.in_err-log.field-0.0 TooMuch (subst (λ z. IsErrOf z TooMuch) is refused)) told x.0 (log_after_extent m (g.P.Pages.blocks c.add.new.pages) x b.now held b.changed) (ap (λ r. r.log) at) d small.0
 
 pub returns-clause-written : goal.returns-clause-written
 returns-clause-written g c told x held at fresh p =

@@ -7,7 +7,7 @@ use Rattle.vos_values.specs.Keys.{name_key}
 use Rattle.vos_values.specs.Values.{akey_value}
 use Rattle.vos_levels.specs.Levels.{things}
 use Rattle.vos_levels.proofs.Calls.{on_ok_then}
-use Rattle.vos_versions.proofs.Marks.{err_other}
+use Rattle.vos_versions.proofs.Marks.{err_other, short_any}
 use Rattle.vos_path.specs.Objects.{akey_level, or_none, values_owner, values_roots}
 use Rattle.vos_path.specs.Writes.{AkeyIsSmall}
 use Rattle.vos_path.proofs.Putting.{tree_of}
@@ -61,6 +61,16 @@ returns-in_err-now-clause-too_much g c refused told x held at d small =
     let lacks = c.in_err-now.ensures.too_much (err_other c.in_err-now.field-0.0 TooMuch (subst (λ z. IsErrOf z TooMuch) is refused)) told k.thing.holds stands k.is d (all_one (AkeyIsSmall d) (is_akey c.args.name.now) (things x) k.thing small.1 k.found) in
     lacks_more (values_cost c.args.task.kind (for_one d)) (akeys_cost c.args.task.kind (for_one d) 1) d (g.P.Pages.budget c.args.pages.now) (omega arith) (subst (Lacks (values_cost c.args.task.kind (for_one d)) d) c.find_akey.ensures.budget lacks)
 
+pub returns-in_err-now-clause-few_left : goal.returns-in_err-now-clause-few_left
+returns-in_err-now-clause-few_left g c refused told x held at d small =
+    let is : c.from_residual-in_err-now.result ≡ Err c.in_err-now.field-0.0 = search rules in
+    let m = g.P.Pages.blocks c.args.pages.now in
+    let e = c.find_akey.ensures.kept told in
+    let tree = tree_of akey_level m c.args.akeys.now.kind c.args.akeys.now.root x c.requires.kind held at in
+    let k = akey_is m x held c.args.name.now c.key_of-key.result c.key_of-key.ensures.key c.in_ok-was.field-0 (c.in_ok-was.ensures.found told x.0 tree) c.in-Some.was c.in-Some.is in
+    let stands = subst (λ b. Holds (values_owner) b k.thing.holds) (sym e) (akey_holds m x held c.args.name.now k.thing k.found) in
+    c.in_err-now.ensures.few_left (err_other c.in_err-now.field-0.0 TooMuch (subst (λ z. IsErrOf z TooMuch) is refused)) told k.thing.holds stands k.is d (all_one (AkeyIsSmall d) (is_akey c.args.name.now) (things x) k.thing small.1 k.found)
+
 pub put_unless-requires-clause-tree : goal.put_unless-requires-clause-tree
 put_unless-requires-clause-tree g c told =
     let s = c.requires.here told in
@@ -108,6 +118,10 @@ returns-clause-too_much g c refused told x held at d small =
     let entry = akey_entry m x held c.args.name.now k.thing k.found c.key_of-key.result c.key_of-key.ensures.key in
     let spent = subst (λ b. Spends (values_cost c.args.task.kind (for_one d)) b (g.P.Pages.budget c.change_values.new.pages)) c.find_akey.ensures.budget (c.in_ok-now.ensures.staged told k.thing.holds stands k.is d (all_one (AkeyIsSmall d) (is_akey c.args.name.now) (things x) k.thing small.1 k.found)) in
     lacks_put (values_cost c.args.task.kind (for_one d)) d (g.P.Pages.budget c.args.pages.now) (g.P.Pages.budget c.change_values.new.pages) spent (c.put_unless.ensures.too_much refused)
+
+pub returns-clause-few_left : goal.returns-clause-few_left
+returns-clause-few_left g c refused told x held at d small =
+    short_any 1 256 d (g.P.Pages.budget c.put_unless.new.pages) (omega arith) (omega arith) (c.put_unless.ensures.few_left refused)
 
 pub returns-clause-staged : goal.returns-clause-staged
 returns-clause-staged g c = on_ok_then c.put_unless.result (λ h told x held at d small.

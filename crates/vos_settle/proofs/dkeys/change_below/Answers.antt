@@ -24,6 +24,11 @@ returns-in_err-change_akeys-clause-too_much g c refused told x held at d small =
     let lacks = c.in_err-change_akeys.ensures.too_much (err_other c.in_err-change_akeys.field-0.0 TooMuch (subst (λ z. IsErrOf z TooMuch) is refused)) told x.1 (holds_second log_owner (hung akey_level) (g.P.Pages.blocks c.args.pages.now) x held) (ap (λ r. r.below) at) d small.1 in
     lacks_more (akeys_cost c.args.task.kind (for_one d) 1) (akeys_cost c.args.task.kind (for_one d) 1 + noted_cost c.args.task.kind (for_one d)) d (g.P.Pages.budget c.args.pages.now) (omega arith) lacks
 
+pub returns-in_err-change_akeys-clause-few_left : goal.returns-in_err-change_akeys-clause-few_left
+returns-in_err-change_akeys-clause-few_left g c refused told x held at d small =
+    let is : c.from_residual.result ≡ Err c.in_err-change_akeys.field-0.0 = search rules in
+    c.in_err-change_akeys.ensures.few_left (err_other c.in_err-change_akeys.field-0.0 TooMuch (subst (λ z. IsErrOf z TooMuch) is refused)) told x.1 (holds_second log_owner (hung akey_level) (g.P.Pages.blocks c.args.pages.now) x held) (ap (λ r. r.below) at) d small.1
+
 pub change_noted-requires-clause-log : goal.change_noted-requires-clause-log
 change_noted-requires-clause-log g c told =
     let s = c.requires.here told in
@@ -39,6 +44,13 @@ returns-in_err-log-clause-too_much g c refused told x held at d small =
     let spent = c.in_ok-change_akeys.ensures.staged told x.1 (holds_second log_owner (hung akey_level) m x held) (ap (λ r. r.below) at) d small.1 in
     lacks_then x.0 (akeys_cost c.args.task.kind (for_one d) 1) (akeys_cost c.args.task.kind (for_one d) 1 + noted_cost c.args.task.kind (for_one d)) d (g.P.Pages.budget c.args.pages.now) (g.P.Pages.budget c.change_akeys.new.pages) (omega arith) small.0 spent
     (c.in_err-log.ensures.too_much (err_other c.in_err-log.field-0.0 TooMuch (subst (λ z. IsErrOf z TooMuch) is refused)) told x.0 (log_after akey_level m (g.P.Pages.blocks c.change_akeys.new.pages) x b.now held b.changed) (ap (λ r. r.log) at))
+
+pub returns-in_err-log-clause-few_left : goal.returns-in_err-log-clause-few_left
+returns-in_err-log-clause-few_left g c refused told x held at d small =
+    let is : c.from_residual-in_err-log.result ≡ Err c.in_err-log.field-0.0 = search rules in
+    let m = g.P.Pages.blocks c.args.pages.now in
+    let b = c.in_ok-change_akeys.ensures.changed told x.1 (holds_second log_owner (hung akey_level) m x held) (ap (λ r. r.below) at) in
+    c.in_err-log.ensures.few_left (err_other c.in_err-log.field-0.0 TooMuch (subst (λ z. IsErrOf z TooMuch) is refused)) told x.0 (log_after akey_level m (g.P.Pages.blocks c.change_akeys.new.pages) x b.now held b.changed) (ap (λ r. r.log) at) d small.0
 
 pub returns-clause-changed : goal.returns-clause-changed
 returns-clause-changed g c told x held at =

@@ -7,7 +7,7 @@ use Rattle.vos_values.specs.Keys.{IsName, name_key}
 use Rattle.vos_values.specs.Values.{roots_value}
 use Rattle.vos_levels.specs.Levels.{things}
 use Rattle.vos_levels.proofs.Calls.{on_ok_then}
-use Rattle.vos_versions.proofs.Marks.{err_other}
+use Rattle.vos_versions.proofs.Marks.{err_other, short_any}
 use Rattle.vos_path.specs.Objects.{akey_level, below_owner, below_roots, dkey_level, or_none}
 use Rattle.vos_path.specs.Writes.{DkeyIsSmall}
 use Rattle.vos_path.proofs.Putting.{tree_of}
@@ -61,6 +61,16 @@ returns-in_err-now-clause-too_much g c refused told x held at d small =
     let lacks = c.in_err-now.ensures.too_much (err_other c.in_err-now.field-0.0 TooMuch (subst (λ z. IsErrOf z TooMuch) is refused)) told k.thing.holds stands k.is d (all_one (DkeyIsSmall d) (is_dkey c.args.name.now) (things x) k.thing small.1 k.found) in
     lacks_more (below_dkey_cost c.args.task.kind c.args.akey.now (for_one d) 1) (dkeys_cost c.args.task.kind c.args.akey.now (for_one d) 1) d (g.P.Pages.budget c.args.pages.now) (omega arith) (subst (Lacks (below_dkey_cost c.args.task.kind c.args.akey.now (for_one d) 1) d) c.find_roots.ensures.budget lacks)
 
+pub returns-in_err-now-clause-few_left : goal.returns-in_err-now-clause-few_left
+returns-in_err-now-clause-few_left g c refused told x held at d small =
+    let is : c.from_residual-in_err-now.result ≡ Err c.in_err-now.field-0.0 = search rules in
+    let m = g.P.Pages.blocks c.args.pages.now in
+    let e = c.find_roots.ensures.kept told in
+    let tree = tree_of dkey_level m c.args.dkeys.now.kind c.args.dkeys.now.root x c.requires.kind held at in
+    let k = branch_is 2 name_key IsName akey_level (name_key c.args.name.now) m x held c.key_of-key.result c.key_of-key.ensures.key c.in_ok-was.field-0 (c.in_ok-was.ensures.found told x.0 tree) c.in-Some.was c.in-Some.is in
+    let stands = subst (λ b. Holds (below_owner akey_level) b k.thing.holds) (sym e) (branch_holds 2 name_key IsName akey_level (name_key c.args.name.now) m x held k.thing k.found) in
+    c.in_err-now.ensures.few_left (err_other c.in_err-now.field-0.0 TooMuch (subst (λ z. IsErrOf z TooMuch) is refused)) told k.thing.holds stands k.is d (all_one (DkeyIsSmall d) (is_dkey c.args.name.now) (things x) k.thing small.1 k.found)
+
 pub put_unless-requires-clause-tree : goal.put_unless-requires-clause-tree
 put_unless-requires-clause-tree g c told =
     let s = c.requires.here told in
@@ -108,6 +118,10 @@ returns-clause-too_much g c refused told x held at d small =
     let entry = branch_entry 2 name_key IsName akey_level (name_key c.args.name.now) m x held k.thing k.found c.key_of-key.result c.key_of-key.ensures.key in
     let spent = subst (λ b. Spends (below_dkey_cost c.args.task.kind c.args.akey.now (for_one d) 1) b (g.P.Pages.budget c.change_dkey.new.pages)) c.find_roots.ensures.budget (c.in_ok-now.ensures.staged told k.thing.holds stands k.is d (all_one (DkeyIsSmall d) (is_dkey c.args.name.now) (things x) k.thing small.1 k.found)) in
     lacks_put (below_dkey_cost c.args.task.kind c.args.akey.now (for_one d) 1) d (g.P.Pages.budget c.args.pages.now) (g.P.Pages.budget c.change_dkey.new.pages) spent (c.put_unless.ensures.too_much refused)
+
+pub returns-clause-few_left : goal.returns-clause-few_left
+returns-clause-few_left g c refused told x held at d small =
+    short_any 1 256 d (g.P.Pages.budget c.put_unless.new.pages) (omega arith) (omega arith) (c.put_unless.ensures.few_left refused)
 
 pub returns-clause-staged : goal.returns-clause-staged
 returns-clause-staged g c = on_ok_then c.put_unless.result (λ h told x held at d small.

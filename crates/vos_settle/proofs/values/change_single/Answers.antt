@@ -17,6 +17,11 @@ returns-in_err-change_at-clause-too_much g c refused told x held at d small =
     let is : c.from_residual.result ≡ Err c.in_err-change_at.field-0.0 = search rules in
     lacks_now x.1.0 (values_cost c.args.task.kind (for_one d)) d (g.P.Pages.budget c.args.pages.now) small.1.0 (c.in_err-change_at.ensures.too_much (err_other c.in_err-change_at.field-0.0 TooMuch (subst (λ z. IsErrOf z TooMuch) is refused)) told x.1.0 (holds_single (g.P.Pages.blocks c.args.pages.now) x held) (ap (λ r. r.singles) at))
 
+pub returns-in_err-change_at-clause-few_left : goal.returns-in_err-change_at-clause-few_left
+returns-in_err-change_at-clause-few_left g c refused told x held at d small =
+    let is : c.from_residual.result ≡ Err c.in_err-change_at.field-0.0 = search rules in
+    c.in_err-change_at.ensures.few_left (err_other c.in_err-change_at.field-0.0 TooMuch (subst (λ z. IsErrOf z TooMuch) is refused)) told x.1.0 (holds_single (g.P.Pages.blocks c.args.pages.now) x held) (ap (λ r. r.singles) at) d small.1.0
+
 pub change_entry-requires-clause-log : goal.change_entry-requires-clause-log
 change_entry-requires-clause-log g c told =
     let s = c.requires.here told in
@@ -32,6 +37,13 @@ returns-in_err-log-clause-too_much g c refused told x held at d small =
     let spent = version_spends x.1.0 d (g.P.Pages.budget c.args.pages.now) (g.P.Pages.budget c.change_at.new.pages) small.1.0 (c.in_ok-change_at.ensures.staged told x.1.0 (holds_single m x held) (ap (λ r. r.singles) at)) in
     lacks_then x.0 (for_one d) (values_cost c.args.task.kind (for_one d)) d (g.P.Pages.budget c.args.pages.now) (g.P.Pages.budget c.change_at.new.pages) (omega (arith, ap (λ z. values_cost z (for_one d)) c.requires.kind)) small.0 spent
     (c.in_err-log.ensures.too_much (err_other c.in_err-log.field-0.0 TooMuch (subst (λ z. IsErrOf z TooMuch) is refused)) told x.0 (log_after_single m (g.P.Pages.blocks c.change_at.new.pages) x b.now held b.changed) (ap (λ r. r.log) at))
+
+pub returns-in_err-log-clause-few_left : goal.returns-in_err-log-clause-few_left
+returns-in_err-log-clause-few_left g c refused told x held at d small =
+    let is : c.from_residual-in_err-log.result ≡ Err c.in_err-log.field-0.0 = search rules in
+    let m = g.P.Pages.blocks c.args.pages.now in
+    let b = c.in_ok-change_at.ensures.changed told x.1.0 (holds_single m x held) (ap (λ r. r.singles) at) in
+    c.in_err-log.ensures.few_left (err_other c.in_err-log.field-0.0 TooMuch (subst (λ z. IsErrOf z TooMuch) is refused)) told x.0 (log_after_single m (g.P.Pages.blocks c.change_at.new.pages) x b.now held b.changed) (ap (λ r. r.log) at) d small.0
 
 pub returns-clause-changed : goal.returns-clause-changed
 returns-clause-changed g c told x held at =

@@ -6,7 +6,7 @@ use Rattle.vos_values.specs.Values.{version_value}
 use Rattle.vos_levels.proofs.Calls.{on_ok_then}
 use Rattle.vos_chain.specs.Made.{chain_blocks}
 use Rattle.vos_versions.specs.Marks.{new_mark}
-use Rattle.vos_versions.proofs.Marks.{err_other, kind_is, stages_for, too_few_first, too_few_then, tree_stays, value_is}
+use Rattle.vos_versions.proofs.Marks.{err_other, kind_is, short_any, stages_for, too_few_first, too_few_then, tree_stays, value_is}
 use Rattle.vos_versions.proofs.versions.add.Goals as goal
 
 pub insert-requires-clause-kind : goal.insert-requires-clause-kind
@@ -24,6 +24,11 @@ pub returns-in_err-chain-clause-too_much : goal.returns-in_err-chain-clause-too_
 returns-in_err-chain-clause-too_much g c h told t tree none =
     let is : c.from_residual.result ≡ Err c.in_err-chain.field-0.0 = search rules in
     too_few_first (chain_blocks (length c.args.bytes.now)) t (g.P.Pages.budget c.args.pages.now) (c.in_err-chain.ensures.too_much (err_other c.in_err-chain.field-0.0 TooMuch (subst (λ z. IsErrOf z TooMuch) is h)))
+
+pub returns-in_err-chain-clause-few_left : goal.returns-in_err-chain-clause-few_left
+returns-in_err-chain-clause-few_left g c h told t tree none =
+    let is : c.from_residual.result ≡ Err c.in_err-chain.field-0.0 = search rules in
+    λ d few. short_any 1 256 d (g.P.Pages.budget c.write_chain.new.pages) (omega arith) (omega arith) (c.in_err-chain.ensures.few_left (err_other c.in_err-chain.field-0.0 TooMuch (subst (λ z. IsErrOf z TooMuch) is h)))
 
 pub returns-clause-added : goal.returns-clause-added
 returns-clause-added g c = on_ok_then c.insert.result (λ h told t tree none.
@@ -45,6 +50,11 @@ pub returns-clause-too_much : goal.returns-clause-too_much
 returns-clause-too_much g c h told t tree none =
     let still = tree_stays (g.P.Pages.blocks c.args.pages.now) (g.P.Pages.blocks c.write_chain.new.pages) c.args.tree.now.kind c.args.tree.now.root t c.args.bytes.now c.in_ok-chain.chain (c.in_ok-chain.ensures.made told) tree in
     too_few_then (chain_blocks (length c.args.bytes.now)) t _ _ c.write_chain.ensures.staged (c.insert.ensures.too_much h told t still none)
+
+pub returns-clause-few_left : goal.returns-clause-few_left
+returns-clause-few_left g c h told t tree none =
+    let still = tree_stays (g.P.Pages.blocks c.args.pages.now) (g.P.Pages.blocks c.write_chain.new.pages) c.args.tree.now.kind c.args.tree.now.root t c.args.bytes.now c.in_ok-chain.chain (c.in_ok-chain.ensures.made told) tree in
+    c.insert.ensures.few_left h told t still none
 
 pub returns-clause-steps : goal.returns-clause-steps
 returns-clause-steps g c told t tree =

@@ -105,3 +105,10 @@ returns-else-keeps-clause-too_much g c h told t tree =
     let k = has_key c.args.key.now (entries t) c.in-Some.mark says in
     let there = subst (λ b. IsTree b c.args.tree.now.kind c.args.tree.now.root t) (sym (c.find_mark.ensures.kept told)) tree in
     subst (λ b. TooFew t b) c.find_mark.ensures.budget (c.drop_at.ensures.too_much h told t there k.0 k.1)
+
+pub returns-else-keeps-clause-few_left : goal.returns-else-keeps-clause-few_left
+returns-else-keeps-clause-few_left g c h told t tree =
+    let says : mark_at c.args.key.now (entries t) ≡ Some c.in-Some.mark = sym (c.in_ok-mark.ensures.found told t tree) ∙ c.in-Some.is in
+    let k = has_key c.args.key.now (entries t) c.in-Some.mark says in
+    let there = subst (λ b. IsTree b c.args.tree.now.kind c.args.tree.now.root t) (sym (c.find_mark.ensures.kept told)) tree in
+    c.drop_at.ensures.few_left h told t there k.0 k.1

@@ -1,7 +1,7 @@
 use Rattle.std.proofs.Common.{rules, ◌≡◌, ◌+◌, ◌≤◌, arith, subst, Err, IsErrOf}
 use Rattle.pmem_tree_base.specs.declared.refusal.TreeNo.TheVariants.{TooMuch}
 use Rattle.vos_levels.proofs.Calls.{on_ok_then}
-use Rattle.vos_versions.proofs.Marks.{bytes_left, err_other, few_then, kind_is, stages_then}
+use Rattle.vos_versions.proofs.Marks.{bytes_left, err_other, few_then, kind_is, short_any, stages_then}
 use Rattle.vos_versions.proofs.versions.drop_at.Goals as goal
 
 pub remove-requires-clause-kind : goal.remove-requires-clause-kind
@@ -30,8 +30,16 @@ returns-in_err-remove-clause-too_much g c h told t tree e at =
     let is : c.from_residual.result ≡ Err c.in_err-remove.field-0.0 = search rules in
     c.in_err-remove.ensures.too_much (err_other c.in_err-remove.field-0.0 TooMuch (subst (λ z. IsErrOf z TooMuch) is h)) told t tree e at
 
+pub returns-in_err-remove-clause-few_left : goal.returns-in_err-remove-clause-few_left
+returns-in_err-remove-clause-few_left g c h told t tree e at =
+    let is : c.from_residual.result ≡ Err c.in_err-remove.field-0.0 = search rules in
+    c.in_err-remove.ensures.few_left (err_other c.in_err-remove.field-0.0 TooMuch (subst (λ z. IsErrOf z TooMuch) is h)) told t tree e at
+
 pub returns-clause-too_much : goal.returns-clause-too_much
 returns-clause-too_much g c h told t tree e at = few_then c.args.mark.length t _ _ c.requires.short (c.in_ok-remove.ensures.staged told t tree) (c.give_chain.ensures.too_much h)
+
+pub returns-clause-few_left : goal.returns-clause-few_left
+returns-clause-few_left g c h told t tree e at = λ d few. short_any 1 1 d (g.P.Pages.budget c.give_chain.new.pages) (omega arith) (omega arith) (c.give_chain.ensures.few_left h)
 
 pub returns-in_err-remove-clause-steps : goal.returns-in_err-remove-clause-steps
 returns-in_err-remove-clause-steps g c told t tree d few = omega (arith, c.remove.ensures.steps told t tree d few)

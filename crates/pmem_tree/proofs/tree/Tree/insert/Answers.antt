@@ -1,8 +1,9 @@
 use Rattle.std.proofs.Common.{Some, rules, sym, subst, arith}
 use Rattle.pmem_pages.specs.Blocks.{Blocks, Budget}
 use Rattle.pmem_tree.specs.Set.{CanSet, Sets}
+use Rattle.pmem_tree.proofs.Ends.{spent_nothing}
 use Rattle.pmem_tree.proofs.Found.{steps_16}
-use Rattle.pmem_tree.proofs.Inserted.{whole_stands, can_insert, set_with, sets_inserts, stages_few, stages_end, too_few}
+use Rattle.pmem_tree.proofs.Inserted.{whole_stands, can_insert, set_with, sets_inserts, stages_few, stages_end, too_few, few_less}
 use Rattle.pmem_tree.proofs.tree.Tree.insert.Goals as goal
 
 pub sub_at-requires : goal.sub_at-requires
@@ -19,6 +20,12 @@ pub returns-in_err-grown-clause-too_much : goal.returns-in_err-grown-clause-too_
 returns-in_err-grown-clause-too_much g c e told t w none =
     let h = (c.in_ok-whole.ensures.sub told t (whole_stands _ c.args.self.now.kind c.args.self.now.root (record { key = c.args.key.now; value = c.args.value.now }) t w _ c.in_ok-at.at _ _ (record { bytes = (c.in_ok-at.ensures.taken told).0; was_free = c.in_ok-at.ensures.was_free told; taken = (c.in_ok-at.ensures.taken told).1; low = c.in_ok-at.ensures.first; high = search rules; spent = c.take_block.ensures.spent; free = c.in_ok-at.ensures.free }))).height_is in
     too_few t _ _ w.balanced c.take_block.ensures.spent (rw (h, c.sub_at.ensures.budget) at (c.set_at.ensures.refused told (search rules)))
+
+pub returns-in_err-grown-clause-few_left : goal.returns-in_err-grown-clause-few_left
+returns-in_err-grown-clause-few_left g c e told t w none =
+    let h = (c.in_ok-whole.ensures.sub told t (whole_stands _ c.args.self.now.kind c.args.self.now.root (record { key = c.args.key.now; value = c.args.value.now }) t w _ c.in_ok-at.at _ _ (record { bytes = (c.in_ok-at.ensures.taken told).0; was_free = c.in_ok-at.ensures.was_free told; taken = (c.in_ok-at.ensures.taken told).1; low = c.in_ok-at.ensures.first; high = search rules; spent = c.take_block.ensures.spent; free = c.in_ok-at.ensures.free }))).height_is in
+    let b = g.P.Pages.budget c.sub_at.new.pages in
+    few_less t _ _ b _ c.set_at.ensures.spent (too_few t b b w.balanced (spent_nothing 1 1 b) (rw h at (c.set_at.ensures.refused told (search rules))))
 
 pub returns-in_err-grown-clause-steps : goal.returns-in_err-grown-clause-steps
 returns-in_err-grown-clause-steps g c told t w =

@@ -2,6 +2,7 @@ use Rattle.std.proofs.Common.{rules, sym, subst, arith}
 use Rattle.pmem_pages.specs.Blocks.{Blocks}
 use Rattle.pmem_tree.specs.Shrink.{CanShrink, Shrunk}
 use Rattle.pmem_tree.proofs.Found.{steps_16}
+use Rattle.pmem_tree.proofs.Inserted.{few_less, too_few_1}
 use Rattle.pmem_tree.proofs.Removed.{can_shrink, gone_taken, removes, stages_least, few_removed, few_given}
 use Rattle.pmem_tree.proofs.tree.Tree.remove.Goals as goal
 
@@ -32,6 +33,10 @@ pub returns-in_err-cut-clause-too_much : goal.returns-in_err-cut-clause-too_much
 returns-in_err-cut-clause-too_much g c x told t w e there =
     few_removed t c.in_ok-whole.whole.height (g.P.Pages.budget c.args.pages.now) w.balanced (c.in_ok-whole.ensures.sub told t (record { root_is = w.root; stands = w.stands })).height_is (rw c.sub_at.ensures.budget at (c.remove_at.ensures.refused told (search rules)))
 
+pub returns-in_err-cut-clause-few_left : goal.returns-in_err-cut-clause-few_left
+returns-in_err-cut-clause-few_left g c x told t w e there =
+    few_less t _ _ (g.P.Pages.budget c.sub_at.new.pages) _ c.remove_at.ensures.spent (few_removed t c.in_ok-whole.whole.height (g.P.Pages.budget c.sub_at.new.pages) w.balanced (c.in_ok-whole.ensures.sub told t (record { root_is = w.root; stands = w.stands })).height_is (c.remove_at.ensures.refused told (search rules)))
+
 pub returns-in_err-cut-clause-steps : goal.returns-in_err-cut-clause-steps
 returns-in_err-cut-clause-steps g c told t w =
     let h = (c.in_ok-whole.ensures.sub told t (record { root_is = w.root; stands = w.stands })).height_is in
@@ -40,6 +45,10 @@ returns-in_err-cut-clause-steps g c told t w =
 pub returns-in_err-give_block-clause-too_much : goal.returns-in_err-give_block-clause-too_much
 returns-in_err-give_block-clause-too_much g c x told t w e there =
     few_given t c.in_ok-whole.whole.height _ _ w.balanced (c.in_ok-whole.ensures.sub told t (record { root_is = w.root; stands = w.stands })).height_is (rw c.sub_at.ensures.budget at c.remove_at.ensures.spent) (c.in_err-give_block.ensures.refused.0 (search rules))
+
+pub returns-in_err-give_block-clause-few_left : goal.returns-in_err-give_block-clause-few_left
+returns-in_err-give_block-clause-few_left g c x told t w e there =
+    few_less t _ _ (g.P.Pages.budget c.remove_at.new.pages) _ c.give_block.ensures.spent (too_few_1 t (g.P.Pages.budget c.remove_at.new.pages) (c.in_err-give_block.ensures.refused.0 (search rules)))
 
 pub returns-in_err-give_block-clause-steps : goal.returns-in_err-give_block-clause-steps
 returns-in_err-give_block-clause-steps g c told t w =

@@ -3,7 +3,7 @@ use Rattle.pmem_pages.specs.Blocks.{Blocks, Budget}
 use Rattle.pmem_tree.specs.Set.{CanSet, Sets}
 use Rattle.pmem_tree.proofs.Ends.{spent_nothing}
 use Rattle.pmem_tree.proofs.Found.{steps_16}
-use Rattle.pmem_tree.proofs.Inserted.{can_set, sets_put, sets_stages, sets_take, sets_new, sets_old, stages_end, too_few}
+use Rattle.pmem_tree.proofs.Inserted.{can_set, few_less, sets_put, sets_stages, sets_take, sets_new, sets_old, stages_end, too_few}
 use Rattle.pmem_tree.proofs.tree.Tree.set.Goals as goal
 
 pub sub_at-requires : goal.sub_at-requires
@@ -20,6 +20,12 @@ pub returns-in_err-grown-clause-too_much : goal.returns-in_err-grown-clause-too_
 returns-in_err-grown-clause-too_much g c e told t w =
     let h = (c.in_ok-whole.ensures.sub told t (record { root_is = w.root; stands = w.stands })).height_is in
     too_few t (g.P.Pages.budget c.args.pages.now) (g.P.Pages.budget c.args.pages.now) w.balanced (spent_nothing 1 1 (g.P.Pages.budget c.args.pages.now)) (rw (h, c.sub_at.ensures.budget) at (c.set_at.ensures.refused told (search rules)))
+
+pub returns-in_err-grown-clause-few_left : goal.returns-in_err-grown-clause-few_left
+returns-in_err-grown-clause-few_left g c e told t w =
+    let h = (c.in_ok-whole.ensures.sub told t (record { root_is = w.root; stands = w.stands })).height_is in
+    let b = g.P.Pages.budget c.sub_at.new.pages in
+    few_less t _ _ b _ c.set_at.ensures.spent (too_few t b b w.balanced (spent_nothing 1 1 b) (rw h at (c.set_at.ensures.refused told (search rules))))
 
 pub returns-in_err-grown-clause-missing : goal.returns-in_err-grown-clause-missing
 returns-in_err-grown-clause-missing g c none told t w = c.set_at.ensures.missing (search rules) told t (subst (λ (z : Blocks). CanSet z c.args.self.now.kind c.args.self.now.root c.in_ok-whole.whole.height None (record { key = c.args.key.now; value = c.args.value.now }) t) (sym (c.sub_at.ensures.kept told)) (can_set _ c.args.self.now.kind c.args.self.now.root c.in_ok-whole.whole.height (record { key = c.args.key.now; value = c.args.value.now }) t w c.requires.key c.requires.value (c.in_ok-whole.ensures.sub told t (record { root_is = w.root; stands = w.stands })).height_is))

@@ -25,6 +25,11 @@ returns-clause-too_much g c h told x held at none =
     let m = g.P.Pages.blocks c.args.pages.now in
     c.add.ensures.too_much h told x.0 (extent_tree m c.args.self.now.tree.kind c.args.self.now.tree.root x c.requires.kind held at) (missing_at c.args.at c.key_at-key.result m x c.key_at-key.ensures.place c.key_at-key.ensures.key held none)
 
+pub returns-clause-few_left : goal.returns-clause-few_left
+returns-clause-few_left g c h told x held at none =
+    let m = g.P.Pages.blocks c.args.pages.now in
+    c.add.ensures.few_left h told x.0 (extent_tree m c.args.self.now.tree.kind c.args.self.now.tree.root x c.requires.kind held at) (missing_at c.args.at c.key_at-key.result m x c.key_at-key.ensures.place c.key_at-key.ensures.key held none)
+
 pub returns-clause-steps : goal.returns-clause-steps
 returns-clause-steps g c told x held at = c.add.ensures.steps told x.0 (extent_tree (g.P.Pages.blocks c.args.pages.now) c.args.self.now.tree.kind c.args.self.now.tree.root x c.requires.kind held at)
 

@@ -29,6 +29,13 @@ returns-clause-too_much g c h told x held at none =
     let missing = ap (λ k. entry_at k (entries x.0)) c.key_of.ensures.key ∙ missing_at (moment_of c.args.entry) x m c.key_of.ensures.moment held none in
     c.insert.ensures.too_much h told x.0 tree missing
 
+pub returns-clause-few_left : goal.returns-clause-few_left
+returns-clause-few_left g c h told x held at none =
+    let m = g.P.Pages.blocks c.args.pages.now in
+    let tree = subst (λ k. IsTree m k c.args.self.now.tree.root x.0) (sym c.requires.kind) (hung_tree log_level m c.args.self.now.tree.root x held at) in
+    let missing = ap (λ k. entry_at k (entries x.0)) c.key_of.ensures.key ∙ missing_at (moment_of c.args.entry) x m c.key_of.ensures.moment held none in
+    c.insert.ensures.few_left h told x.0 tree missing
+
 pub returns-clause-steps : goal.returns-clause-steps
 returns-clause-steps g c told x held at =
     let m = g.P.Pages.blocks c.args.pages.now in

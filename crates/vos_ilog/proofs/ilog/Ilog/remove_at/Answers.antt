@@ -25,5 +25,11 @@ returns-clause-too_much g c h told x held at says =
     let k = has_key m x c.args.at c.args.mark c.requires.at held says c.args.key.now c.requires.key_is in
     c.remove.ensures.too_much h told x.0 (log_tree m c.args.self.now.tree.kind c.args.self.now.tree.root x c.requires.kind held at) k.0 k.1
 
+pub returns-clause-few_left : goal.returns-clause-few_left
+returns-clause-few_left g c h told x held at says =
+    let m = g.P.Pages.blocks c.args.pages.now in
+    let k = has_key m x c.args.at c.args.mark c.requires.at held says c.args.key.now c.requires.key_is in
+    c.remove.ensures.few_left h told x.0 (log_tree m c.args.self.now.tree.kind c.args.self.now.tree.root x c.requires.kind held at) k.0 k.1
+
 pub returns-clause-staged : goal.returns-clause-staged
 returns-clause-staged g c = on_ok_then c.remove.result (λ h told x held at. h told x.0 (log_tree (g.P.Pages.blocks c.args.pages.now) c.args.self.now.tree.kind c.args.self.now.tree.root x c.requires.kind held at)) c.remove.ensures.staged

@@ -44,6 +44,13 @@ returns-in_err-settle_write-clause-too_much g c few told x held at d small =
     lacks_after (each_cost (take c.loop-name.name-index ns) (for_one d) 1) (one_cost n (for_one d) 1) (each_cost ns (for_one d) 1) d (g.P.Pages.budget c.args.pages.now) (g.P.Pages.budget c.loop-name.pages)
     (omega (arith, part, more, cost_more (take c.loop-name.name-index ns) n (for_one d) 1)) (f.staged d small) left
 
+pub returns-in_err-settle_write-clause-few_left : goal.returns-in_err-settle_write-clause-few_left
+returns-in_err-settle_write-clause-few_left g c few told x held at d small =
+    let i = c.loop-name.invariant in
+    let f = i.so_far told x held at in
+    let is : c.from_residual.result ≡ Err c.in_err-settle_write.field-0.0 = search rules in
+    c.settle_write.ensures.few_left (c.in_err-settle_write.was ∙ (sym is ∙ few)) told f.turned.now f.turned.changed.holds f.turned.root_is d (f.small d small)
+
 pub loop-name-preserved : goal.loop-name-preserved
 loop-name-preserved g c =
     let i = c.loop-name.invariant in

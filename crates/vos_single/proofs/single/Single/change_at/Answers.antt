@@ -22,6 +22,9 @@ returns-clause-changed g c = on_ok_then c.change_at.result (λ h told x held at.
 pub returns-clause-too_much : goal.returns-clause-too_much
 returns-clause-too_much g c h told x held at = c.change_at.ensures.too_much h told x.0 (single_tree (g.P.Pages.blocks c.args.pages.now) c.args.self.now.tree.kind c.args.self.now.tree.root x c.requires.kind held at)
 
+pub returns-clause-few_left : goal.returns-clause-few_left
+returns-clause-few_left g c h told x held at = c.change_at.ensures.few_left h told x.0 (single_tree (g.P.Pages.blocks c.args.pages.now) c.args.self.now.tree.kind c.args.self.now.tree.root x c.requires.kind held at)
+
 pub returns-clause-steps : goal.returns-clause-steps
 returns-clause-steps g c told x held at = c.change_at.ensures.steps told x.0 (single_tree (g.P.Pages.blocks c.args.pages.now) c.args.self.now.tree.kind c.args.self.now.tree.root x c.requires.kind held at)
 
