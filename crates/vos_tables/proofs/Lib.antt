@@ -1,0 +1,10 @@
+pub mod Order
+pub mod Places
+pub mod Lone
+pub mod Applying
+pub mod Writing
+pub mod Planning
+pub mod Seating
+pub mod Sorting
+pub mod Reading
+pub mod Forms
