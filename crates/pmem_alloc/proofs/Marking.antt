@@ -1,10 +1,10 @@
 -- A byte of the map is set.
-use Rattle.std.proofs.Common.{◌≡◌, ◌≢◌, ℕ, min, ◌+◌, ◌-◌, ◌/◌, ◌%◌, ◌≤◌, ◌<◌, true, false, eqb, leb, ltb, List, length, get_or, set, refl, sym, ap, ◌∙◌, arith, inl, inr, get_or-set_same, get_or-set_other}
+use Rattle.std.proofs.Common.{◌≡◌, ◌≢◌, ℕ, min, ◌+◌, ◌-◌, ◌/◌, ◌%◌, ◌≤◌, ◌<◌, true, false, ◌&&◌, eqb, leb, ltb, List, length, get_or, set, refl, sym, ap, ◌∙◌, arith, inl, inr, get_or-set_same, get_or-set_other}
 use mathlib.Core.Path.{fun_ext}
 use Rattle.std.specs.Int.{bit_at}
 use Rattle.std.proofs.lemmas.Bool.Decides.{nat_tests, eqb_tells}
 use Rattle.pmem_alloc.specs.Sets.{Set, set_to, IsLeast, count_below}
-use Rattle.pmem_alloc.specs.Map.{is_free, free_in, HoldsMap}
+use Rattle.pmem_alloc.specs.Map.{is_free, free_in, HoldsMap, SameBeside}
 use Rattle.pmem_alloc.specs.Laws.{free_in_within}
 use Rattle.pmem_alloc.proofs.Counting.{set_here, set_other, count_out, count_in, count_most}
 
@@ -99,6 +99,28 @@ given_holds bytes end count low b byte h from under was long is others =
       counted = omega (arith, counted, more, new);
       none_below = λ q below. ap (λ (t : Set). t q) e ∙ (set_other s b q true (λ same. omega arith) ∙ h.none_below q (omega arith));
     }
+
+-- a bit other than the one that is set stays
+bit_other : (bytes : List ℕ) (b byte q : ℕ) → length bytes ≡ 16384 → b < 131072 → ((i : ℕ) → i < 8 → i ≢ b % 8 → bit_at byte i ≡ bit_at (get_or bytes (b / 8) 0) i) → q ≢ b → bit_at (get_or (set bytes (b / 8) byte) (q / 8) 0) (q % 8) ≡ bit_at (get_or bytes (q / 8) 0) (q % 8)
+bit_other bytes b byte q long low others ne =
+    let inside : b / 8 < length bytes = omega arith in
+    elim (eqb_tells (q / 8) (b / 8)) [
+      | inl same ↦
+          let e : q / 8 ≡ b / 8 = same.1 in
+          let off : q % 8 ≢ b % 8 = λ r. ne (omega arith) in
+          let old = ap (λ (k : ℕ). get_or bytes k 0) e in
+          let new = ap (λ (k : ℕ). get_or (set bytes (b / 8) byte) k 0) e ∙ get_or-set_same bytes (b / 8) byte 0 inside in
+          ap (λ (x : ℕ). bit_at x (q % 8)) new ∙ (others (q % 8) (omega arith) off ∙ ap (λ (x : ℕ). bit_at x (q % 8)) (sym old))
+      | inr apart ↦ ap (λ (x : ℕ). bit_at x (q % 8)) (get_or-set_other bytes (b / 8) (q / 8) byte 0 apart.1)
+    ]
+
+-- so whoever sets the bit of a block leaves those of all that aren't blocks
+pub beside_stays : (end : ℕ) (bytes : List ℕ) (b byte : ℕ) → length bytes ≡ 16384 → end ≤ 131072 → 1264 ≤ b → b < end → ((i : ℕ) → i < 8 → i ≢ b % 8 → bit_at byte i ≡ bit_at (get_or bytes (b / 8) 0) i)
+    → SameBeside (record { bytes = bytes; end = end }) (record { bytes = set bytes (b / 8) byte; end = end })
+beside_stays end bytes b byte long small low high others = record {
+  end = refl;
+  bits = λ q out. bit_other bytes b byte q long (omega arith) others (λ same. let l : leb 1264 q ≡ true = grind (arith, nat_tests) in let h : ltb q end ≡ true = grind (arith, nat_tests) in let no : (leb 1264 q && ltb q end) ≡ true = rw (l, h) refl in absurd (cc));
+}
 
 pub counted_fits : (bytes : List ℕ) (end count low : ℕ) → HoldsMap bytes end count low → count ≤ 131072
 counted_fits bytes end count low h = let small = h.small in let counted = h.counted in omega (arith, counted, count_most (free_in end bytes) end)

@@ -85,4 +85,5 @@ is_blocks size tells image staged stopped map lasting many h = record {
   lasting_end = h.lasting_end;
   stored = λ t going. free_stored size map.end map.bytes (all_over staged image) h.end (h.stands t going);
   lasting_stored = λ t going. free_stored size lasting.end lasting.bytes image h.lasting_end (h.lasting_stands t going);
+  read = h.stands;
 }

@@ -24,12 +24,13 @@ free_count b = count_below (free_of b.map) b.map.end
 
 -- What holds of every allocator. Free are blocks behind the map and below the end. Where the region tells
 -- its bytes, and unless it stopped, those are free that the map says that is read with what is staged
--- over it, and at the last commit those were that the map says without that.
+-- over it, and at the last commit those were that the map says without that; and the map in memory is the one that is read so.
 pub record IsBlocks (size : ℕ) (tells : Bool) (image : Image) (staged : List Range) (stopped : Bool) (map lasting : MapState) : Type 0 where
   pub end : map.end ≡ blocks_end size
   pub lasting_end : lasting.end ≡ blocks_end size
   pub stored : IsTrue tells → stopped ≡ false → free_of map ≡ free_blocks size (all_over staged image)
   pub lasting_stored : IsTrue tells → stopped ≡ false → free_of lasting ≡ free_blocks size image
+  pub read : IsTrue tells → stopped ≡ false → StandsIn map.bytes (all_over staged image)
 
 -- there is room for so many ranges of one byte each
 abbrev pub HasRooms : List Range → ℕ → Type 0

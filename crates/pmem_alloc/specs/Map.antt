@@ -1,5 +1,5 @@
 -- The map of blocks: a bit for each block, 1 where it is taken.
-use Rattle.std.specs.Prelude.{◌≡◌, ℕ, ◌+◌, ◌*◌, ◌/◌, ◌%◌, ◌<◌, ◌≤◌, min, Bool, false, ◌==◌, ◌&&◌, not, nat_lt, nat_le, cond, List, [], ◌∷◌, slice_index, Some, None}
+use Rattle.std.specs.Prelude.{◌≡◌, ℕ, ◌+◌, ◌-◌, ◌*◌, ◌/◌, ◌%◌, ◌^◌, ◌<◌, ◌≤◌, min, Bool, false, ◌==◌, ◌&&◌, not, nat_lt, nat_le, cond, List, [], ◌∷◌, slice_index, Some, None}
 use Rattle.std.specs.Int.{bit_at}
 use Rattle.base_outside.specs.Images.{Image, Range, bytes_at}
 use Rattle.pmem_pages.specs.Blocks.{Blocks}
@@ -61,3 +61,32 @@ StandsIn bytes f = (k : ℕ) → k < map_length → slice_index bytes k ≡ f (m
 -- the blocks that are not free, with their bytes
 unfoldable pub blocks_of : ℕ → Set → Image → Blocks
 blocks_of end free f b = cond (nat_le first_block b && (nat_lt b end && not (free b))) (Some (bytes_at f (256 * b) 256)) None
+
+-- ---- what stands beside the blocks
+
+-- a block behind the map and below the end
+abbrev pub is_block : ℕ → ℕ → Bool
+is_block end b = nat_le first_block b && nat_lt b end
+
+-- the bit of a block in a map
+abbrev pub map_bit : MapState → ℕ → ℕ
+map_bit m b = bit_at (slice_index m.bytes (b / 8)) (b % 8)
+
+-- two maps have the same end, and the same bits of all that aren't blocks
+pub record SameBeside (m n : MapState) : Type 0 where
+  pub end : n.end ≡ m.end
+  pub bits : (b : ℕ) → is_block m.end b ≡ false → map_bit n b ≡ map_bit m b
+
+-- What stands beside the blocks, which no call on blocks changes, a number for each place: the bytes before the map, and of the map the bits
+-- of all that aren't blocks.
+unfoldable pub beside : MapState → Image → ℕ → ℕ
+beside m f i = cond (nat_lt i map_place) (f i) (cond (is_block m.end (i - map_place)) 0 (map_bit m (i - map_place)))
+
+-- no call names a block by a number from here on
+abbrev pub past_names : ℕ
+past_names = 2 ^ 32
+
+-- The blocks that aren't free, with their bytes; and under numbers by which no call names a block what stands beside them, a number each.
+-- So whoever changes blocks, whatever the blocks are for, is seen to leave what stands beside them.
+unfoldable pub shown_in : MapState → Image → Blocks
+shown_in m f q = cond (nat_lt q past_names) (blocks_of m.end (free_of m) f q) (Some (beside m f (q - past_names) ∷ []))

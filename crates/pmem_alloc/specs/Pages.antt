@@ -3,12 +3,12 @@ use Rattle.std.specs.Prelude.{◌≡◌, ℕ, ◌-◌, ◌<◌, ◌≤◌, false
 use Rattle.base_outside.specs.Images.{Image, all_over}
 use Rattle.pmem_pages.specs.Blocks.{Blocks, Budget}
 use Rattle.pmem_undo.specs.Layout.{most_ranges, most_bytes, total_bytes}
-use Rattle.pmem_alloc.specs.Map.{MapState, first_block, free_of, blocks_of}
+use Rattle.pmem_alloc.specs.Map.{MapState, first_block, free_of, shown_in}
 use Rattle.pmem_alloc.specs.Blocks.{BlocksState, free_count}
 
--- the blocks that are taken, with their bytes
+-- the blocks that are taken, with their bytes, and what stands beside them
 abbrev pub shown : {R : Type 0} → (R → Image) → BlocksState R → Blocks
-shown image b = blocks_of b.map.end (free_of b.map) (all_over b.undo.staged (image b.undo.region))
+shown image b = shown_in b.map (all_over b.undo.staged (image b.undo.region))
 
 -- what is free, and what is left to stage
 abbrev pub left : {R : Type 0} → BlocksState R → Budget

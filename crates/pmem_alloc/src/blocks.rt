@@ -6,7 +6,7 @@ ghost use Rattle.pmem_undo.specs.Layout.{IsContent, SameContent, most_ranges, mo
 ghost use Rattle.pmem_undo.specs.Settled.{IsBeforeOrAfter, ComesFrom, OnlyLooks, reads, commit_calls};
 ghost use Rattle.pmem_undo.specs.Undo.{IsUndo, IsTooMuch, HasRoom};
 ghost use Rattle.pmem_alloc.specs.Sets.{set_to, without, count_below, AreLeast, IsLeast};
-ghost use Rattle.pmem_alloc.specs.Map.{MapState, blocks_end, free_blocks, free_of, map_byte, StandsIn};
+ghost use Rattle.pmem_alloc.specs.Map.{MapState, SameBeside, blocks_end, free_blocks, free_of, map_byte, StandsIn};
 ghost use Rattle.pmem_alloc.specs.Blocks.{IsBlocks, free_now, free_count, HasRooms, IsOutsideMap, StagesMap, IsOpened, IsHandedBack};
 
 use crate::MAP;
@@ -71,6 +71,7 @@ pub(crate) fn take_one<R: Region>(
     ensures least { IfOk result (λ b. IsLeast (free_of map.old) b) }
     ensures taken { IfOk result (λ b. free_of map.new ≡ set_to (free_of map.old) b false) }
     ensures end { map.new.end ≡ map.old.end }
+    ensures beside { OnOk result (SameBeside map.old map.new) }
     ensures unmarked { OnErr result (map.new ≡ map.old) }
     ensures kept { OnErr result (undo.new ≡ undo.old) }
     ensures staged { OnOk result (StagesMap 1 undo.old.staged undo.new.staged) }
@@ -202,6 +203,13 @@ impl<R: Region> Blocks<R> {
         self.undo.size()
     }
 
+    /// Whether it stopped.
+    pub fn is_stopped(&self) -> bool
+        ensures { result ≡ self.now.undo.stopped }
+    {
+        self.undo.is_stopped()
+    }
+
     /// How many blocks are free.
     pub fn free(&self) -> u32
         ensures { result ≡ free_count self.now }
@@ -223,6 +231,7 @@ impl<R: Region> Blocks<R> {
         requires taken { free_now self.old block ≡ false }
         requires room { HasRooms self.old.undo.staged 1 }
         ensures given { free_now self.new ≡ set_to (free_now self.old) block true }
+        ensures beside { SameBeside self.old.map self.new.map }
         ensures staged { StagesMap 1 self.old.undo.staged self.new.undo.staged }
         ensures rest { self.new ≡ record self.old { undo = record self.old.undo { staged = self.new.undo.staged }; map = record self.old.map { bytes = self.new.map.bytes } } }
         ensures holds { IsBlocks (R.extent self.new.undo.region) R.tells (R.image self.new.undo.region) self.new.undo.staged self.new.undo.stopped self.new.map self.new.lasting }

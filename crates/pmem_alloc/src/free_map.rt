@@ -1,7 +1,7 @@
 // The map of blocks in memory.
 ghost use Rattle.std.specs.Prelude.{◌≡◌, ℕ, ◌+◌, ◌/◌, ◌<◌, ◌≤◌, ◌↔◌, true, false, slice_set, length, IsTrue};
 ghost use Rattle.pmem_alloc.specs.Sets.{set_to, count_below, IsLeast};
-ghost use Rattle.pmem_alloc.specs.Map.{free_in, free_of};
+ghost use Rattle.pmem_alloc.specs.Map.{free_in, free_of, SameBeside};
 ghost use Rattle.pmem_alloc.specs.Pages.{IsTakenBlock};
 
 use crate::FIRST_BLOCK;
@@ -124,6 +124,7 @@ impl FreeMap {
         ensures long { length self.old.bytes ≡ 16384 }
         ensures bytes { self.new ≡ record self.old { bytes = slice_set self.old.bytes (block / 8) result } }
         ensures free { free_of self.new ≡ set_to (free_of self.old) block false }
+        ensures beside { SameBeside self.old self.new }
     {
         let at = (block / 8) as usize;
         let byte = with_bit(self.bytes[at], block % 8);
@@ -141,6 +142,7 @@ impl FreeMap {
         ensures long { length self.old.bytes ≡ 16384 }
         ensures bytes { self.new ≡ record self.old { bytes = slice_set self.old.bytes (block / 8) result } }
         ensures free { free_of self.new ≡ set_to (free_of self.old) block true }
+        ensures beside { SameBeside self.old self.new }
     {
         let at = (block / 8) as usize;
         let byte = without_bit(self.bytes[at], block % 8);

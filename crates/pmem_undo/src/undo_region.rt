@@ -92,6 +92,13 @@ impl<R: Region> UndoRegion<R> {
         &self.region
     }
 
+    /// Whether it stopped.
+    pub fn is_stopped(&self) -> bool
+        ensures { result ≡ self.now.stopped }
+    {
+        self.stopped
+    }
+
     /// How many bytes the region has. Each is a number below 256.
     pub fn size(&self) -> u64
         ensures size { result ≡ R.extent self.now.region }

@@ -88,15 +88,15 @@ there r f g w low = known_bytes_at g r.place r.bytes (λ k below.
     let e : (r.place + k) - r.place ≡ k = omega arith in
     w (r.place + k) (omega arith) ∙ (over_inside r f (r.place + k) (grind (arith, nat_tests)) ∙ ap (λ (n : ℕ). get_or r.bytes n 0) e))
 
-length_cont : (r : ContRow) → length (cont_bytes r) ≡ 64
+pub length_cont : (r : ContRow) → length (cont_bytes r) ≡ 64
 unfolding cont_bytes
 length_cont r = refl
 
-length_snap : (s : Snap) → length (snap_bytes s) ≡ 32
+pub length_snap : (s : Snap) → length (snap_bytes s) ≡ 32
 unfolding snap_bytes
 length_snap s = refl
 
-length_counters : (n : Counters) → length (counter_bytes n) ≡ 24
+pub length_counters : (n : Counters) → length (counter_bytes n) ≡ 24
 unfolding counter_bytes
 length_counters n = refl
 

@@ -14,6 +14,8 @@ impl Tables {
     pub fn plan_lease(&self, ticks: u64) -> Counters
         requires { ticks < 2 ^ 56 }
         ensures next { AreNext self.now result }
+        ensures objects { result.objects ≡ self.now.header.objects }
+        ensures entries { result.entries ≡ self.now.header.entries }
         ensures leased { self.now.header.lease ≤ ticks → Makes (leased ticks) self.now (counted result self.now) }
     {
         let mut counters = self.counters;

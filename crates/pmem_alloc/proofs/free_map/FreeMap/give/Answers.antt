@@ -1,7 +1,8 @@
-use Rattle.std.proofs.Common.{arith, ap, sym, subst, ◌≡◌, ◌∙◌, ◌<◌, false, true}
+use Rattle.std.proofs.Common.{arith, ap, sym, subst, ◌≡◌, ◌/◌, ◌∙◌, ◌<◌, false, true}
+use Rattle.std.specs.Prelude.{slice_set}
 use Rattle.pmem_alloc.specs.Sets.{set_to}
-use Rattle.pmem_alloc.specs.Map.{MapState, free_of}
-use Rattle.pmem_alloc.proofs.Marking.{counted_fits, given_holds, marked}
+use Rattle.pmem_alloc.specs.Map.{MapState, SameBeside, free_of}
+use Rattle.pmem_alloc.proofs.Marking.{beside_stays, counted_fits, given_holds, marked}
 use Rattle.pmem_alloc.proofs.free_map.FreeMap.give.Goals as goal
 
 pub overflow_add-self : goal.overflow_add-self
@@ -18,3 +19,9 @@ returns-clause-free c =
     let high = subst (λ (m : MapState). c.args.block < m.end) (sym c.self.view_is) c.requires.high in
     marked c.self.inside.end c.self.inside.bytes c.args.block c.without_bit-byte.result 0 c.self.told c.self.invariant.small c.requires.low high c.without_bit-byte.ensures.same c.without_bit-byte.ensures.others
     ∙ ap (λ (m : MapState). set_to (free_of m) c.args.block true) c.self.view_is
+
+pub returns-clause-beside : goal.returns-clause-beside
+returns-clause-beside c =
+    let high = subst (λ (m : MapState). c.args.block < m.end) (sym c.self.view_is) c.requires.high in
+    subst (λ (m : MapState). SameBeside m (record { bytes = slice_set c.self.inside.bytes (c.args.block / 8) c.without_bit-byte.result; end = c.self.inside.end })) c.self.view_is
+    (beside_stays c.self.inside.end c.self.inside.bytes c.args.block c.without_bit-byte.result c.self.told c.self.invariant.small c.requires.low high c.without_bit-byte.ensures.others)
