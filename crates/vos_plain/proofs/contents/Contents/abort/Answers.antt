@@ -56,4 +56,4 @@ invariant_of-self-clause-planned c =
     omega (arith, c.args.self.now.planned, few)
 
 pub invariant_of-self-clause-indexed : goal.invariant_of-self-clause-indexed
-invariant_of-self-clause-indexed c = index-unpended c.args.attempt c.args.self.now.index.covered c.args.self.now.index.firsts.items c.args.self.now.rows.items c.remove_pending.new.self.items c.args.self.now.indexed c.remove_pending.ensures
+invariant_of-self-clause-indexed c = index-unpended c.args.attempt c.args.self.now.index c.args.self.now.rows.items c.remove_pending.new.self.items c.args.self.now.indexed c.remove_pending.ensures
