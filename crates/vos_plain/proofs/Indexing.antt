@@ -1,5 +1,5 @@
 -- What the index of the first versions says once versions are settled.
-use Rattle.std.proofs.Common.{◌≡◌, ℕ, ◌≤◌, List, length, map, take, sym, ◌∙◌, ap, subst, arith}
+use Rattle.std.proofs.Common.{◌≡◌, ◌≤◌, List, length, map, take, sym, ◌∙◌, ap, subst, arith}
 use Rattle.std.specs.Prelude.{filter}
 use Rattle.daos_model.specs.FormLaws.{length-map}
 use Rattle.base_types.specs.declared.id.AttemptId.{AttemptId}

@@ -1,5 +1,5 @@
 -- Entries in a table for each client.
-use Rattle.std.specs.Prelude.{ℕ, ◌≡◌, ◌+◌, Bool, true, false, ◌&&◌, ◌==◌, List, [], ◌∷◌, ◌++◌, map}
+use Rattle.std.specs.Prelude.{ℕ, ◌+◌, Bool, true, false, ◌&&◌, ◌==◌, List, [], ◌∷◌, ◌++◌}
 use Rattle.std.specs.List.{list_all, slice_index_or}
 use Rattle.base_types.specs.declared.entry.Entry.{Entry}
 use Rattle.dtx_entries.specs.Tables as table

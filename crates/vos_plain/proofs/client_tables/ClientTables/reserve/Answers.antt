@@ -1,4 +1,4 @@
-use Rattle.std.proofs.Common.{◌≡◌, ◌∙◌, ◌+◌, ◌<◌, List, ap, arith, sym, get_or, length, rules}
+use Rattle.std.proofs.Common.{◌≡◌, ◌∙◌, ◌<◌, List, ap, arith, get_or, length, rules}
 use Rattle.dtx_entries.specs.Tables as table
 use Rattle.vos_plain.proofs.Clients.{by_client-same, entries-same, room-told}
 use Rattle.vos_plain.proofs.client_tables.ClientTables.reserve.Goals as goal
