@@ -1,3 +1,4 @@
+pub mod Clients
 pub mod Kept
 pub mod Prepared
 pub mod Turning

@@ -1,3 +1,4 @@
+pub mod Clients
 pub mod Costs
 pub mod Contents
 pub mod Steps

@@ -180,7 +180,7 @@ impl Contents {
     pub fn entries(&self) -> Result<Entries, Memory>
         ensures { IfOk result (λ entries. entries ≡ (contents_of self.now).entries) }
     {
-        Ok(Items::from_vec(copied(self.alloc, self.entries.rows())?))
+        Ok(Items::from_vec(self.entries.copied(self.alloc)?))
     }
 
     /// The objects of a container that have a version.

@@ -1,4 +1,5 @@
 // The changes of what a store over lists keeps.
+use crate::client_tables::ClientTables;
 use crate::contents::Contents;
 use crate::keyed::put_in;
 use crate::rows::{blocks_more, blocks_taken, versions_in_form};
@@ -12,7 +13,6 @@ use base_types::operation::MinorWrite;
 use base_types::outcome::FloorWhy;
 use base_types::snapshot::Snap;
 use daos_model::prunes::Plan;
-use dtx_entries::table::EntryTable;
 use std::alloc::Global;
 use vos_aggregate::planner::Planner;
 use vos_rows::table::VersionTable;
@@ -32,6 +32,7 @@ impl Contents {
     ghost use Rattle.vos_store.specs.Calls.{going_count};
     ghost use Rattle.vos_store.specs.Conditions.{IsStep};
     ghost use Rattle.vos_store.specs.Refusals.{enlist_open, enlist_stop, says};
+    ghost use Rattle.vos_plain.specs.Clients.{has_room_for};
     ghost use Rattle.vos_plain.specs.Contents.{contents_of, free_of};
     ghost use Rattle.vos_plain.specs.Costs.{versions_blocks};
     ghost use Rattle.vos_plain.specs.Steps.{with_entry};
@@ -46,7 +47,7 @@ impl Contents {
             rows: VersionTable::new(alloc),
             planner: Planner::new(alloc),
             index: ReadIndex::new(alloc)?,
-            entries: EntryTable::new(alloc),
+            entries: ClientTables::new(alloc),
             conts: Vec::new(alloc),
             snaps: Vec::with_capacity(alloc, 256)?,
             lease: 0,
@@ -93,14 +94,13 @@ impl Contents {
         ensures form { OnOk result (list_all is_version_in_form self.new.rows.coming ≡ true) }
         ensures blocks { OnOk result (versions_blocks self.new.rows.coming + 2 ≡ blocks writes.now) }
         ensures planner { OnOk result (length self.new.rows.items + length self.new.rows.coming ≤ self.new.planner.room) }
-        ensures entries { OnOk result (self.new.entries.room ≡ true) }
+        ensures entries { OnOk result (has_room_for entry.now.attempt.client self.new.entries ≡ true) }
         ensures lease { self.new.lease ≡ self.old.lease }
     {
         let rows = versions_in_form(self.alloc, entry, writes)?;
         self.planner.reserve(self.rows.rows().len() + rows.len())?;
         self.rows.expect(rows)?;
-        self.entries.reserve()?;
-        Ok(())
+        self.entries.reserve(self.alloc, entry.attempt.client)
     }
 
     /// Adds an entry and its versions, which are those to come.
@@ -108,7 +108,7 @@ impl Contents {
         requires absent { entry_of (contents_of self.old) entry.attempt ≡ None }
         requires form { list_all is_version_in_form self.old.rows.coming ≡ true }
         requires planner { length self.old.rows.items + length self.old.rows.coming ≤ self.old.planner.room }
-        requires entries { self.old.entries.room ≡ true }
+        requires entries { has_room_for entry.attempt.client self.old.entries ≡ true }
         requires free { versions_blocks self.old.rows.coming + 2 ≤ free_of self.old }
         ensures kept { contents_of self.new ≡ with_entry self.old.rows.coming entry (contents_of self.old) }
         ensures free { free_of self.new + versions_blocks self.old.rows.coming + 2 ≡ free_of self.old }
@@ -138,7 +138,7 @@ impl Contents {
     {
         self.rows.remove_pending(attempt);
         self.entries.settle(attempt, Settle::Abort);
-        self.taken = blocks_taken(self.rows.rows(), self.entries.rows(), self.capacity);
+        self.taken = blocks_taken(self.rows.rows(), &self.entries, self.capacity);
     }
 
     // Adds a confirmed member.
@@ -158,7 +158,7 @@ impl Contents {
         ensures lease { self.new.lease ≡ self.old.lease }
     {
         self.entries.settle(attempt, Settle::Forget);
-        self.taken = blocks_taken(self.rows.rows(), self.entries.rows(), self.capacity);
+        self.taken = blocks_taken(self.rows.rows(), &self.entries, self.capacity);
     }
 
     /// A step of an attempt.
@@ -241,7 +241,7 @@ impl Contents {
         self.planner.mark_going(&plan);
         self.index.forget();
         self.rows.sweep(self.planner.marks());
-        self.taken = blocks_taken(self.rows.rows(), self.entries.rows(), self.capacity);
+        self.taken = blocks_taken(self.rows.rows(), &self.entries, self.capacity);
     }
 
     /// Removes the versions of a container in a range.
@@ -252,7 +252,7 @@ impl Contents {
     {
         self.index.forget();
         self.rows.remove_range(cont, lo, hi);
-        self.taken = blocks_taken(self.rows.rows(), self.entries.rows(), self.capacity);
+        self.taken = blocks_taken(self.rows.rows(), &self.entries, self.capacity);
     }
 
     /// Opens them again.

@@ -4,9 +4,9 @@ ghost use Rattle.daos_model.specs.Durables.{IsInForm};
 ghost use Rattle.vos_plain.specs.Costs.{taken_blocks};
 ghost use Rattle.vos_scan.specs.Indexed.{IsIndexOf};
 
+use crate::client_tables::ClientTables;
 use base_types::snapshot::Snap;
 use daos_model::durable::ContRow;
-use dtx_entries::table::EntryTable;
 use std::alloc::Global;
 use vos_aggregate::planner::Planner;
 use vos_rows::table::VersionTable;
@@ -21,7 +21,7 @@ pub struct Contents {
     pub rows: VersionTable,
     pub planner: Planner,
     pub index: ReadIndex,
-    pub entries: EntryTable,
+    pub entries: ClientTables,
     pub conts: Vec<ContRow>,
     pub snaps: Vec<Snap>,
     pub lease: u64,

@@ -3,6 +3,7 @@
 
 mod answers;
 mod changes;
+mod client_tables;
 mod contents;
 pub mod keyed;
 mod objects;

@@ -9,6 +9,7 @@ ghost use Rattle.daos_model.specs.Versions.{done_by, first_blocking, version_of,
 ghost use Rattle.vos_store.specs.Answers.{is_open_in};
 ghost use Rattle.vos_plain.specs.Costs.{taken_blocks, version_blocks, versions_blocks};
 
+use crate::client_tables::ClientTables;
 use base_types::entry::Entry;
 use base_types::epoch::Epoch;
 use base_types::id::{AttemptId, ContId};
@@ -112,21 +113,13 @@ fn blocks_of(rows: &[Version], limit: u32) -> u32
     sum
 }
 
-// The blocks that entries take.
-fn entries_blocks(entries: &[Entry], limit: u32) -> u32
-    requires { 2 * length entries.now ≤ limit }
-    ensures { result ≡ 2 * length entries.now }
-{
-    2 * entries.len() as u32
-}
-
 /// The blocks that versions and entries take.
-pub fn blocks_taken(rows: &[Version], entries: &[Entry], limit: u32) -> u32
+pub fn blocks_taken(rows: &[Version], entries: &ClientTables, limit: u32) -> u32
     requires form { list_all is_version_in_form rows.now ≡ true }
-    requires few { taken_blocks rows.now entries.now ≤ limit }
-    ensures { result ≡ taken_blocks rows.now entries.now }
+    requires few { taken_blocks rows.now entries.now.items ≤ limit }
+    ensures { result ≡ taken_blocks rows.now entries.now.items }
 {
-    blocks_of(rows, limit) + entries_blocks(entries, limit)
+    blocks_of(rows, limit) + 2 * entries.count(limit)
 }
 
 /// The blocks that an entry and its versions take.

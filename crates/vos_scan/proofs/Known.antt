@@ -1,5 +1,5 @@
 -- What rows of an index make of names.
-use Rattle.std.proofs.Common.{◌≡◌, ℕ, zero, suc, ◌+◌, ◌<◌, ◌≤◌, Bool, true, false, ◌&&◌, ◌||◌, List, [], ◌∷◌, ◌++◌, Option, Some, None, length, get_or, take, drop, refl, sym, ◌∙◌, ap, subst, arith, append_assoc}
+use Rattle.std.proofs.Common.{◌≡◌, ℕ, zero, suc, ◌+◌, ◌<◌, ◌≤◌, Bool, true, false, ◌&&◌, ◌||◌, List, [], ◌∷◌, ◌++◌, Option, Some, None, length, get_or, map, take, drop, refl, sym, ◌∙◌, ap, subst, arith, append_assoc}
 use Rattle.std.specs.Prelude.{◌==◌, nat_le, nat_lt, is_none, if◌then◌else◌}
 use Rattle.std.specs.List.{list_all, list_any}
 use Rattle.std.specs.Option.{option_eq}
@@ -19,7 +19,9 @@ use Rattle.daos_model.specs.BoolLaws.{and_left, and_right, both, clash}
 use Rattle.daos_model.specs.OrderLaws.{before-itself, before-trans}
 use Rattle.daos_model.specs.Prunes.{is_punch}
 use Rattle.daos_model.specs.Versions.{sees}
-use Rattle.vos_scan.specs.Indexed.{AreNamed, IsIndex, both_same, is_below, is_done, picked, stands_for, update_same, updated}
+use Rattle.vos_scan.specs.declared.index.ReadIndex.{ReadIndex}
+use Rattle.vos_scan.specs.Chains.{AreChained, version_place}
+use Rattle.vos_scan.specs.Indexed.{AreNamed, IsIndex, IsIndexOf, both_same, is_below, is_done, picked, stands_for, update_same, updated}
 use Rattle.vos_scan.specs.Names.{dkey_by, dkey_in, is_seen_punch, names_from}
 
 -- ---- a name that is there
@@ -303,17 +305,23 @@ pub index-none : (vs : List Version) → IsIndex 0 [] vs
 index-none vs = record { within = omega arith; done = refl; below = refl; named = record { names = λ p e d a. refl; punches = λ e. refl } }
 
 -- rows of which the first stayed as they were
-pub index-same : (c : ℕ) (firsts : List ℕ) (vs us : List Version) → IsIndex c firsts vs → take c vs ≡ take c us → c ≤ length us → IsIndex c firsts us
-index-same c firsts vs us h same within = record {
+rows-same : (c : ℕ) (firsts : List ℕ) (vs us : List Version) → IsIndex c firsts vs → take c vs ≡ take c us → c ≤ length us → IsIndex c firsts us
+rows-same c firsts vs us h same within = record {
   within = within;
   done = ap (list_all is_done) (sym same) ∙ h.done;
   below = h.below;
   named = subst (λ xs. AreNamed xs (picked firsts xs)) same h.named;
 }
 
-pub index-kept : (c n : ℕ) (firsts : List ℕ) (vs us : List Version) → IsIndex c firsts vs → take n vs ≡ take n us → n ≤ length us → c ≤ n → IsIndex c firsts us
-index-kept c n firsts vs us h same within le =
-    index-same c firsts vs us h (sym (take-take c n vs le) ∙ ap (λ xs. take c xs) same ∙ take-take c n us le) (omega arith)
+pub index-same : (i : ReadIndex) (vs us : List Version) → IsIndexOf i vs → take i.covered vs ≡ take i.covered us → i.covered ≤ length us → IsIndexOf i us
+index-same i vs us h same within = record {
+  rows = rows-same i.covered i.firsts.items vs us h.rows same within;
+  chained = subst (λ xs. AreChained (map version_place xs) i.chains.lasts.items i.chains.links.items) same h.chained;
+}
+
+pub index-kept : (i : ReadIndex) (n : ℕ) (vs us : List Version) → IsIndexOf i vs → take n vs ≡ take n us → n ≤ length us → i.covered ≤ n → IsIndexOf i us
+index-kept i n vs us h same within le =
+    index-same i vs us h (sym (take-take i.covered n vs le) ∙ ap (λ xs. take i.covered xs) same ∙ take-take i.covered n us le) (omega arith)
 
 -- ---- what an index says of all rows
 

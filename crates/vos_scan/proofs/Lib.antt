@@ -1,3 +1,4 @@
+pub mod Chained
 pub mod Newest
 pub mod Stretches
 pub mod Marking

@@ -1,5 +1,5 @@
 -- An index of the first versions of a row.
-use Rattle.std.specs.Prelude.{ℕ, ◌≡◌, ◌≤◌, ◌&&◌, ◌==◌, nat_le, nat_lt, Bool, true, false, length, take, drop, List, [], ◌∷◌, ◌++◌, Option, Some, None}
+use Rattle.std.specs.Prelude.{ℕ, ◌≡◌, ◌≤◌, ◌&&◌, ◌==◌, nat_le, nat_lt, Bool, true, false, length, map, take, drop, List, [], ◌∷◌, ◌++◌, Option, Some, None}
 use Rattle.std.specs.List.{list_all, list_any}
 use Rattle.std.specs.Option.{option_eq}
 use Rattle.base_types.specs.declared.operation.Write.{Write}
@@ -9,6 +9,7 @@ use Rattle.base_types.specs.Keys.{same_key}
 use Rattle.base_types.specs.Paths.{same_object}
 use Rattle.daos_model.specs.declared.durable.Version.{Version}
 use Rattle.vos_scan.specs.declared.index.ReadIndex.{ReadIndex}
+use Rattle.vos_scan.specs.Chains.{AreChained, version_place}
 use Rattle.vos_scan.specs.Names.{is_seen_punch, names_from}
 
 -- the path of an update
@@ -59,5 +60,7 @@ pub record IsIndex (covered : ℕ) (firsts : List ℕ) (vs : List Version) : Typ
   pub below : list_all (is_below covered) firsts ≡ true
   pub named : AreNamed (take covered vs) (picked firsts (take covered vs))
 
-abbrev pub IsIndexOf : ReadIndex → List Version → Type 0
-IsIndexOf i vs = IsIndex i.covered i.firsts.items vs
+-- and chains lead through these rows
+pub record IsIndexOf (i : ReadIndex) (vs : List Version) : Type 0 where
+  pub rows : IsIndex i.covered i.firsts.items vs
+  pub chained : AreChained (map version_place (take i.covered vs)) i.chains.lasts.items i.chains.links.items

@@ -1,3 +1,4 @@
+pub mod Chains
 pub mod Indexed
 pub mod Layers
 pub mod Marks

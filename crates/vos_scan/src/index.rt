@@ -6,7 +6,8 @@ ghost use Rattle.daos_model.specs.declared.durable.Version.{Version};
 ghost use Rattle.daos_model.specs.Prunes.{is_punch};
 ghost use Rattle.vos_scan.specs.Indexed.{IsIndexOf, same_dkey, stands_for, update_same, updated};
 
-use crate::places::dkey_place;
+use crate::chains::Chains;
+use crate::places::{dkey_place, place_of};
 use base_types::items::Memory;
 use base_types::operation::Write;
 use base_types::path::{Path, same_keys, same_objects};
@@ -14,13 +15,14 @@ use daos_model::durable::Version;
 use std::alloc::Global;
 
 /// An index of the first rows, so many, which are done: the places of those that make a dkey which none before them
-/// makes, and of punches. So a read of dkeys doesn't go through all rows. Hints say where a row of a dkey may stand;
-/// nothing rests on them.
+/// makes, and of punches, and chains of those of one akey's number. So reads don't go through all rows. Hints say where a
+/// row of a dkey may stand; nothing rests on them.
 #[derive(Drop)]
 pub struct ReadIndex {
     pub covered: usize,
     pub firsts: Vec<usize>,
     pub hints: Vec<usize>,
+    pub chains: Chains,
 }
 
 // The path of an update.
@@ -111,6 +113,7 @@ impl ReadIndex {
             covered: 0,
             firsts: Vec::new(alloc),
             hints,
+            chains: Chains::new(alloc)?,
         })
     }
 
@@ -120,6 +123,7 @@ impl ReadIndex {
     {
         self.covered = 0;
         self.firsts.clear();
+        self.chains.forget();
     }
 
     /// Forgets all rows, unless those that it has are among the first, so many, that stayed as they were.
@@ -143,9 +147,11 @@ impl ReadIndex {
         if !row.done {
             return Ok(false);
         }
+        self.chains.reserve()?;
         let place = dkey_place(row.write.path());
         let known = is_known(rows, at, hint_at(&self.hints, place), row);
         add_first(&mut self.firsts, at, known)?;
+        self.chains.add(place_of(&row.write));
         self.covered = at + 1;
         set_hint(&mut self.hints, place, at);
         Ok(true)

@@ -1,10 +1,14 @@
 // What a stretch of an array holds: the versions that say it, newest first.
-ghost use Rattle.std.specs.Prelude.{◌≡◌, ◌+◌, ◌*◌, ◌≤◌, true, find, filter, length, reverse, IfOk, IfSome, take, drop};
+ghost use Rattle.std.specs.Prelude.{◌≡◌, ◌+◌, ◌*◌, ◌∷◌, ◌++◌, ◌≤◌, [], true, find, filter, length, map, reverse, IfOk, IfSome, OnOk, take, drop};
 ghost use Rattle.std.specs.Option.{option_copied};
 ghost use Rattle.daos_model.specs.Answers.{pieces};
 ghost use Rattle.daos_model.specs.Versions.{map_below};
+ghost use Rattle.vos_scan.specs.Chains.{AreChained, version_place};
+ghost use Rattle.vos_scan.specs.Indexed.{IsIndexOf};
 ghost use Rattle.vos_scan.specs.Layers.{covers, covers_at, is_about, is_layer, lent, meets, record_by};
 
+use crate::chains::Chains;
+use crate::index::ReadIndex;
 use crate::paths::{leads_to, same};
 use crate::pieces::add_index;
 use base_types::answer::Piece;
@@ -45,24 +49,88 @@ fn is_layer(row: &Version, path: &Path, low: u32, len: u32, below: Epoch) -> boo
     is_seen(row, u128::from(below.0)) && is_about(&row.write, path, low, len)
 }
 
-// The versions below an epoch that say it, newest first.
-fn layers<'a>(
-    alloc: Global,
+// Adds the versions below an epoch that say it, newest first.
+fn add_layers<'a>(
+    layers: &mut Vec<&'a Version>,
     rows: &'a [Version],
     path: &Path,
     low: u32,
     len: u32,
     below: Epoch,
-) -> Result<Vec<&'a Version>, Memory>
-    ensures { IfOk result (λ layers. lent layers.items ≡ filter (is_layer path.now low len below.0) (reverse rows.now)) }
+) -> Result<(), Memory>
+    ensures { OnOk result (lent layers.new.items ≡ lent layers.old.items ++ filter (is_layer path.now low len below.0) (reverse rows.now)) }
 {
-    let mut layers = Vec::new(alloc);
     let mut i = rows.len();
     while i > 0 {
         i -= 1;
         let row = &rows[i];
         if is_layer(row, path, low, len, below) {
             layers.push(row)?;
+        }
+    }
+    Ok(())
+}
+
+// Adds a version, if it says it.
+fn add_layer<'a>(
+    layers: &mut Vec<&'a Version>,
+    row: &'a Version,
+    path: &Path,
+    low: u32,
+    len: u32,
+    below: Epoch,
+) -> Result<(), Memory>
+    ensures { OnOk result (lent layers.new.items ≡ lent layers.old.items ++ filter (is_layer path.now low len below.0) (row.now ∷ [])) }
+{
+    if is_layer(row, path, low, len, below) {
+        layers.push(row)?;
+    }
+    Ok(())
+}
+
+// Adds those of rows in chains.
+fn add_chained<'a>(
+    layers: &mut Vec<&'a Version>,
+    rows: &'a [Version],
+    chains: &Chains,
+    path: &Path,
+    low: u32,
+    len: u32,
+    below: Epoch,
+) -> Result<(), Memory>
+    requires { AreChained (map version_place rows.now) chains.now.lasts.items chains.now.links.items }
+    ensures { OnOk result (lent layers.new.items ≡ lent layers.old.items ++ filter (is_layer path.now low len below.0) (reverse rows.now)) }
+{
+    let mut walk = chains.walk(path);
+    let mut left = walk.left();
+    while left > 0 {
+        add_layer(layers, &rows[left - 1], path, low, len, below)?;
+        walk = chains.back(walk);
+        left = walk.left();
+    }
+    Ok(())
+}
+
+// The versions below an epoch that say it, newest first, by an index of them if there is one.
+fn layers<'a>(
+    alloc: Global,
+    rows: &'a [Version],
+    index: Option<&ReadIndex>,
+    path: &Path,
+    low: u32,
+    len: u32,
+    below: Epoch,
+) -> Result<Vec<&'a Version>, Memory>
+    requires { IfSome (option_copied index) (λ index. IsIndexOf index rows.now) }
+    ensures { IfOk result (λ layers. lent layers.items ≡ filter (is_layer path.now low len below.0) (reverse rows.now)) }
+{
+    let mut layers = Vec::new(alloc);
+    match index {
+        None => add_layers(&mut layers, rows, path, low, len, below)?,
+        Some(index) => {
+            let (old, late) = rows.split_at(index.covered);
+            add_layers(&mut layers, late, path, low, len, below)?;
+            add_chained(&mut layers, old, &index.chains, path, low, len, below)?;
         }
     }
     Ok(layers)
@@ -117,18 +185,20 @@ fn record_by<'a>(layer: Option<&'a Version>, index: u64) -> Option<&'a [u8]>
     }
 }
 
-/// The pieces of so many indexes of an array, from one on, on the versions below an epoch.
+/// The pieces of so many indexes of an array, from one on, on the versions below an epoch, by an index of them if there is one.
 pub fn pieces_below(
     alloc: Global,
     rows: &[Version],
+    index: Option<&ReadIndex>,
     path: &Path,
     low: u32,
     len: u32,
     below: Epoch,
 ) -> Result<Vec<Piece>, Memory>
+    requires { IfSome (option_copied index) (λ index. IsIndexOf index rows.now) }
     ensures { IfOk result (λ made. made.items ≡ pieces path.now low len (map_below rows.now below.0)) }
 {
-    let layers = layers(alloc, rows, path, low, len, below)?;
+    let layers = layers(alloc, rows, index, path, low, len, below)?;
     let mut pieces = Vec::new(alloc);
     for k in 0..len {
         let index = u64::from(low) + u64::from(k);

@@ -1,6 +1,7 @@
 // What reads are answered on versions in a row.
 #![tactic(auto)]
 
+pub mod chains;
 pub mod index;
 mod layers;
 mod marks;
@@ -9,3 +10,4 @@ mod paths;
 mod pieces;
 mod places;
 pub mod reads;
+mod singles;

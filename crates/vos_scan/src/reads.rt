@@ -1,22 +1,20 @@
 // What reads are answered on versions in a row.
-ghost use Rattle.std.specs.Prelude.{◌≡◌, true, false, find, reverse, IfOk};
+ghost use Rattle.std.specs.Prelude.{◌≡◌, true, IfOk};
 ghost use Rattle.std.specs.List.{list_all};
 ghost use Rattle.std.specs.Option.{option_copied};
 ghost use Rattle.base_types.specs.declared.operation.Read.TheVariants.{Dkeys};
 ghost use Rattle.daos_model.specs.Answers.{answer, value_answer};
-ghost use Rattle.daos_model.specs.Cells.{single_cell};
 ghost use Rattle.daos_model.specs.Durables.{is_version_in_form};
-ghost use Rattle.daos_model.specs.Prunes.{touches};
 ghost use Rattle.daos_model.specs.Versions.{map_below};
 ghost use Rattle.vos_scan.specs.Indexed.{IsIndexOf};
 ghost use Rattle.vos_scan.specs.Marks.{asks_names};
-ghost use Rattle.vos_scan.specs.Newest.{says_at, single_of};
+ghost use Rattle.vos_scan.specs.Newest.{single_of};
 
 use crate::index::ReadIndex;
 use crate::layers::pieces_below;
 use crate::marks::marks_below;
 use crate::names::{dkeys_by, dkeys_indexed};
-use crate::paths::{leads_to, same};
+use crate::singles::{newest, newest_indexed};
 use base_types::answer::Answer;
 use base_types::epoch::Epoch;
 use base_types::items::{Items, Memory};
@@ -24,34 +22,7 @@ use base_types::operation::{Read, Write};
 use base_types::path::Path;
 use daos_model::answers::answer_of;
 use daos_model::durable::Version;
-use daos_model::prunes::is_seen;
 use std::alloc::Global;
-
-// Whether a write says what the single value at a path holds.
-#[tactic(auto, unfolding(daos_model::specs::Prunes::touches))]
-fn touches(write: &Write, path: &Path) -> bool
-    ensures { result ≡ touches (single_cell path.now) write.now }
-{
-    match write {
-        Write::Single(at, _) => same(at, path),
-        Write::Extent(_, _, _) => false,
-        Write::PunchObject(at) | Write::PunchDkey(at) | Write::PunchAkey(at) => leads_to(at, path),
-    }
-}
-
-// Whether a version below an epoch does.
-fn says(row: &Version, path: &Path, below: Epoch) -> bool
-    ensures { result ≡ says_at (single_cell path.now) below.0 row.now }
-{
-    is_seen(row, u128::from(below.0)) && touches(&row.write, path)
-}
-
-// The last version that does.
-fn newest<'a>(rows: &'a [Version], path: &Path, below: Epoch) -> Option<&'a Version>
-    ensures { option_copied result ≡ find (says_at (single_cell path.now) below.0) (reverse rows.now) }
-{
-    rows.iter().rev().find(|row| says(row, path, below))
-}
 
 // The answer that the last version makes.
 fn single_answer(newest: Option<&Version>) -> Result<Answer, Memory>
@@ -114,7 +85,7 @@ pub fn answer_below(
     match read {
         Read::Single(path) => single_answer(newest(rows, path, below)),
         Read::Extent(path, low, len) => {
-            let pieces = pieces_below(alloc, rows, path, *low, *len, below)?;
+            let pieces = pieces_below(alloc, rows, None, path, *low, *len, below)?;
             Ok(Answer::Parts(Items::from_vec(pieces)))
         }
         Read::Dkeys(path) => answer_dkeys(alloc, rows, read, path, below),
@@ -158,7 +129,12 @@ pub fn answer_indexed(
     ensures { IfOk result (λ a. a ≡ answer read.now (map_below rows.now below.0)) }
 {
     match read {
+        Read::Single(path) => single_answer(newest_indexed(rows, index, path, below)),
+        Read::Extent(path, low, len) => {
+            let pieces = pieces_below(alloc, rows, Some(index), path, *low, *len, below)?;
+            Ok(Answer::Parts(Items::from_vec(pieces)))
+        }
         Read::Dkeys(path) => answer_dkeys_indexed(alloc, rows, index, read, path, below),
-        _ => answer_below(alloc, rows, read, below),
+        Read::Akeys(_) | Read::Exists(_) => answer_by_marks(alloc, rows, read, below),
     }
 }

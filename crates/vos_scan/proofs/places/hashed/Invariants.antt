@@ -1,5 +1,9 @@
-use Rattle.std.proofs.Common.{◌<◌}
+use Rattle.std.proofs.Common.{◌≡◌, ◌<◌, drop}
+use Rattle.vos_scan.specs.Chains.{hashed}
 use Rattle.vos_scan.proofs.places.hashed.Given as goal
 
 abbrev pub invariant-loop-byte : goal.invariant-loop-byte
-invariant-loop-byte l = l.number < 1024
+invariant-loop-byte l = record {
+  is : hashed l.made (drop l.byte-index l.bytes) ≡ hashed l.number l.bytes;
+  within : l.made < 1024;
+}

@@ -41,14 +41,12 @@ blocks_taken-self-requires-clause-few c =
     let few : versions_blocks c.remove_pending.new.self.items ≤ versions_blocks c.args.self.now.rows.items = fewer c.args.self.now.rows.items c.remove_pending.new.self.items (is_not_pending c.args.attempt) c.remove_pending.ensures in
     let few_entries : length c.settle.new.self.items ≤ length c.args.self.now.entries.items = fewer_entries c.args.self.now.entries.items c.settle.new.self.items (is_other c.args.attempt) (entries-aborted c.args.attempt c.args.self.now.entries.items c.settle.new.self.items c.settle.ensures) in
     let rows : versions_blocks c.rows.result.now ≡ versions_blocks c.remove_pending.new.self.items = ap versions_blocks c.rows.ensures in
-    let entries : length c.rows-2.result.now ≡ length c.settle.new.self.items = ap (λ x. length x) c.rows-2.ensures in
-    omega (arith, c.args.self.now.room, few, few_entries, rows, entries)
+    omega (arith, c.args.self.now.room, few, few_entries, rows)
 
 pub invariant_of-self-clause-counted : goal.invariant_of-self-clause-counted
 invariant_of-self-clause-counted c =
     let rows : versions_blocks c.rows.result.now ≡ versions_blocks c.remove_pending.new.self.items = ap versions_blocks c.rows.ensures in
-    let entries : length c.rows-2.result.now ≡ length c.settle.new.self.items = ap (λ x. length x) c.rows-2.ensures in
-    omega (arith, c.blocks_taken-self.ensures, rows, entries)
+    omega (arith, c.blocks_taken-self.ensures, rows)
 
 pub invariant_of-self-clause-planned : goal.invariant_of-self-clause-planned
 invariant_of-self-clause-planned c =
@@ -56,4 +54,4 @@ invariant_of-self-clause-planned c =
     omega (arith, c.args.self.now.planned, few)
 
 pub invariant_of-self-clause-indexed : goal.invariant_of-self-clause-indexed
-invariant_of-self-clause-indexed c = index-unpended c.args.attempt c.args.self.now.index.covered c.args.self.now.index.firsts.items c.args.self.now.rows.items c.remove_pending.new.self.items c.args.self.now.indexed c.remove_pending.ensures
+invariant_of-self-clause-indexed c = index-unpended c.args.attempt c.args.self.now.index c.args.self.now.rows.items c.remove_pending.new.self.items c.args.self.now.indexed c.remove_pending.ensures

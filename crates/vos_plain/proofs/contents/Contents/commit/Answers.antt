@@ -25,4 +25,4 @@ pub invariant_of-self-clause-counted : goal.invariant_of-self-clause-counted
 invariant_of-self-clause-counted c = c.args.self.now.counted ∙ sym (same_taken _ _ _ _ _ c.settle.ensures (entries-committed c.args.attempt c.args.self.now.entries.items c.settle-2.new.self.items c.settle-2.ensures))
 
 pub invariant_of-self-clause-indexed : goal.invariant_of-self-clause-indexed
-invariant_of-self-clause-indexed c = index-settled c.args.attempt c.args.self.now.index.covered c.args.self.now.index.firsts.items c.args.self.now.rows.items c.settle.new.self.items c.args.self.now.indexed c.settle.ensures
+invariant_of-self-clause-indexed c = index-settled c.args.attempt c.args.self.now.index c.args.self.now.rows.items c.settle.new.self.items c.args.self.now.indexed c.settle.ensures

@@ -35,14 +35,12 @@ pub blocks_taken-self-requires-clause-few : goal.blocks_taken-self-requires-clau
 blocks_taken-self-requires-clause-few c =
     let few : versions_blocks c.remove_range.new.self.items ≤ versions_blocks c.args.self.now.rows.items = fewer c.args.self.now.rows.items c.remove_range.new.self.items (is_out_of_range c.args.cont c.args.lo c.args.hi) c.remove_range.ensures in
     let rows : versions_blocks c.rows.result.now ≡ versions_blocks c.remove_range.new.self.items = ap versions_blocks c.rows.ensures in
-    let entries : length c.rows-2.result.now ≡ length c.args.self.now.entries.items = ap (λ x. length x) c.rows-2.ensures in
-    omega (arith, c.args.self.now.room, few, rows, entries)
+    omega (arith, c.args.self.now.room, few, rows)
 
 pub invariant_of-self-clause-counted : goal.invariant_of-self-clause-counted
 invariant_of-self-clause-counted c =
     let rows : versions_blocks c.rows.result.now ≡ versions_blocks c.remove_range.new.self.items = ap versions_blocks c.rows.ensures in
-    let entries : length c.rows-2.result.now ≡ length c.args.self.now.entries.items = ap (λ x. length x) c.rows-2.ensures in
-    omega (arith, c.blocks_taken-self.ensures, rows, entries)
+    omega (arith, c.blocks_taken-self.ensures, rows)
 
 pub invariant_of-self-clause-planned : goal.invariant_of-self-clause-planned
 invariant_of-self-clause-planned c =

@@ -30,5 +30,4 @@ pub blocks_taken-self-requires-clause-few : goal.blocks_taken-self-requires-clau
 blocks_taken-self-requires-clause-few c =
     let few_entries : length c.settle.new.self.items ≤ length c.args.self.now.entries.items = fewer_entries c.args.self.now.entries.items c.settle.new.self.items (is_other c.args.attempt) (entries-forgotten c.args.attempt c.args.self.now.entries.items c.settle.new.self.items c.settle.ensures) in
     let rows : versions_blocks c.rows.result.now ≡ versions_blocks c.args.self.now.rows.items = ap versions_blocks c.rows.ensures in
-    let entries : length c.rows-2.result.now ≡ length c.settle.new.self.items = ap (λ x. length x) c.rows-2.ensures in
-    omega (arith, c.args.self.now.room, few_entries, rows, entries)
+    omega (arith, c.args.self.now.room, few_entries, rows)

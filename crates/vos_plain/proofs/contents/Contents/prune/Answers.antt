@@ -46,14 +46,12 @@ blocks_taken-self-requires-clause-few c =
     let rows : c.sweep.new.self.items ≡ filter (is_staying c.args.cont c.args.upto (contents_of c.args.self.now)) c.args.self.now.rows.items = swept_by c.args.cont c.args.upto (contents_of c.args.self.now) c.rows.result.now c.deref.result.now c.mark_going.new.self.marks c.marks.result.now c.sweep.new.self.items c.mark_going.ensures.marks c.rows.ensures c.deref.ensures.value c.marks.ensures c.sweep.ensures in
     let given : versions_blocks c.sweep.new.self.items + going_count c.args.cont c.args.upto (contents_of c.args.self.now) ≤ versions_blocks c.args.self.now.rows.items = freed c.args.cont c.args.upto (contents_of c.args.self.now) c.sweep.new.self.items rows in
     let read : versions_blocks c.rows-2.result.now ≡ versions_blocks c.sweep.new.self.items = ap versions_blocks c.rows-2.ensures in
-    let entries : length c.rows-3.result.now ≡ length c.args.self.now.entries.items = ap (λ x. length x) c.rows-3.ensures in
-    omega (arith, c.args.self.now.room, given, read, entries)
+    omega (arith, c.args.self.now.room, given, read)
 
 pub invariant_of-self-clause-counted : goal.invariant_of-self-clause-counted
 invariant_of-self-clause-counted c =
     let read : versions_blocks c.rows-2.result.now ≡ versions_blocks c.sweep.new.self.items = ap versions_blocks c.rows-2.ensures in
-    let entries : length c.rows-3.result.now ≡ length c.args.self.now.entries.items = ap (λ x. length x) c.rows-3.ensures in
-    omega (arith, c.blocks_taken-self.ensures, read, entries)
+    omega (arith, c.blocks_taken-self.ensures, read)
 
 pub invariant_of-self-clause-planned : goal.invariant_of-self-clause-planned
 invariant_of-self-clause-planned c =

@@ -3,7 +3,7 @@ use Rattle.std.specs.Prelude.{◌&&◌}
 use Rattle.base_types.specs.Paths.{same_path}
 use Rattle.daos_model.specs.Cells.{single_cell}
 use Rattle.daos_model.proofs.Sights.{touches-extent, touches-single}
-use Rattle.vos_scan.proofs.reads.touches.Goals as goal
+use Rattle.vos_scan.proofs.singles.touches.Goals as goal
 
 with_true : (b : Bool) → b ≡ (b && true)
 with_true true = refl
