@@ -1,5 +1,5 @@
 -- Writes and reads of so many whole records are in form.
-use Rattle.std.proofs.Common.{◌≡◌, ℕ, ◌+◌, ◌*◌, ◌/◌, ◌%◌, ◌<◌, ◌≤◌, ◌^◌, ◌==◌, ◌&&◌, nat_le, nat_lt, Bool, true, false, List, length, sym, ap, ◌∙◌, arith}
+use Rattle.std.proofs.Common.{◌≡◌, ℕ, ◌+◌, ◌*◌, ◌/◌, ◌%◌, ◌≤◌, ◌^◌, ◌==◌, ◌&&◌, nat_lt, true, List, length, ap, ◌∙◌, arith}
 use Rattle.std.proofs.Math.Nat.{div-le_self, mul-le-mul_right, mul-mod_right}
 use Rattle.std.proofs.lemmas.Bool.Decides.{nat_tests}
 use Rattle.base_types.specs.declared.operation.Read.TheVariants.{Extent as extent_read}
