@@ -8,3 +8,4 @@ pub mod Seating
 pub mod Sorting
 pub mod Reading
 pub mod Forms
+pub mod Keeping
