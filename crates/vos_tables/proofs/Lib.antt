@@ -9,3 +9,4 @@ pub mod Sorting
 pub mod Reading
 pub mod Forms
 pub mod Keeping
+pub mod Held

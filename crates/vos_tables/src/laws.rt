@@ -1,5 +1,5 @@
 // What is written of a table is what an image then holds.
-ghost use Rattle.vos_tables.specs.Laws.{ChangesAreWritten, IsKeptInForm, TablesAreKept};
+ghost use Rattle.vos_tables.specs.Laws.{ChangesAreWritten, HeldAreTables, IsKeptInForm, TablesAreKept};
 
 use crate::table::Tables;
 use vos_image::laws::what_stands_is_read;
@@ -27,3 +27,8 @@ pub fn tables_are_kept()
 {
     what_stands_is_read();
 }
+
+/// What the places of an image of bytes hold is a table that may be remembered.
+pub fn held_are_tables()
+    ensures { HeldAreTables }
+{}
