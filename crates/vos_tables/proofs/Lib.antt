@@ -8,3 +8,5 @@ pub mod Seating
 pub mod Sorting
 pub mod Reading
 pub mod Forms
+pub mod Keeping
+pub mod Held

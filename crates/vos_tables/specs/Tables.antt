@@ -1,5 +1,5 @@
 -- What a pool remembers of its fixed places.
-use Rattle.std.specs.Prelude.{◌≡◌, ◌≤◌, ◌<◌, ℕ, All, true, List, length, Option}
+use Rattle.std.specs.Prelude.{◌≡◌, ◌≤◌, ◌<◌, ℕ, All, true, List, length, replicate, Option, None}
 use Rattle.base_types.specs.declared.snapshot.Snap.{Snap}
 use Rattle.daos_model.specs.declared.durable.ContRow.{ContRow}
 use Rattle.daos_model.specs.Durables.{is_stored_why}
@@ -22,6 +22,10 @@ header_of i n = record { layout = layout_number i.layout; target = i.target; tar
 
 abbrev pub table_of : Identity → Counters → List (Option ContRow) → List (Option Snap) → Table
 table_of i n conts snaps = record { header = header_of i n; conts = conts; snaps = snaps }
+
+-- one of which no place is used, in the first incarnation
+abbrev pub empty_table : Identity → Table
+empty_table i = table_of i (record { incarnation = 1; lease = 0; objects = 0; entries = 0 }) (replicate 256 None) (replicate 256 None)
 
 -- the counters in it
 abbrev pub counters_in : Table → Counters

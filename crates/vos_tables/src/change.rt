@@ -1,11 +1,12 @@
 // A change of one place of a container or of a snapshot.
 ghost use Rattle.std.specs.Prelude.{◌≡◌, ◌≤◌, ◌+◌, length};
+ghost use Rattle.vos_places.specs.Laws.{counter_range};
 ghost use Rattle.vos_tables.specs.Changes.{range_of};
 
 use crate::written::Written;
 use base_types::snapshot::Snap;
 use daos_model::durable::ContRow;
-use vos_places::codec::{cont_bytes, snap_bytes};
+use vos_places::codec::{Counters, cont_bytes, counter_bytes, snap_bytes};
 
 /// A change of one place of a container or of a snapshot. There are 256 of each, numbered from 0.
 #[derive(Clone, Copy)]
@@ -31,4 +32,12 @@ impl Change {
             Change::Unused(at) => Written::new(20480 + 32 * u64::from(*at), &[0]),
         }
     }
+}
+
+/// What counters write, which lies among the fixed places.
+pub fn counters_range(counters: Counters) -> Written
+    ensures range { result ≡ counter_range counters }
+    ensures high { result.place + length result.bytes ≤ 48 }
+{
+    Written::new(24, &counter_bytes(counters))
 }

@@ -29,6 +29,8 @@ impl Tables {
     #[tactic(auto, unfolding(daos_model::specs::Changes::reopened))]
     pub fn plan_reopening(&self) -> Counters
         ensures next { AreNext self.now result }
+        ensures objects { result.objects ≡ self.now.header.objects }
+        ensures entries { result.entries ≡ self.now.header.entries }
         ensures reopened { self.now.header.incarnation + 1 < 2 ^ 64 → Makes reopened self.now (counted result self.now) }
     {
         let mut counters = self.counters;

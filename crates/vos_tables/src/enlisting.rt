@@ -71,7 +71,8 @@ impl Tables {
     // Gives a container a place, unless it has one.
     fn seat(&self, seating: &mut Seating, cont: ContId) -> Result<(), Memory>
         requires { AreSeated self.now seating.old.seats.items seating.old.changes.items }
-        ensures seated { OnOk result (AreSeated self.now seating.new.seats.items seating.new.changes.items) }
+        ensures seated { OnOk result
+            (AreSeated self.now seating.new.seats.items seating.new.changes.items) }
         ensures one { OnOk result (in_order cont_key (those seating.new.seats.items)
             ≡ with_cont cont (in_order cont_key (those seating.old.seats.items))) }
     {

@@ -1,7 +1,8 @@
 // What is written of a table is what an image then holds.
-ghost use Rattle.vos_tables.specs.Laws.{ChangesAreWritten, IsKeptInForm};
+ghost use Rattle.vos_tables.specs.Laws.{ChangesAreWritten, HeldAreTables, IsKeptInForm, TablesAreKept};
 
 use crate::table::Tables;
+use vos_image::laws::what_stands_is_read;
 use vos_places::laws::places_are_written;
 
 /// After the ranges of changes are written over an image that holds a table, it holds the table with
@@ -18,3 +19,16 @@ pub fn tables_are_in_form(tables: &Tables)
 {
     let _ = &tables.identity;
 }
+
+/// What an image keeps whose places hold a table, and in whose blocks something stands, is what is kept
+/// of the table, beside versions and entries.
+pub fn tables_are_kept()
+    ensures { TablesAreKept }
+{
+    what_stands_is_read();
+}
+
+/// What the places of an image of bytes hold is a table that may be remembered.
+pub fn held_are_tables()
+    ensures { HeldAreTables }
+{}

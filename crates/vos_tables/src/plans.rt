@@ -67,7 +67,8 @@ impl Tables {
     /// are used.
     pub fn plan_freeze(&self, cont: ContId, s: Epoch) -> Result<Option<[Change; 2]>, FreezeNo>
         ensures fits { IfOk result (λ plan. AllFit self.now (unwrap_or plan [])) }
-        ensures answer { OfKept self.now (λ d. CanFreeze cont s d → answer_of result ≡ freezes cont s d) }
+        ensures answer { OfKept self.now (λ d.
+            CanFreeze cont s d → answer_of result ≡ freezes cont s d) }
         ensures running { says freeze_stop result ≡ false }
         ensures frozen { IfOk result (λ plan. MakesWhere (CanFreeze cont s) (frozen cont s) self.now
             (all_changed (unwrap_or plan []) self.now)) }
@@ -99,7 +100,8 @@ impl Tables {
     /// What notes that a snapshot is created; nothing where none is frozen there.
     pub fn plan_create(&self, cont: ContId, s: Epoch) -> Option<Change>
         ensures fits { AllFit self.now (option_to_list result) }
-        ensures created { Makes (created cont s) self.now (all_changed (option_to_list result) self.now) }
+        ensures created { Makes (created cont s) self.now
+            (all_changed (option_to_list result) self.now) }
     {
         tables_stay_apart();
         let (at, snap) = self.snap_at(cont, s)?;
@@ -111,7 +113,8 @@ impl Tables {
     /// What drops a snapshot; nothing where none is frozen there.
     pub fn plan_thaw(&self, cont: ContId, s: Epoch) -> Option<Change>
         ensures fits { AllFit self.now (option_to_list result) }
-        ensures thawed { Makes (thawed cont s) self.now (all_changed (option_to_list result) self.now) }
+        ensures thawed { Makes (thawed cont s) self.now
+            (all_changed (option_to_list result) self.now) }
     {
         tables_stay_apart();
         let (at, _) = self.snap_at(cont, s)?;

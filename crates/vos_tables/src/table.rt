@@ -1,17 +1,19 @@
 // The fixed places of a pool, as it remembers them.
-ghost use Rattle.std.specs.Prelude.{◌≡◌};
+ghost use Rattle.std.specs.Prelude.{◌≡◌, None, IfOk, replicate};
 ghost use Rattle.vos_places.specs.Laws.{counted};
 ghost use Rattle.vos_tables.specs.Changes.{AllFit, Fits, all_changed, changed};
 ghost use Rattle.vos_tables.specs.Seats.{FindsCont, FindsSnap, FindsUnused};
-ghost use Rattle.vos_tables.specs.Tables.{AreNext, IsTable, table_of};
+ghost use Rattle.vos_tables.specs.Tables.{AreNext, IsTable, empty_table, table_of};
 
 use crate::change::Change;
 use crate::identity::Identity;
 use crate::seats::{cont_at, free_snap, snap_at};
 use base_types::epoch::Epoch;
 use base_types::id::ContId;
+use base_types::items::Memory;
 use base_types::snapshot::Snap;
 use daos_model::durable::ContRow;
+use std::alloc::Global;
 use std::marker::Model;
 use vos_places::codec::Counters;
 
@@ -37,6 +39,28 @@ impl Model for Tables {
     ghost invariant = { λ t. IsTable (table_of t.identity t.counters t.conts.items t.snaps.items) };
 }
 
+// The places of containers, none of them used.
+fn unused_conts(alloc: Global) -> Result<Vec<Option<ContRow>>, Memory>
+    ensures { IfOk result (λ places. places.items ≡ replicate 256 None) }
+{
+    let mut places = Vec::with_capacity(alloc, 256)?;
+    while places.len() < 256 {
+        places.push(None)?;
+    }
+    Ok(places)
+}
+
+// The places of snapshots, none of them used.
+fn unused_snaps(alloc: Global) -> Result<Vec<Option<Snap>>, Memory>
+    ensures { IfOk result (λ places. places.items ≡ replicate 256 None) }
+{
+    let mut places = Vec::with_capacity(alloc, 256)?;
+    while places.len() < 256 {
+        places.push(None)?;
+    }
+    Ok(places)
+}
+
 impl Tables {
     /// These places, 256 of containers and 256 of snapshots.
     pub fn of(
@@ -54,6 +78,27 @@ impl Tables {
             conts,
             snaps,
         }
+    }
+
+    /// Places of which none is used, in the first incarnation, with no lease and no roots.
+    ///
+    /// # Errors
+    ///
+    /// For want of memory.
+    pub fn empty(alloc: Global, identity: Identity) -> Result<Tables, Memory>
+        ensures { IfOk result (λ tables. tables ≡ empty_table identity) }
+    {
+        Ok(Tables {
+            identity,
+            counters: Counters {
+                incarnation: 1,
+                lease: 0,
+                objects: 0,
+                entries: 0,
+            },
+            conts: unused_conts(alloc)?,
+            snaps: unused_snaps(alloc)?,
+        })
     }
 
     // A container, with its place.

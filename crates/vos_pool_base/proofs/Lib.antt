@@ -1,0 +1,4 @@
+pub mod Changing
+pub mod Staging
+pub mod Commits
+pub mod Writing
