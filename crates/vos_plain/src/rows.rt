@@ -114,7 +114,7 @@ fn blocks_of(rows: &[Version], limit: u32) -> u32
 }
 
 /// The blocks that versions and entries take.
-pub fn blocks_taken(rows: &[Version], entries: &ClientTables, limit: u32) -> u32
+pub(crate) fn blocks_taken(rows: &[Version], entries: &ClientTables, limit: u32) -> u32
     requires form { list_all is_version_in_form rows.now ≡ true }
     requires few { taken_blocks rows.now entries.now.items ≤ limit }
     ensures { result ≡ taken_blocks rows.now entries.now.items }
