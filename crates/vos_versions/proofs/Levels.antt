@@ -1,15 +1,14 @@
 -- Levels of versions: those of a single value, and extents.
-use Rattle.std.proofs.Common.{◌≡◌, ℕ, ◌+◌, ◌<◌, ◌≤◌, ◌^◌, ◌&&◌, Bool, true, false, Option, Some, None, List, length, refl, sym, ap, ◌∙◌, subst, arith}
+use Rattle.std.proofs.Common.{◌≡◌, ℕ, ◌+◌, ◌<◌, ◌^◌, ◌&&◌, Bool, true, false, Option, Some, None, List, length, refl, sym, ap, ◌∙◌, subst}
 use Rattle.std.specs.Prelude.{if◌then◌else◌}
 use Rattle.std.specs.List.{find, list_any}
 use Rattle.std.specs.Option.{option_and_then, option_map}
 use Rattle.base_types.specs.declared.id.AttemptId.{AttemptId}
 use Rattle.pmem_pages.specs.Blocks.{Blocks}
-use Rattle.pmem_pages.specs.Owners.{Changed, Holds, maybe, times}
-use Rattle.pmem_pages.specs.Shape.{Entry, IsTree, blocks_of, entries, entry_at}
+use Rattle.pmem_pages.specs.Owners.{Changed, Holds, maybe}
+use Rattle.pmem_pages.specs.Shape.{Entry, entries, entry_at}
 use Rattle.pmem_pages.specs.declared.node.TreeKey.{TreeKey}
-use Rattle.pmem_tree.specs.Changes.{Inserts, Puts, Removes}
-use Rattle.pmem_tree_base.specs.Find.{value_of}
+use Rattle.pmem_tree.specs.Changes.{Inserts, Puts}
 use Rattle.vos_values.specs.declared.values.VersionMark.{VersionMark}
 use Rattle.vos_values.specs.Values.{IsVersionMark, version_in, version_value}
 use Rattle.vos_values.proofs.ValueLaws.{singles_exact}

@@ -1,13 +1,13 @@
 -- The version at a key in a tree.
-use Rattle.std.proofs.Common.{◌≡◌, ℕ, ◌+◌, ◌*◌, ◌<◌, ◌≤◌, ◌^◌, ◌⊎◌, ◌&&◌, ◌==◌, drop, Bool, true, false, Option, Some, None, List, length, refl, sym, ap, ◌∙◌, subst, arith, inl, inr}
-use Rattle.std.specs.Prelude.{Err, IsErrOf, IfSome, Result, if◌then◌else◌}
+use Rattle.std.proofs.Common.{◌≡◌, ℕ, ◌+◌, ◌*◌, ◌<◌, ◌≤◌, ◌&&◌, ◌==◌, drop, Bool, true, false, Option, Some, None, List, refl, sym, ap, ◌∙◌, subst, arith, inl, inr}
+use Rattle.std.specs.Prelude.{Err, IsErrOf, IfSome, if◌then◌else◌}
 use Rattle.std.specs.Option.{option_and_then}
 use Rattle.std.proofs.lemmas.Bool.{cases_lt}
 use Rattle.std.proofs.lemmas.Bool.Decides.{nat_tests}
 use Rattle.pmem_pages.specs.Blocks.{Blocks, Budget, IsSpent}
 use Rattle.pmem_pages.specs.Counts.{times_none}
-use Rattle.pmem_pages.specs.Owned.{tree_owner, tree_taken}
-use Rattle.pmem_pages.specs.Owners.{Changed, Holds, times}
+use Rattle.pmem_pages.specs.Owned.{tree_taken}
+use Rattle.pmem_pages.specs.Owners.{times}
 use Rattle.pmem_pages.specs.Node.{IsKind, IsValue}
 use Rattle.pmem_pages.specs.Shape.{Entry, IsTree, Shape, blocks_of, entries, entry_at}
 use Rattle.pmem_pages.specs.declared.node.TreeKey.{TreeKey}

@@ -1,4 +1,4 @@
-use Rattle.std.proofs.Common.{rules, ◌≡◌, ◌∙◌, ◌+◌, ap, sym, subst, arith, length, false, Err, IsErrOf}
+use Rattle.std.proofs.Common.{rules, ◌≡◌, ◌∙◌, ap, subst, arith, length, false, Err, IsErrOf}
 use Rattle.pmem_tree.specs.Changes.{Inserts}
 use Rattle.pmem_tree_base.specs.declared.refusal.TreeNo.TheVariants.{TooMuch}
 use Rattle.base_types.specs.declared.id.AttemptId.{AttemptId}

@@ -1,4 +1,4 @@
-use Rattle.std.proofs.Common.{◌≡◌, ◌+◌, ◌∙◌, sym, subst, ap, arith, Some, None, true, false}
+use Rattle.std.proofs.Common.{◌≡◌, ◌∙◌, sym, subst, ap, arith, Some, None, true, false}
 use Rattle.pmem_pages.specs.Shape.{IsTree, entries}
 use Rattle.pmem_tree.specs.Calls.{TooFew}
 use Rattle.vos_levels.proofs.Calls.{on_ok_then}
