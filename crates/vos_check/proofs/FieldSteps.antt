@@ -1,5 +1,5 @@
 -- Fields that are read one after another.
-use Rattle.std.proofs.Common.{◌≡◌, ℕ, ◌+◌, ◌*◌, ◌==◌, not, Bool, true, false, List, [], Option, Some, None, Result, Ok, Err, refl, sym, subst, ap, ◌∙◌, arith}
+use Rattle.std.proofs.Common.{◌≡◌, ℕ, ◌+◌, ◌*◌, ◌==◌, not, Bool, true, false, List, [], Option, Some, None, Result, Ok, Err, refl, sym, subst, ◌∙◌, arith}
 use Rattle.vos_image.specs.Steps.{Step, ◌>>=◌, give, rule, says}
 use Rattle.vos_image.specs.Content.{Content, link}
 use Rattle.vos_image.specs.Kinds.{read_akey_roots, read_roots, read_version}
@@ -10,7 +10,6 @@ use Rattle.pmem_pages.specs.declared.node.Value.{Value}
 use Rattle.pmem_pages.specs.Node.{key_text}
 use Rattle.vos_values.specs.Keys.{name_in}
 use Rattle.vos_values.specs.Values.{akey_in, roots_in}
-use Rattle.vos_values.specs.declared.values.VersionMark.{VersionMark}
 use Rattle.vos_check_base.specs.Sets.{Set}
 use Rattle.vos_check_base.specs.Answers.{Finds, MarksIn, Plain, nothing, same}
 use Rattle.vos_check_base.proofs.Steps.{assoc, off, on, under}

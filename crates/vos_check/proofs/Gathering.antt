@@ -1,5 +1,5 @@
 -- What is gathered of a thing is what is gathered of its trees.
-use Rattle.std.proofs.Common.{◌≡◌, ℕ, suc, List, [], ◌∷◌, ◌++◌, length, refl, sym, ap, ◌∙◌, append_assoc, arith}
+use Rattle.std.proofs.Common.{◌≡◌, ℕ, List, [], ◌∷◌, ◌++◌, length, refl, sym, ap, ◌∙◌, append_assoc, arith}
 use Rattle.std.specs.Prelude.{map}
 use Rattle.pmem_pages.specs.Shape.{Entry, entries}
 use Rattle.vos_levels.specs.Levels.{Hung}

@@ -29,7 +29,9 @@ impl Level for Akeys {
     ghost use Rattle.vos_check.specs.Rows.{row_of};
 
     type Name = TreeKey;
+
     type Value = AkeyRoots;
+
     type Row = NodeRow;
 
     ghost Names = { List ℕ };

@@ -28,7 +28,9 @@ impl Level for Dkeys {
     ghost use Rattle.vos_check.specs.Rows.{row_of};
 
     type Name = TreeKey;
+
     type Value = Roots;
+
     type Row = NodeRow;
 
     ghost Names = { List ℕ };

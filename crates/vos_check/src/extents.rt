@@ -27,7 +27,9 @@ impl Level for Extents {
     ghost use Rattle.vos_check.specs.Rows.{row_of};
 
     type Name = ExtentKey;
+
     type Value = VersionMark;
+
     type Row = NodeRow;
 
     ghost Names = { NameOf };
@@ -62,7 +64,12 @@ impl Level for Extents {
         value: &Value,
     ) -> Result<VersionMark, u64> {
         let mark = version_in(block, value)?;
-        first_in(fresh, block, fits_records(self.unit, name.low, mark.length), mark.chain)?;
+        first_in(
+            fresh,
+            block,
+            fits_records(self.unit, name.low, mark.length),
+            mark.chain,
+        )?;
         Ok(mark)
     }
 

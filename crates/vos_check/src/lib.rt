@@ -10,3 +10,4 @@ pub mod logs;
 pub mod node;
 pub mod objects;
 pub mod singles;
+pub mod stored;

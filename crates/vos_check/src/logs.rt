@@ -25,7 +25,9 @@ impl Level for Logs {
     ghost use Rattle.vos_check.specs.Rows.{row_of};
 
     type Name = Moment;
+
     type Value = LogMark;
+
     type Row = NodeRow;
 
     ghost Names = { MomentOf };

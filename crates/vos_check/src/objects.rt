@@ -28,7 +28,9 @@ impl Level for Objects {
     ghost use Rattle.vos_check.specs.Rows.{row_of};
 
     type Name = ObjectKey;
+
     type Value = Roots;
+
     type Row = NodeRow;
 
     ghost Names = { NameOf };

@@ -26,7 +26,9 @@ impl Level for Singles {
     ghost use Rattle.vos_check.specs.Rows.{row_of};
 
     type Name = Moment;
+
     type Value = VersionMark;
+
     type Row = NodeRow;
 
     ghost Names = { NameOf };

@@ -1,5 +1,5 @@
 -- What is gathered of a tree is what is gathered of its parts.
-use Rattle.std.proofs.Common.{◌≡◌, ℕ, suc, ◌+◌, List, [], ◌∷◌, ◌++◌, length, refl, sym, ap, ◌∙◌, append_assoc, arith, length-append, append-nil}
+use Rattle.std.proofs.Common.{◌≡◌, ℕ, List, [], ◌∷◌, ◌++◌, length, refl, sym, ap, ◌∙◌, append_assoc, arith, length-append, append-nil}
 use Rattle.pmem_pages.specs.Shape.{Entry, Fork, Leaf, entries}
 use Rattle.vos_levels.specs.Levels.{Hung}
 use Rattle.vos_check_trees.specs.Found.{Gathers, rows_of}

@@ -1,4 +1,4 @@
-use Rattle.std.proofs.Common.{◌≡◌, ℕ, ◌-◌, ◌==◌, Ok, subst, ◌∙◌}
+use Rattle.std.proofs.Common.{◌≡◌, ℕ, ◌-◌, ◌==◌, Ok, subst}
 use Rattle.std.proofs.lemmas.Result.{err_from_is_err_and}
 use Rattle.vos_image.specs.Kinds.{read_links}
 use Rattle.vos_check_base.specs.Answers.{content}
@@ -15,7 +15,7 @@ pub returns-in_err-next-clause-read : goal.returns-in_err-next-clause-read
 returns-in_err-next-clause-read g t c told =
     let p = err_from_is_err_and c.from_residual.result c.from_residual.ensures.1 in
     rw (p.1, p.2) (λ b led marks.
-        links_off (content b (g.S.Source.bytes c.args.source.now)) c.args.count c.args.block c.args.length c.min.result (c.args.count == 1) led _ c.if-count-eq0.false (last_is c.args.count c.if-count-eq0.false) c.min.ensures (c.in_err-next.ensures.read told b led marks))
+    links_off (content b (g.S.Source.bytes c.args.source.now)) c.args.count c.args.block c.args.length c.min.result (c.args.count == 1) led _ c.if-count-eq0.false (last_is c.args.count c.if-count-eq0.false) c.min.ensures (c.in_err-next.ensures.read told b led marks))
 
 pub returns-clause-read : goal.returns-clause-read
 returns-clause-read g t c told b led marks =

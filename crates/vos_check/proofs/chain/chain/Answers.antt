@@ -1,4 +1,4 @@
-use Rattle.std.proofs.Common.{◌≡◌, ℕ, subst}
+use Rattle.std.proofs.Common.{ℕ, subst}
 use Rattle.vos_image.specs.Kinds.{read_chain, read_links}
 use Rattle.vos_check_base.specs.Answers.{Answers, content}
 use Rattle.vos_check_base.specs.Sets.{open_of}

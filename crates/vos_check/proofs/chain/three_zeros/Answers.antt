@@ -1,4 +1,4 @@
-use Rattle.std.proofs.Common.{◌≡◌, ℕ, ◌+◌, ◌*◌, take, drop, subst}
+use Rattle.std.proofs.Common.{ℕ, ◌+◌, ◌*◌, take, drop, subst}
 use Rattle.vos_image.specs.Steps.{zeros}
 use Rattle.vos_check_base.specs.Answers.{Plain, nothing}
 use Rattle.vos_check.proofs.chain.three_zeros.Goals as goal

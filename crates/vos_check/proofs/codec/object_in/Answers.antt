@@ -1,4 +1,4 @@
-use Rattle.std.proofs.Common.{◌≡◌, ℕ, ◌+◌, ◌*◌, drop, ap, ◌∙◌, arith}
+use Rattle.std.proofs.Common.{◌≡◌, ◌+◌, ◌*◌, drop, ap, ◌∙◌, arith}
 use Rattle.std.proofs.lemmas.Result.{err_from_is_err_and}
 use Rattle.byteorder.specs.Endian.{big_number}
 use Rattle.vos_values.specs.Keys.{object_in}
@@ -10,8 +10,8 @@ pub returns-in_err-rule_in : goal.returns-in_err-rule_in
 returns-in_err-rule_in c =
     let p = err_from_is_err_and c.from_residual.result c.from_residual.ensures.1 in
     rw (p.1, p.2) (λ f led.
-        let z : 256 * c.args.block + 28 ≡ 256 * c.args.block + 12 + 16 = omega arith in
-        rule_off (256 * c.args.block + 28) (256 * c.args.block + 12 + 16) (is_class (big_number 1 (drop 16 c.args.key.now.bytes))) c.is_class.result _ led _ z (c.is_class.ensures ∙ ap is_class c.one_at.ensures) (c.in_err-rule_in.ensures led))
+    let z : 256 * c.args.block + 28 ≡ 256 * c.args.block + 12 + 16 = omega arith in
+    rule_off (256 * c.args.block + 28) (256 * c.args.block + 12 + 16) (is_class (big_number 1 (drop 16 c.args.key.now.bytes))) c.is_class.result _ led _ z (c.is_class.ensures ∙ ap is_class c.one_at.ensures) (c.in_err-rule_in.ensures led))
 
 pub returns : goal.returns
 returns c f led =

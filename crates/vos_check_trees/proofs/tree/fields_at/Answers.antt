@@ -1,4 +1,4 @@
-use Rattle.std.proofs.Common.{◌+◌, ◌*◌, refl, sym, ap, ◌∙◌}
+use Rattle.std.proofs.Common.{◌*◌, refl, sym, ap, ◌∙◌}
 use Rattle.base_outside.specs.Images.{bytes_at}
 use Rattle.pmem_pages.specs.Node.{node_of}
 use Rattle.vos_image.specs.Content.{block}

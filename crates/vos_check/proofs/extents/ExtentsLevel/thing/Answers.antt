@@ -10,9 +10,9 @@ pub returns-in_err-chain-clause-read : goal.returns-in_err-chain-clause-read
 returns-in_err-chain-clause-read g c told =
     let p = err_from_is_err_and c.from_residual.result c.from_residual.ensures.1 in
     rw (p.1, p.2) (λ led marks.
-        let b = c.args.self.now.ground in
-        let d = content b (g.S.Source.bytes c.args.source.now) in
-        fault_off d (read_chain d c.args.value.chain c.args.value.length) _ led _ (c.in_err-chain.ensures.read told b led marks))
+    let b = c.args.self.now.ground in
+    let d = content b (g.S.Source.bytes c.args.source.now) in
+    fault_off d (read_chain d c.args.value.chain c.args.value.length) _ led _ (c.in_err-chain.ensures.read told b led marks))
 
 pub returns-clause-read : goal.returns-clause-read
 returns-clause-read g c told led marks =
