@@ -1,0 +1,4 @@
+mod FieldSteps
+mod Links
+mod Gathering
+mod Moving

@@ -1,0 +1,67 @@
+use Rattle.std.proofs.Common.{refl, ◌∙◌}
+use Rattle.std.proofs.lemmas.Result.{err_from_is_err_and}
+use Rattle.vos_image.specs.Trees.{read_tree}
+use Rattle.pmem_pages.specs.Node.{key_text}
+use Rattle.vos_image.specs.Kinds.{extents, logs, singles}
+use Rattle.vos_image.specs.Nodes.{extent_node, single_node}
+use Rattle.vos_check_base.specs.Answers.{content}
+use Rattle.vos_check_base.specs.Sets.{open_of}
+use Rattle.vos_check_base.proofs.Faults.{fault_by}
+use Rattle.vos_check_base.proofs.Steps.{off, on}
+use Rattle.vos_check_trees.specs.Found.{Gathers}
+use Rattle.vos_check.proofs.Gathering.{akey_gathers, rows_by}
+use Rattle.vos_check.proofs.Moving.{fault_moved, reads_moved}
+use Rattle.vos_check.proofs.akeys.AkeysLevel.thing.Goals as goal
+
+pub returns-in_err-tree-clause-read : goal.returns-in_err-tree-clause-read
+returns-in_err-tree-clause-read g c told =
+    let p = err_from_is_err_and c.from_residual.result c.from_residual.ensures.1 in
+    let b = c.args.self.now.ground in
+    let f = g.S.Source.bytes c.args.source.now in
+    let d = content b f in
+    let ends = c.in_err-tree.ensures.read told in
+    rw (p.1, p.2) (λ led marks.
+    fault_by d (read_tree logs d c.args.value.log led) _ _ (λ at k. off _ _ led at k) (ends led marks))
+
+pub returns-in_err-tree-2-clause-read : goal.returns-in_err-tree-2-clause-read
+returns-in_err-tree-2-clause-read g c told =
+    let p = err_from_is_err_and c.from_residual-in_err-tree-2.result c.from_residual-in_err-tree-2.ensures.1 in
+    let b = c.args.self.now.ground in
+    let f = g.S.Source.bytes c.args.source.now in
+    let d = content b f in
+    let r0 = c.in_ok-tree.ensures.read told in
+    let ends = fault_moved b f (g.S.Source.bytes c.tree.new.source) (λ e. read_tree singles e c.args.value.singles) (open_of c.tree.new.fresh) c.in_err-tree-2.field-0.0 (c.tree.ensures.kept told) (c.in_err-tree-2.ensures.read told) in
+    rw (p.1, p.2) (λ led marks.
+    let x0 = r0 led marks in
+    fault_by d (read_tree singles d c.args.value.singles x0.gives.led) _ _ (λ at k. on _ _ led x0.value x0.gives.led _ x0.gives.is (off _ _ x0.gives.led at k)) (ends x0.gives.led x0.gives.marks))
+
+pub returns-in_err-tree-3-clause-read : goal.returns-in_err-tree-3-clause-read
+returns-in_err-tree-3-clause-read g c told =
+    let p = err_from_is_err_and c.from_residual-in_err-tree-3.result c.from_residual-in_err-tree-3.ensures.1 in
+    let b = c.args.self.now.ground in
+    let f = g.S.Source.bytes c.args.source.now in
+    let d = content b f in
+    let r0 = c.in_ok-tree.ensures.read told in
+    let r1 = reads_moved b f (g.S.Source.bytes c.tree.new.source) (λ e. read_tree singles e c.args.value.singles) (open_of c.tree.new.fresh) (open_of c.tree-2.new.fresh) (Gathers (rows_by single_node) c.tree.new.out.items c.tree-2.new.out.items) (c.tree.ensures.kept told) (c.in_ok-tree-2.ensures.read told) in
+    let ends = fault_moved b f (g.S.Source.bytes c.tree-2.new.source) (λ e. read_tree (extents c.args.self.now.unit) e c.args.value.extents) (open_of c.tree-2.new.fresh) c.in_err-tree-3.field-0.0 (c.tree-2.ensures.kept told ∙ (c.tree.ensures.kept told)) (c.in_err-tree-3.ensures.read told) in
+    rw (p.1, p.2) (λ led marks.
+    let x0 = r0 led marks in
+    let x1 = r1 x0.gives.led x0.gives.marks in
+    fault_by d (read_tree (extents c.args.self.now.unit) d c.args.value.extents x1.gives.led) _ _ (λ at k. on _ _ led x0.value x0.gives.led _ x0.gives.is (on _ _ x0.gives.led x1.value x1.gives.led _ x1.gives.is (off _ _ x1.gives.led at k))) (ends x1.gives.led x1.gives.marks))
+
+pub returns-clause-read : goal.returns-clause-read
+returns-clause-read g c told led marks =
+    let b = c.args.self.now.ground in
+    let f = g.S.Source.bytes c.args.source.now in
+    let d = content b f in
+    let r0 = c.in_ok-tree.ensures.read told in
+    let r1 = reads_moved b f (g.S.Source.bytes c.tree.new.source) (λ e. read_tree singles e c.args.value.singles) (open_of c.tree.new.fresh) (open_of c.tree-2.new.fresh) (Gathers (rows_by single_node) c.tree.new.out.items c.tree-2.new.out.items) (c.tree.ensures.kept told) (c.in_ok-tree-2.ensures.read told) in
+    let r2 = reads_moved b f (g.S.Source.bytes c.tree-2.new.source) (λ e. read_tree (extents c.args.self.now.unit) e c.args.value.extents) (open_of c.tree-2.new.fresh) (open_of c.tree-3.new.fresh) (Gathers (rows_by extent_node) c.tree-2.new.out.items c.tree-3.new.out.items) (c.tree-2.ensures.kept told ∙ (c.tree.ensures.kept told)) (c.in_ok-tree-3.ensures.read told) in
+    let x0 = r0 led marks in
+    let x1 = r1 x0.gives.led x0.gives.marks in
+    let x2 = r2 x1.gives.led x1.gives.marks in
+    record {
+      value = record { name = key_text c.args.name; holds = (x0.value, (x1.value, x2.value)) };
+      gives = record { led = x2.gives.led; is = on _ _ led x0.value x0.gives.led _ x0.gives.is (on _ _ x0.gives.led x1.value x1.gives.led _ x1.gives.is (on _ _ x1.gives.led x2.value x2.gives.led _ x2.gives.is refl)); marks = x2.gives.marks };
+      shows = akey_gathers c.args.out.now.items c.tree.new.out.items c.tree-2.new.out.items c.tree-3.new.out.items x0.value x1.value x2.value x0.shows x1.shows x2.shows;
+    }

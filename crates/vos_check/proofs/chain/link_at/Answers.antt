@@ -1,0 +1,20 @@
+use Rattle.std.proofs.Common.{◌*◌, refl, sym, ap, ◌∙◌}
+use Rattle.base_outside.specs.Images.{bytes_at}
+use Rattle.vos_image.specs.Content.{block}
+use Rattle.vos_check_base.specs.Answers.{content}
+use Rattle.vos_check_base.proofs.Faults.{blamed}
+use Rattle.vos_check.proofs.chain.link_at.Goals as goal
+
+pub returns-in-Ok-clause-read : goal.returns-in-Ok-clause-read
+unfolding block
+returns-in-Ok-clause-read g c told b led marks =
+    let f = g.S.Source.bytes c.args.source.now in
+    let here = sym (c.in_ok-read.ensures.read told ∙ ap (λ n. bytes_at f (256 * n) 256) c.from.ensures) in
+    record { value = c.in-Ok.next; gives = c.in-Ok.ensures b f led here marks; shows = refl }
+
+pub returns-in-Err-clause-read : goal.returns-in-Err-clause-read
+unfolding block
+returns-in-Err-clause-read g c told b led marks =
+    let f = g.S.Source.bytes c.args.source.now in
+    let here = sym (c.in_ok-read.ensures.read told ∙ ap (λ n. bytes_at f (256 * n) 256) c.from.ensures) in
+    blamed (content b f) _ c.in-Err.at (g.S.Source.bytes c.read.new.self) c.blame.result (c.read.ensures.kept told) (c.in-Err.ensures b f led here marks) (c.blame.ensures.blamed told)

@@ -1,0 +1,13 @@
+// The check of the trees and chains of an image, kind by kind.
+#![tactic(auto)]
+
+pub mod akeys;
+pub mod chain;
+mod codec;
+pub mod dkeys;
+pub mod extents;
+pub mod logs;
+pub mod node;
+pub mod objects;
+pub mod singles;
+pub mod stored;

@@ -1,0 +1,3 @@
+mod Sets
+pub mod Steps
+pub mod Faults

@@ -1,0 +1,4 @@
+mod NodeFields
+mod NodeHeights
+mod Rows
+mod Below

@@ -1,0 +1,12 @@
+use Rattle.std.proofs.Common.{◌+◌, ◌*◌, ap, ◌∙◌}
+use Rattle.vos_check_base.specs.Answers.{content}
+use Rattle.vos_check_trees.proofs.NodeHeights.{height_none, height_there}
+use Rattle.vos_check_trees.proofs.heights.stored_height.Goals as goal
+
+pub returns-then-block-eq0-clause-read : goal.returns-then-block-eq0-clause-read
+returns-then-block-eq0-clause-read g c told d = height_none (content d (g.S.Source.bytes c.args.source.now)) c.args.block c.if-block-eq0.true
+
+pub returns-clause-read : goal.returns-clause-read
+returns-clause-read g c told d =
+    height_there (content d (g.S.Source.bytes c.args.source.now)) c.args.block c.in_ok-height.height c.if-block-eq0.false
+    (c.in_ok-height.ensures.read told ∙ ap (λ n. g.S.Source.bytes c.args.source.now (256 * n + 1)) c.from.ensures)
