@@ -1,4 +1,4 @@
-use Rattle.std.proofs.Common.{◌≡◌, ◌+◌, ◌*◌, Option, subst}
+use Rattle.std.proofs.Common.{◌+◌, ◌*◌, Option, subst}
 use Rattle.vos_image.specs.Steps.{says}
 use Rattle.base_types.specs.declared.id.AttemptId.{AttemptId}
 use Rattle.vos_check_base.specs.Answers.{Plain, same}

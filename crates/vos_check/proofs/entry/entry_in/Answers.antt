@@ -1,8 +1,8 @@
-use Rattle.std.proofs.Common.{◌≡◌, ℕ, drop, refl, ap, ◌∙◌}
+use Rattle.std.proofs.Common.{ℕ, drop, refl, ap, ◌∙◌}
 use Rattle.std.specs.Prelude.{nat_le, nat_lt}
 use Rattle.std.proofs.lemmas.Result.{err_from_is_err_and}
 use Rattle.byteorder.specs.Endian.{big_number}
-use Rattle.vos_values.specs.Values.{entry_in, is_state}
+use Rattle.vos_values.specs.Values.{entry_in}
 use Rattle.vos_image.specs.Kinds.{fits_targets}
 use Rattle.vos_check_base.specs.Answers.{content}
 use Rattle.vos_check_base.proofs.Steps.{off, on}
