@@ -2,3 +2,4 @@ mod FieldSteps
 mod Links
 mod Gathering
 mod Moving
+mod EntrySteps

@@ -5,6 +5,7 @@ pub mod akeys;
 pub mod chain;
 mod codec;
 pub mod dkeys;
+pub mod entry;
 pub mod extents;
 pub mod logs;
 pub mod node;
