@@ -28,9 +28,10 @@ use Rattle.daos_summary.specs.Summaries.{summary_text}
 
 -- What the report of a run is: legal for the script by the headline, over regions of zeros that nothing disturbs, whichever attempts are taken
 -- as resolved; and in the form in which a text determines its report, which is read back of its text.
--- It tells of turns in the order asked, where each target issues epochs at the readings that the clock handed out for it gives; the targets of the run issued all epochs; and where there is room for all that the script writes, and places for
--- its snapshots, no attempt is refused for want of these, nor one to make a snapshot where there are places, whatever room there is. The order of epochs is
--- that of real time where the clocks keep the bound. A client that is alone is never told to restart where the script asks for no stop, and of a script
+-- It tells of turns in the order asked, where each target issues epochs at the readings that the clock handed out for it gives, and no more of its turns are
+-- cut, and no more of its openings fail, than the script has stop lines for it; the targets of the run issued all epochs; and where there is room for all
+-- that the script writes, and places for its snapshots, no attempt is refused for want of these, nor one to make a snapshot where there are places, whatever
+-- room there is. The order of epochs is that of real time where the clocks keep the bound. A client that is alone is never told to restart where the script asks for no stop, and of a script
 -- without snapshots more is said of it.
 pub record IsRunReport {C : Type 0} (gives : ℕ → C → Type 0) (is_read : C → C → Type 0) (next_reading : C → Option ℕ) (g : Given) (q : Report) : Type 0 where
   pub form : IsReportOf g.script q

@@ -26,7 +26,7 @@ use Rattle.daos_run.specs.Starts.{IsNewStore}
 use Rattle.daos_run.specs.Stops.{HasRisen, IsOpeningFault, MayStop}
 use Rattle.daos_run.proofs.Places.{in-place, store-at, stores-many}
 use Rattle.daos_run.proofs.Unstopped.{no-down-told, no-stops-told}
-use Rattle.run_targets.specs.Ends.{IsInRealTime, IsKeyed, IsLegal, IsOrdered, IsOutside, from-map, given_by, legal-by-any, one-there, durables_of, AreIssuedThere, declared_conts}
+use Rattle.run_targets.specs.Ends.{IsInRealTime, IsKeyed, IsLegal, IsOrdered, IsOutside, from-map, given_by, legal-by-any, one-there, durables_of, AreIssuedThere, declared_conts, AtMostRises, cuts_and_failures_in, stop_lines_of}
 use Rattle.run_opening.specs.All.{AreKept}
 use Rattle.run_opening.specs.Laws.{AreUnused}
 use Rattle.run_opening.specs.Opened.{enlisted_family}
@@ -99,6 +99,11 @@ on-ok (Err e) f p = tt
 on-both : {T E : Type 0} {P Q R : T → Type 0} (result : Result T E) → ((x : T) → P x → Q x → R x) → IfOk result P → IfOk result Q → IfOk result R
 on-both (Ok x) f p q = f x p q
 on-both (Err e) f p q = tt
+
+-- where a count stands at 0, nothing came of it
+only-lines : (n lines before now : ℕ) → now ≡ 0 → AtMostRises n lines before now → n ≤ lines
+only-lines n lines before now none (inl last) = absurd (omega (arith, last, none))
+only-lines n lines before now none (inr k) = omega (arith, k, none)
 
 module _ {C : Type 0} (targets size_mib : ℕ) (slots : List (Option (PlainStore × C))) (H : HaveStores (λ t store. IsNewStore size_mib store) targets slots) where
   pub all-run : targets ≤ 64 → HaveStores (λ t store. MayRun told_by plain_state targets store) targets slots
@@ -260,6 +265,13 @@ module _ {C : Type 0} (targets size_mib : ℕ) (slots : List (Option (PlainStore
               let x = H.set.each t (subst (λ n. t < n) same low) in
               let y = set.each t (subst (λ n. t < n) same low) in
               record { before = x.0.1; given = G t x.0 x.1; after = y.0.1; gave = k.clocks t x.0.1 y.0.1 (record { before = x.0; after = y.0; at = x.1; there = y.1; first = refl; last = refl }) };
+          faults = λ t low.
+              let here = subst (λ n. t < n) same low in
+              let x = H.set.each t here in
+              let z = set.each t here in
+              let y = at-within k.from.opened t (subst (λ n. t < n) (sym (k.from.many ∙ stores-many targets slots H.set)) here) in
+              only-lines (cuts_and_failures_in (fresh s j) q k.from.comes.ordered.follows t) (stop_lines_of t s.stops) (plain_state y.0).faults (plain_state z.0.0).faults (never-failed t x.0 z.0 x.1 z.1)
+              (k.from.comes.ordered.by_lines t y.0 z.0.0 y.1 (store-at targets new set t z.0 z.1) refl);
         }
 
         pub follows-order : (result : Result Report RunStop) → IfOk result (ComesFromClocks told_by plain_state found_in is_read next_reading their-given slots new) → s.targets ≡ targets → IfOk result (FollowsFromZeros gives is_read next_reading (fresh s j))

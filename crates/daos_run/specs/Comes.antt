@@ -9,7 +9,7 @@ use Rattle.daos_model.specs.Durables.{empty_durable}
 use Rattle.daos_model.specs.Opening.{Given, Outside}
 use Rattle.model_reports.specs.Rooms.{HasPlaces}
 use Rattle.daos_run.specs.Slots.{AreClocksIn, stores_in}
-use Rattle.run_targets.specs.Ends.{ClocksGave, ComesTo, FollowsOrder, HasClock, IsOutside, StandsForAttempts, memory_at_first, rules_of, declared_conts}
+use Rattle.run_targets.specs.Ends.{ClocksGave, ComesTo, FollowsOrder, HasClock, IsOutside, StandsForAttempts, cuts_and_failures_in, memory_at_first, rules_of, declared_conts, stop_lines_of}
 use Rattle.run_opening.specs.All.{AreKept, FromTo, MayBeFound}
 use Rattle.run_opening.specs.Left.{IsLeftOf}
 use Rattle.run_opening.specs.Opened.{lasting_snaps}
@@ -60,6 +60,7 @@ pub record BreaksOff (g : Given) (B lasts : List Durable) : Type 0 where
 
 -- A report over regions of zeros tells of the turns in the order asked, from where each target keeps the script's containers alone, with as many blocks
 -- free as the opening says, was opened once, with no floor, and remembers nothing yet. Each target has the clock that was handed out for it, at whose readings it issues epochs.
+-- Of each target no more turns were cut, and no more openings failed, than the script has stop lines for it: so none where it has none.
 pub record FollowsFromZeros {C : Type 0} (gives : ℕ → C → Type 0) (is_read : C → C → Type 0) (next_reading : C → Option ℕ) (g : Given) (q : Report) : Type 0 where
   pub follows : FollowsOrder g q
   pub opened : (t : ℕ) (s : TargetState) → slice_get follows.first.targets t ≡ Some s → s.durable ≡ enlisted (declared_conts g.script) (empty_durable 1)
@@ -67,3 +68,4 @@ pub record FollowsFromZeros {C : Type 0} (gives : ℕ → C → Type 0) (is_read
   pub floor : (t : ℕ) (s : TargetState) → slice_get follows.first.targets t ≡ Some s → s.opening ≡ (record { 0 = 0 }, Opening)
   pub memory : (t : ℕ) (s : TargetState) → slice_get follows.first.targets t ≡ Some s → s.memory ≡ memory_at_first s.durable
   pub clocks : (t : ℕ) → t < g.script.targets → HasClock (gives t) is_read next_reading g q follows t
+  pub faults : (t : ℕ) → t < g.script.targets → cuts_and_failures_in g q follows t ≤ stop_lines_of t g.script.stops

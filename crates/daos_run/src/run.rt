@@ -53,8 +53,9 @@ fn set_all<B: Rack>(
 /// Runs a script and reports what became of its commands. So far the store of each target is a list in
 /// memory: the rack gives its clock alone. The outside can't fail such a store, so only stop lines stop a
 /// target, and none is given up. Each target reads the clock that the rack hands out for it, by `ordered` at
-/// just the readings at which it issues epochs. The script may make snapshots, read at them and aggregate;
-/// `lone` is of scripts that don't, and `alone` of any.
+/// just the readings at which it issues epochs; and in that run no more of its turns are cut, and no more of its
+/// openings fail, than the script has stop lines for it. The script may make snapshots, read at them and
+/// aggregate; `lone` is of scripts that don't, and `alone` of any.
 ///
 /// # Errors
 ///

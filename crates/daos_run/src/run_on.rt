@@ -48,7 +48,10 @@ use vos_store::store::Fuse;
 /// `ends`, `in_order` and `bytes` bind what the report tells; the run is safe, and errors are told as of any
 /// others.
 ///
-/// The script may make snapshots, read at them and aggregate; `lone` is of scripts that don't, and `alone` of any.
+/// The report's lines are those of a run of the world in the order asked. Of each target no more turns are cut in
+/// it, and no more openings fail, than counts of its store rise; and where its fuse is told, than the script has stop
+/// lines for it and the outside fails the store. The script may make snapshots, read at them and aggregate; `lone` is
+/// of scripts that don't, and `alone` of any.
 ///
 /// The report names the least of the targets that were given up, if one was; the store of such a one is
 /// stopped.

@@ -15,7 +15,8 @@ use Rattle.run_determined.specs.Failing.{fails-none_beyond}
 use Rattle.run_determined.specs.Knowing.{runs-have_targets}
 use Rattle.run_determined.specs.Orders.{AreOneRun, LeaveTheSame, NeverFails, ReadTheSame, orders-are_one}
 use Rattle.run_laws.specs.Below.{durable_of, durables_of, first_tracker, rules_of, snaps_held}
-use Rattle.run_laws.specs.ends.Comes.{FollowsOrder, IsAsStored, IsOrdered, memory_at_first}
+use Rattle.run_laws.specs.ends.Comes.{FollowsOrder, IsAsStored, IsOrdered, cuts_and_failures_in, memory_at_first}
+use Rattle.run_laws.specs.shows.Accounts.{stop_lines_of}
 use Rattle.run_laws.specs.turns.OrderLaws.{orders-are-runs}
 use Rattle.vos_store.specs.Calls.{State}
 use Rattle.world_base.specs.declared.target.Life.TheVariants.{Running}
@@ -45,6 +46,11 @@ pub record TellOneRun {g : Given} {free : ℕ → ℕ} {q p : Report} (f : Follo
 abbrev pub ReportsAreOne : Type 0
 ReportsAreOne =
     (g : Given) (free : ℕ → ℕ) (q p : Report) (f : FollowsOrder g q) (h : FollowsOrder (with_free free g) p) → HaveSameTargets f.first h.first → ReadTheSame f.run h.run → LeaveTheSame f.run h.run → TellOneRun f h
+
+-- Where of each target no more turns are cut, and no more openings fail, than the script has stop lines for it, none is cut and none fails of a script
+-- without stop lines.
+abbrev pub UnaskedNeverFail : Type 0
+UnaskedNeverFail = (g : Given) (q : Report) (f : FollowsOrder g q) → ((t : ℕ) → t < g.script.targets → cuts_and_failures_in g q f t ≤ stop_lines_of t g.script.stops) → g.script.stops ≡ [] → NeverFails f.run
 
 -- Of two stores each tells what it keeps and the floor of its last opening, and both the same.
 pub record AreStoredAlike {S T : Type 0} (durable : S → Option Durable) (state : S → State) (other : T → Option Durable) (others : T → State) (xs : List S) (ys : List T) : Type 0 where
@@ -137,6 +143,12 @@ at-or_past : (n t : ℕ) → (t < n) ⊎ (n ≤ t)
 at-or_past n t = elim (cases_order t n) [
   | inl same ↦ inr (omega (arith, same))
   | inr other ↦ elim other [ inl less ↦ inl less | inr more ↦ inr (omega (arith, more)) ]
+]
+
+pub unasked-never_fail : UnaskedNeverFail
+unasked-never_fail g q f few none t = elim (at-or_past g.script.targets t) [
+  | inl low ↦ (let lines : stop_lines_of t g.script.stops ≡ 0 = ap (stop_lines_of t) none in let most = few t low in omega (arith, lines, most))
+  | inr past ↦ fails-none_beyond (rules_of g) f.first f.last t (orders-are-runs (rules_of g) g.job.order f.first f.last f.run) (λ v run. let m = runs-have_targets (rules_of g) g.opening f.first v f.begins run in omega (arith, m, past))
 ]
 
 none-more : (n fx bx fy by' : ℕ) → fy ≡ fx → by' ≡ bx → n + fx + bx ≤ fy + by' → n ≡ 0

@@ -2,7 +2,7 @@
 #![tactic(auto)]
 
 ghost use Rattle.run_determined.specs.Orders.{OrdersAreOne, UnfailedLeaveTold};
-ghost use Rattle.run_determined.specs.Reports.{ReportsAreOne, StoresBeginAlike, UnrisenNeverFail};
+ghost use Rattle.run_determined.specs.Reports.{ReportsAreOne, StoresBeginAlike, UnaskedNeverFail, UnrisenNeverFail};
 
 use vos_store::store::Store;
 
@@ -20,9 +20,11 @@ pub fn laws_of_repeated_runs()
 
 /// Says the same of the runs that reports follow: two reports of one script and one job, whatever blocks are free,
 /// tell the same lines, and targets keep the same in the end, where the runs begin with targets that are the same but
-/// for free blocks.
+/// for free blocks. Where in such a run no more turns of a target are cut, and no more of its openings fail, than the
+/// script has stop lines for it, nothing is cut or fails in a run of a script that has none.
 pub fn laws_of_repeated_reports()
     ensures lines { ReportsAreOne }
+    ensures unasked { UnaskedNeverFail }
 {}
 
 /// Says of runs over stores how that comes about. They begin with such targets where the stores are as many, and at

@@ -206,7 +206,7 @@ pub fn run_in_order<R: Wait, S: Fuse, C: Clock, G: Gate>(
     requires going { CanGo S.durable S.state S.may (stage_now stage) }
     requires few_clients { length stage.clients.items ≤ 65535 }
     ensures run { (r : Rules) (w : World) (o : Opening) → RunBegins r o w → AreDrawn w → ((found : ℕ → Durable) → Shows S.durable S.state r found (stage_now stage) w)
-        → IfOk result.2 (λ lines. HasRunWith S.durable S.state C.is_read C.next S.may r order w stage.targets.items (left_of result.0.items result.1 lines)) }
+        → IfOk result.2 (λ lines. HasRunWith S.durable S.state C.is_read C.next S.may r order w (stage_now stage) (left_of result.0.items result.1 lines)) }
     ensures broke { IfErr result.2 (λ error. Breaks S.durable S.state S.may (stage_now stage) result.0.items) }
     ensures served { AreServed S.durable S.state C.is_read stage.targets.items result.0.items }
     ensures accounts { (h : ℕ → State) (stops : List StopDecl) → AreAccounted S.durable S.state h stops (stage_now stage)

@@ -2,7 +2,7 @@
 pub use Rattle.run_laws.specs.ends.Armed.{armed-accounted, armed-first, before-fuse, fuses-serve, fuses-started, fuses-tell, states_of, told-fuse}
 pub use Rattle.run_laws.specs.ends.Arming.{AreArmed, AreUnfused, HaveFuses, lines_left}
 pub use Rattle.run_laws.specs.ends.Begun.{IsFirstWatch, can-go, first-drawn, first_stage, nothing, run-begins, shows-first}
-pub use Rattle.run_laws.specs.ends.Comes.{AreIssuedSince, BreaksOffSo, ClocksGave, AreClocksAt, ComesByClocks, ComesTo, FollowsOrder, HasClock, IsInRealTime, IsKeyed, IsLegal, IsOrdered, IsOutside, IsReportOfLines, IsSoundAgain, MayBeFound, StandsForAttempts, memory_at_first, report_with, AreIssuedThere, HasNoSnapshots}
+pub use Rattle.run_laws.specs.ends.Comes.{AreIssuedSince, BreaksOffSo, ClocksGave, AreClocksAt, ComesByClocks, ComesTo, FollowsOrder, HasClock, IsInRealTime, IsKeyed, IsLegal, IsOrdered, IsOutside, IsReportOfLines, IsSoundAgain, MayBeFound, StandsForAttempts, memory_at_first, report_with, AreIssuedThere, HasNoSnapshots, cuts_and_failures_in}
 pub use Rattle.run_laws.specs.ends.Ending.{HasEndedSo, comes-by_clocks, comes-to}
 pub use Rattle.run_laws.specs.ends.FuseLaws.{next-left}
 pub use Rattle.run_laws.specs.ends.Keeping.{all-tell, breaks-off}
@@ -11,7 +11,7 @@ pub use Rattle.run_laws.specs.ends.Lasts.{some-may_be, some_lasts}
 pub use Rattle.run_laws.specs.ends.Places.{from-map, one-there, same-lists}
 pub use Rattle.run_laws.specs.ends.Starts.{AllTell, AreFirst, BeginsSo, HasStarted, HaveStarted, first_world, given_by, or_empty, state_now, stores_of, target_state}
 pub use Rattle.run_laws.specs.reports.Reports.{AreTyped, HasTypedNumbers}
-pub use Rattle.run_laws.specs.shows.Accounts.{AreAccounted, AreServed, IsServed}
+pub use Rattle.run_laws.specs.shows.Accounts.{AreAccounted, AreServed, AtMostRises, IsServed, stop_lines_of}
 pub use Rattle.run_laws.specs.shows.Asked.{AllTellInOrder, CameInOrder, TellsInOrder}
 pub use Rattle.run_laws.specs.shows.Beginning.{RunBegins}
 pub use Rattle.run_laws.specs.shows.CanGo.{CanGo}

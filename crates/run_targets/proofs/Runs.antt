@@ -124,11 +124,11 @@ module _ {S C Z : Type 0} (durable : S → Option Durable) (state : S → State)
       armed-told = fuses-tell durable state may v.items armed fuses.fuses told
 
       module _ {E : Type 0} (ran : Result (List Line) E) (found-lines : List Line) (is : ran ≡ Ok found-lines) where
-        has-run : ((r : Rules) (first : World) (p : Opening) → RunBegins r p first → AreDrawn first → ((found : ℕ → Durable) → Shows durable state r found stage first) → IfOk ran (λ ls. HasRunWith durable state is_read next_reading may r j.order first stage.targets (left_of rest.items in_the_end ls)))
-            → HasRunWith durable state is_read next_reading may (rules_of (given_by s j o)) j.order (first_world durable state cs armed) armed (left_of rest.items in_the_end found-lines)
+        has-run : ((r : Rules) (first : World) (p : Opening) → RunBegins r p first → AreDrawn first → ((found : ℕ → Durable) → Shows durable state r found stage first) → IfOk ran (λ ls. HasRunWith durable state is_read next_reading may r j.order first stage (left_of rest.items in_the_end ls)))
+            → HasRunWith durable state is_read next_reading may (rules_of (given_by s j o)) j.order (first_world durable state cs armed) (first_stage cs armed now) (left_of rest.items in_the_end found-lines)
         has-run run =
-            subst (λ zs. HasRunWith durable state is_read next_reading may (rules_of (given_by s j o)) j.order (first_world durable state cs armed) zs (left_of rest.items in_the_end found-lines)) put
-            (subst (λ z. IfOk z (λ ls. HasRunWith durable state is_read next_reading may (rules_of (given_by s j o)) j.order (first_world durable state cs armed) stage.targets (left_of rest.items in_the_end ls))) is
+            subst (λ a. HasRunWith durable state is_read next_reading may (rules_of (given_by s j o)) j.order (first_world durable state cs armed) a (left_of rest.items in_the_end found-lines)) stage-is
+            (subst (λ z. IfOk z (λ ls. HasRunWith durable state is_read next_reading may (rules_of (given_by s j o)) j.order (first_world durable state cs armed) stage (left_of rest.items in_the_end ls))) is
             (run (rules_of (given_by s j o)) (first_world durable state cs armed) o (run-begins durable state (given_by s j o) cs armed (begins o started) armed-told) (first-drawn durable state (given_by s j o) cs armed (begins o started))
             (λ found. subst (λ a. Shows durable state (rules_of (given_by s j o)) found a (first_world durable state cs armed)) (sym stage-is) (shows-first durable state (given_by s j o) cs armed (begins o started) armed-told now is-first found))))
 
@@ -137,7 +137,7 @@ module _ {S C Z : Type 0} (durable : S → Option Durable) (state : S → State)
             subst (λ z. IfOk z (λ ls. AreAccounted durable state (states_of state v.items) s.stops (left_of rest.items in_the_end ls))) is
             (accounts (states_of state v.items) s.stops (subst (AreAccounted durable state (states_of state v.items) s.stops) (sym stage-is) (armed-accounted durable state may s.stops s.targets cs v.items armed now fuses)))
 
-        has-ended : ((r : Rules) (first : World) (p : Opening) → RunBegins r p first → AreDrawn first → ((found : ℕ → Durable) → Shows durable state r found stage first) → IfOk ran (λ ls. HasRunWith durable state is_read next_reading may r j.order first stage.targets (left_of rest.items in_the_end ls)))
+        has-ended : ((r : Rules) (first : World) (p : Opening) → RunBegins r p first → AreDrawn first → ((found : ℕ → Durable) → Shows durable state r found stage first) → IfOk ran (λ ls. HasRunWith durable state is_read next_reading may r j.order first stage (left_of rest.items in_the_end ls)))
             → ((h : ℕ → State) (some : List StopDecl) → AreAccounted durable state h some stage → IfOk ran (λ ls. AreAccounted durable state h some (left_of rest.items in_the_end ls)))
             → IfOk ran (λ ls. AllCanReopen durable state may rest.items) → HasEndedSo durable state may is_read next_reading (given_by s j o) cs v.items ys found-lines
         has-ended run accounts reopens = record {
@@ -155,7 +155,7 @@ module _ {S C Z : Type 0} (durable : S → Option Durable) (state : S → State)
 
         -- the run came to that
         pub comes : AreSteady durable state may → AreFindable durable may → AreAlike durable
-            → ((r : Rules) (first : World) (p : Opening) → RunBegins r p first → AreDrawn first → ((found : ℕ → Durable) → Shows durable state r found stage first) → IfOk ran (λ ls. HasRunWith durable state is_read next_reading may r j.order first stage.targets (left_of rest.items in_the_end ls)))
+            → ((r : Rules) (first : World) (p : Opening) → RunBegins r p first → AreDrawn first → ((found : ℕ → Durable) → Shows durable state r found stage first) → IfOk ran (λ ls. HasRunWith durable state is_read next_reading may r j.order first stage (left_of rest.items in_the_end ls)))
             → ((h : ℕ → State) (some : List StopDecl) → AreAccounted durable state h some stage → IfOk ran (λ ls. AreAccounted durable state h some (left_of rest.items in_the_end ls)))
             → IfOk ran (λ ls. AllCanReopen durable state may rest.items) → (q : Report) → q ≡ report_with s found-lines → AreTyped found-lines → ComesTo durable state may (given_by s j o) (stores_of v.items) (stores_of (with_items rest ys).items) q
         comes steady findable alike run accounts reopens q report typed =
@@ -165,7 +165,7 @@ module _ {S C Z : Type 0} (durable : S → Option Durable) (state : S → State)
 
         -- and the clocks gave the readings of that run
         pub comes-read : AreSteady durable state may → AreFindable durable may → AreAlike durable
-            → ((r : Rules) (first : World) (p : Opening) → RunBegins r p first → AreDrawn first → ((found : ℕ → Durable) → Shows durable state r found stage first) → IfOk ran (λ ls. HasRunWith durable state is_read next_reading may r j.order first stage.targets (left_of rest.items in_the_end ls)))
+            → ((r : Rules) (first : World) (p : Opening) → RunBegins r p first → AreDrawn first → ((found : ℕ → Durable) → Shows durable state r found stage first) → IfOk ran (λ ls. HasRunWith durable state is_read next_reading may r j.order first stage (left_of rest.items in_the_end ls)))
             → ((h : ℕ → State) (some : List StopDecl) → AreAccounted durable state h some stage → IfOk ran (λ ls. AreAccounted durable state h some (left_of rest.items in_the_end ls)))
             → IfOk ran (λ ls. AllCanReopen durable state may rest.items) → (q : Report) → q ≡ report_with s found-lines → AreTyped found-lines → ComesByClocks durable state may is_read next_reading (given_by s j o) v.items (with_items rest ys).items q
         comes-read steady findable alike run accounts reopens q report typed =

@@ -121,11 +121,21 @@ module _ {S C : Type 0} (durable : S → Option Durable) (state : S → State) (
 
   -- ---- how often targets stopped
 
-  -- Nothing is told of stops yet, and each fuse that is set is of a stop line that is no more to come.
+  -- each fuse that is set is of a stop line that is no more to come
+  pub armed-lines : (stops : List StopDecl) (targets : ℕ) (xs ys : List (TargetOf S C)) (v : WatchNow) → AreArmed durable state may xs ys (first_watch targets stops) v → (t : ℕ) (y : TargetOf S C) → slice_get ys t ≡ Some y → (state y.store).tells_fuse ≡ true
+      → stop_lines_of t v.stops + one_if (state y.store).fused ≤ stop_lines_of t stops
+  armed-lines stops targets xs ys v k t y there tells =
+      let x = before-fuse xs ys k.fuses t y there in
+      let set : one_if (state y.store).fused ≡ one_if (nat_lt 0 (next_fuse t stops)) = ap one_if (told-fuse (next_fuse t stops) x.0 y (k.fuses.each t x.0 y x.1 there) tells) in
+      let left : stop_lines_of t v.stops ≡ stop_lines_of t (lines_left (length xs) stops) = ap (λ w. stop_lines_of t w.stops) k.watch in
+      let few = taken-left (length xs) t stops (slice_get_within xs t x.0 x.1) in
+      omega (arith, set, left, few)
+
+  -- Nothing is told of stops yet.
   pub armed-accounted : (stops : List StopDecl) (targets : ℕ) (cs : List ClientNow) (xs ys : List (TargetOf S C)) (v : WatchNow) → AreArmed durable state may xs ys (first_watch targets stops) v
       → AreAccounted durable state (states_of state xs) stops (first_stage cs ys v)
   armed-accounted stops targets cs xs ys v k t y there told = record {
-    stopped = λ tells. (let few = taken (fuse-same ∙ tells) in inr (omega (arith, few, same)));
+    stopped = λ tells. (let few = armed-lines stops targets xs ys v k t y there (fuse-same ∙ tells) in inr (omega (arith, few, same)));
     failed = λ n at. let none : n ≡ 0 = replicate-at targets t 0 n (ap (λ w. slice_get w.faults t) (sym k.watch) ∙ at) in inr (low n (states_of state xs t).faults (state y.store).faults none same);
     down = λ i. absurd (has-from_contains [] t i);
     told = fuse-same;
@@ -135,15 +145,6 @@ module _ {S C : Type 0} (durable : S → Option Durable) (state : S → State) (
       fuse-same =
           let x = before-fuse xs ys k.fuses t y there in
           ap (λ z. z.tells_fuse) (k.fuses.each t x.0 y x.1 there).state_is.rest ∙ ap (λ z. z.tells_fuse) (sym (state-at state xs t x.0 x.1))
-
-      -- its fuse is of a stop line that is no more to come
-      taken : (state y.store).tells_fuse ≡ true → stop_lines_of t v.stops + one_if (state y.store).fused ≤ stop_lines_of t stops
-      taken tells =
-          let x = before-fuse xs ys k.fuses t y there in
-          let set : one_if (state y.store).fused ≡ one_if (nat_lt 0 (next_fuse t stops)) = ap one_if (told-fuse (next_fuse t stops) x.0 y (k.fuses.each t x.0 y x.1 there) tells) in
-          let left : stop_lines_of t v.stops ≡ stop_lines_of t (lines_left (length xs) stops) = ap (λ w. stop_lines_of t w.stops) k.watch in
-          let few = taken-left (length xs) t stops (slice_get_within xs t x.0 x.1) in
-          omega (arith, set, left, few)
 
       same : (state y.store).faults ≡ (states_of state xs t).faults
       same =

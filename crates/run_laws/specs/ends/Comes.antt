@@ -18,7 +18,7 @@ use Rattle.model_lone.specs.Only.{TellsOfOnlyClient}
 use Rattle.model_reports.specs.Lone.{HasOneClient}
 use Rattle.report_writer.specs.Forms.{IsReportOf}
 pub use Rattle.run_opening.specs.All.{AreKept, MayBeFound}
-use Rattle.run_laws.specs.shows.Accounts.{AtMostBothRise}
+use Rattle.run_laws.specs.shows.Accounts.{AtMostBothRise, AtMostRises, stop_lines_of}
 use Rattle.run_laws.specs.steps.Ended.{CanReopen}
 use Rattle.run_laws.specs.turns.Faults.{cuts_and_failures}
 use Rattle.run_laws.specs.turns.OrderLaws.{orders-are-runs}
@@ -134,6 +134,10 @@ pub record FollowsOrder (g : Given) (q : Report) : Type 0 where
   pub run : InOrder (rules_of g) g.job.order first last
   pub lines : q.lines ≡ last.lines
 
+-- how often in that run a target's turn was cut, or its opening failed
+abbrev pub cuts_and_failures_in : (g : Given) (q : Report) → FollowsOrder g q → ℕ → ℕ
+cuts_and_failures_in g q f t = cuts_and_failures t (orders-are-runs (rules_of g) g.job.order f.first f.last f.run)
+
 -- what a target remembers that keeps this, and has just opened: its ticks begin at the lease, and nothing else is there
 abbrev pub memory_at_first : Durable → TargetMemory
 memory_at_first d = record { ticks = d.lease; stamps = []; leader = no_leading; member = no_joining; collecting = [] }
@@ -144,12 +148,14 @@ pub record IsAsStored {S : Type 0} (durable : S → Option Durable) (state : S �
   pub as_it_is : s ≡ record { durable = s.durable; free = (state x).free; opening = (state x).opening; life = Running; memory = memory_at_first s.durable }
 
 -- That run begins with the targets over these stores, as they are, and the next openings of their stores may find what the targets keep in the end.
--- Of each target no more turns were cut in it, and no more openings failed, than the counts of its store rose together.
+-- Of each target no more turns were cut in it, and no more openings failed, than the counts of its store rose together; and where the store tells its fuse,
+-- no more than the script has stop lines for the target and faults of the store rose together.
 pub record IsOrdered {S : Type 0} (durable : S → Option Durable) (state : S → State) (may : S → Durable → Type 0) (g : Given) (q : Report) (xs ys : List S) : Type 0 where
   pub follows : FollowsOrder g q
   pub begins : (t : ℕ) (x : S) (s : TargetState) → slice_get xs t ≡ Some x → slice_get follows.first.targets t ≡ Some s → IsAsStored durable state x s
   pub kept : MayBeFound may ys (durables_of follows.last)
-  pub faults : (t : ℕ) (x y : S) → slice_get xs t ≡ Some x → slice_get ys t ≡ Some y → AtMostBothRise (cuts_and_failures t (orders-are-runs (rules_of g) g.job.order follows.first follows.last follows.run)) (state x) (state y)
+  pub faults : (t : ℕ) (x y : S) → slice_get xs t ≡ Some x → slice_get ys t ≡ Some y → AtMostBothRise (cuts_and_failures_in g q follows t) (state x) (state y)
+  pub by_lines : (t : ℕ) (x y : S) → slice_get xs t ≡ Some x → slice_get ys t ≡ Some y → (state x).tells_fuse ≡ true → AtMostRises (cuts_and_failures_in g q follows t) (stop_lines_of t g.script.stops) (state x).faults (state y).faults
 
 -- In the run that a report follows each of these clocks, by the number of a target, gave just the readings at which that target's events issued
 -- epochs, or found that none are left: one after another, each where it is the clock's next one, if that is told, and no others.
@@ -199,7 +205,8 @@ IsInRealTime g q = KeepsTheBound g.script g.job.epsilon q.lines → AreExternall
 -- one of the targets issued each epoch of which it tells, but for those of snapshots of earlier runs, and so all where there are none; conflicting committed attempts have epochs in the order of real time where clocks
 -- keep the bound; stores of targets that weren't given up run, and nothing is left to settle there; the only client of a script is never told to
 -- restart where no line tells of a stop; what is kept is sound again, and may be opened again; and the report tells of the turns in the order asked,
--- from where the targets are just as they are stored; and no more turns of a target were cut, and openings failed, than counts of its store rose.
+-- from where the targets are just as they are stored; and no more turns of a target were cut, and openings failed, than counts of its store rose, nor,
+-- where its fuse is told, than there are stop lines for it and failures of the outside.
 pub record ComesTo {S : Type 0} (durable : S → Option Durable) (state : S → State) (may : S → Durable → Type 0) (g : Given) (xs ys : List S) (q : Report) : Type 0 where
   pub stand : (lasts : List Durable) (o : Outside) → MayBeFound may ys lasts → IsOutside state o xs ys → HeadlineOver g o lasts q
   pub form : IsKeyed g → IsReportOf g.script q

@@ -1,6 +1,6 @@
 -- What a run of clients and targets has come to where it has ended.
-use Rattle.std.specs.Prelude.{ℕ, ◌≡◌, ◌⊎◌, true, false, filter, List, All, Contains, length, slice_get, Option, Some, None, is_some, refl, []}
-use Rattle.std.proofs.Common.{inl, inr, sym, ◌∙◌, ap, subst}
+use Rattle.std.specs.Prelude.{ℕ, ◌≡◌, ◌+◌, ◌⊎◌, true, false, filter, List, All, Contains, length, slice_get, Option, Some, None, is_some, refl, []}
+use Rattle.std.proofs.Common.{inl, inr, sym, ◌∙◌, ap, subst, arith}
 use Rattle.base_types.specs.declared.entry.Entry.{Entry}
 use Rattle.base_types.specs.declared.id.AttemptId.{AttemptId}
 use Rattle.base_types.specs.declared.report.Line.{Line}
@@ -29,8 +29,8 @@ use Rattle.run_laws.specs.reports.Legal.{orders-are-legal}
 use Rattle.run_laws.specs.reports.Reports.{AreIssuedSince, AreTyped, EndsPlainlyIn, GoesInOrder, IsKeyed, IsSettledOrLeft, LeavesInTheEnd}
 use Rattle.run_laws.specs.reports.Unknown.{down-among}
 use Rattle.run_laws.specs.reports.Unstopped.{unstopped-end-plainly}
-use Rattle.run_laws.specs.shows.Accounting.{same-rises}
-use Rattle.run_laws.specs.shows.Accounts.{AreAccounted, AtMostBothRise}
+use Rattle.run_laws.specs.shows.Accounting.{same-rises, weaker-rises}
+use Rattle.run_laws.specs.shows.Accounts.{AreAccounted, AtMostBothRise, AtMostRises, one_if, stop_lines_of}
 use Rattle.run_laws.specs.shows.Going.{AreAlike, AreFindable, AreSteady}
 use Rattle.run_laws.specs.shows.ListLaws.{map-get}
 use Rattle.run_laws.specs.shows.Parts.{at-both}
@@ -55,9 +55,9 @@ use Rattle.world_closing.specs.Rules.{rules_of}
 use Rattle.world_order.specs.Runs.{all-runs-are_consistent}
 use Rattle.world_letters.specs.lives.Legal.{AreCaused}
 use Rattle.world_closing.specs.Below.{no_joining, no_leading}
-use Rattle.run_laws.specs.ends.Armed.{before-fuse, fuses-started, fuses-tell, states_of}
+use Rattle.run_laws.specs.ends.Armed.{armed-lines, before-fuse, fuses-started, fuses-tell, states_of}
 use Rattle.run_laws.specs.ends.Arming.{AreArmed, AreUnfused}
-use Rattle.run_laws.specs.ends.Begun.{told-is}
+use Rattle.run_laws.specs.ends.Begun.{first_stage, told-is}
 use Rattle.run_laws.specs.ends.Caused.{end-caused, stops-caused}
 use Rattle.run_laws.specs.ends.Comes.{AreIssuedThere, AreKept, ComesByClocks, ComesTo, EndsUnstopped, IsAsStored, IsCommittedIn, IsOrdered, IsOutside, IsSoundAgain, LacksMember, LeavesReopenable, MayBeFound, StandPlainly, memory_at_first, report_with}
 use Rattle.run_laws.specs.ends.Keeping.{all-tell, first-keeps, none-created, sound-again, stands-so}
@@ -94,7 +94,7 @@ module _ {S C : Type 0} (durable : S → Option Durable) (state : S → State) (
     pub fuses : AreArmed durable state may xs armed (first_watch g.script.targets g.script.stops) at_first
     pub rest : List (TargetOf S C)
     pub in_the_end : WatchNow
-    pub run : HasRunWith durable state is_read next_reading may (rules_of g) g.job.order (first_world durable state cs armed) armed (left_of rest in_the_end lines)
+    pub run : HasRunWith durable state is_read next_reading may (rules_of g) g.job.order (first_world durable state cs armed) (first_stage cs armed at_first) (left_of rest in_the_end lines)
     pub accounted : AreAccounted durable state (states_of state xs) g.script.stops (left_of rest in_the_end lines)
     pub many : length rest ≡ length armed
     pub reopens : AllCanReopen durable state may rest
@@ -107,6 +107,9 @@ module _ {S C : Type 0} (durable : S → Option Durable) (state : S → State) (
 
     abbrev first : World
     first = first_world durable state cs e.armed
+
+    abbrev start : StageNow S C
+    start = first_stage cs e.armed e.at_first
 
     abbrev left : StageNow S C
     left = left_of e.rest e.in_the_end lines
@@ -125,7 +128,7 @@ module _ {S C : Type 0} (durable : S → Option Durable) (state : S → State) (
 
     module _ (lasts : List Durable) (m : MayBeFound may (stores_of ys) lasts) where
       -- a run ended in a world that keeps this
-      run : HasRun durable state is_read next_reading r g.job.order first e.armed (found_at lasts) left
+      run : HasRun durable state is_read next_reading r g.job.order first start (found_at lasts) left
       run = e.run (found_at lasts) (are-found durable state may steady e.rest ys e.in_the_end lines e.unfused lasts m)
 
       abbrev last : World
@@ -345,6 +348,21 @@ module _ {S C : Type 0} (durable : S → Option Durable) (state : S → State) (
           same-rises (cuts_and_failures t (orders-are-runs r g.job.order first last run.run)) (state a.0.store) (state x) (state b.0.store) (state y) (ap (λ s. (state s).faults) p.is ∙ sym (ap (λ h. h.faults) set')) (ap (λ s. (state s).burns) p.is ∙ sym (ap (λ h. h.burns) set'))
           (ap (λ s. (state s).faults) q.is ∙ ap (λ h. h.faults) gone) (ap (λ s. (state s).burns) q.is ∙ ap (λ h. h.burns) gone) (run.faults t a.0 b.0 a.1 b.1)
 
+      -- and where a store tells its fuse, no more than there are stop lines and failures of the outside: each fuse was of a stop line
+      by-lines : (t : ℕ) (x y : S) → slice_get (stores_of xs) t ≡ Some x → slice_get (stores_of ys) t ≡ Some y → (state x).tells_fuse ≡ true → AtMostRises (cuts_and_failures t (orders-are-runs r g.job.order first last run.run)) (stop_lines_of t g.script.stops) (state x).faults (state y).faults
+      by-lines t x y at there tells =
+          let p = from-map (λ z. z.store) xs t x at in
+          let a = at-both xs e.armed t p.of_it e.fuses.fuses.many p.at in
+          let set' = (e.fuses.fuses.each t p.of_it a.0 p.at a.1).state_is.rest in
+          let q = from-map (λ z. z.store) ys t y there in
+          let b = before-fuse durable state may e.rest ys e.unfused t q.of_it q.at in
+          let gone = (e.unfused.each t b.0 q.of_it b.1 q.at).state_is.rest in
+          let told : (state a.0.store).tells_fuse ≡ true = ap (λ h. h.tells_fuse) set' ∙ ap (λ s. (state s).tells_fuse) (sym p.is) ∙ tells in
+          weaker-rises (cuts_and_failures t (orders-are-runs r g.job.order first last run.run) + stop_lines_of t e.in_the_end.stops + one_if (state b.0.store).fused) (cuts_and_failures t (orders-are-runs r g.job.order first last run.run))
+          (stop_lines_of t e.at_first.stops + one_if (state a.0.store).fused) (stop_lines_of t g.script.stops) (state a.0.store).faults (state x).faults (state b.0.store).faults (state y).faults (omega arith)
+          (armed-lines durable state may g.script.stops g.script.targets xs e.armed e.at_first e.fuses t a.0 a.1 told) (ap (λ s. (state s).faults) p.is ∙ sym (ap (λ h. h.faults) set')) (ap (λ s. (state s).faults) q.is ∙ ap (λ h. h.faults) gone)
+          (run.by_lines t a.0 b.0 a.1 b.1 told)
+
       -- ---- a run after this one
 
       leaves-sound : (F : List Durable) → AreKept durable (stores_of xs) F → Sound F → IsSoundAgain lasts
@@ -358,6 +376,7 @@ module _ {S C : Type 0} (durable : S → Option Durable) (state : S → State) (
         begins = as-stored;
         kept = subst (MayBeFound may (stores_of ys)) (sym keeps) m;
         faults = within-rises;
+        by_lines = by-lines;
       }
 
       -- the clocks gave what they gave, whatever fuses were set

@@ -69,7 +69,7 @@ module _ {S C : Type 0} (durable : S → Option Durable) (state : S → State) (
           subst (may x.store) (ap or_empty (sym d.1)) d.2
 
       -- so the last world keeps that
-      module _ (is_read : C → C → Type 0) (next_reading : C → Option ℕ) (r : Rules) (order : ℕ) (first : World) {starts : List (TargetOf S C)} (run : HasRun durable state is_read next_reading r order first starts (found_at lasts) left) where
+      module _ (is_read : C → C → Type 0) (next_reading : C → Option ℕ) (r : Rules) (order : ℕ) (first : World) {start : StageNow S C} (run : HasRun durable state is_read next_reading r order first start (found_at lasts) left) where
         lives-there : (t : ℕ) (s : TargetState) → slice_get run.last.targets t ≡ Some s → slice_get watch.lives t ≡ Some s.life
         lives-there t s here = ap (λ ls. slice_get ls t) (sym run.lives) ∙ map-get (λ z. z.life) run.last.targets t s here
 

@@ -68,6 +68,11 @@ one-rise m n more before now later fewer rose k = by (nat_lt now later) refl
         last : min (now + 1) (2 ^ 64 - 1) ≤ later → later ≤ now → AtMostRises n more before later
         last low flat = inl (omega (arith, low, flat))
 
+-- it is so of as many or fewer, of as many or more, and of a store with the same counts
+pub weaker-rises : (m n few many before before' now now' : ℕ) → n ≤ m → few ≤ many → before' ≡ before → now' ≡ now → AtMostRises m few before now → AtMostRises n many before' now'
+weaker-rises m n few many before before' now now' fewer more b c (inl last) = inl (omega (arith, last, c))
+weaker-rises m n few many before before' now now' fewer more b c (inr k) = inr (omega (arith, k, fewer, more, b, c))
+
 -- ---- both counts
 
 -- none happened
@@ -98,6 +103,17 @@ rise-then m n both before middle now sum faults burns (inr (inl last)) l = inr (
 rise-then m n both before middle now sum faults burns (inr (inr k)) (inl last) = inl last
 rise-then m n both before middle now sum faults burns (inr (inr k)) (inr (inl last)) = inr (inl last)
 rise-then m n both before middle now sum faults burns (inr (inr k)) (inr (inr l)) = inr (inr (omega (arith, sum, k, l)))
+
+-- none came of stop lines or of the outside
+pub lines-none : (n l f now : ℕ) → n ≡ 0 → AtMostRises (n + l + f) (l + f) now now
+lines-none n l f now none = inr (omega (arith, none))
+
+-- Some came of stop lines and of the outside, and then others: so did both. Of the lines l are to come at first and q in the end, and of fuses f is set at
+-- first and p in the end.
+pub lines-then : (m n both l f k e q p before middle now : ℕ) → both ≡ m + n → middle ≤ now → AtMostRises (m + k + e) (l + f) before middle → AtMostRises (n + q + p) (k + e) middle now → AtMostRises (both + q + p) (l + f) before now
+lines-then m n both l f k e q p before middle now sum up (inl last) z = inl (omega (arith, last, up))
+lines-then m n both l f k e q p before middle now sum up (inr j) (inl last) = inl last
+lines-then m n both l f k e q p before middle now sum up (inr j) (inr z) = inr (omega (arith, sum, j, z))
 
 -- ---- fuses
 

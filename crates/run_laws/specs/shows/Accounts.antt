@@ -54,6 +54,12 @@ AreWithinRises {S} {C} state n xs ys = (t : ℕ) (x y : TargetOf S C) → slice_
 abbrev pub stop_lines_of : ℕ → List StopDecl → ℕ
 stop_lines_of t stops = length (filter (is_stop_at t) stops)
 
+-- Of each target so many, as these numbers say, came of its stop lines and of the outside, where its fuse is told: with the stop lines that are to come,
+-- and that of the fuse that is set, they are no more than these were before and the faults of its store rose.
+abbrev pub AreOfStopLines : {S C : Type 0} → (S → State) → (ℕ → ℕ) → StageNow S C → StageNow S C → Type 0
+AreOfStopLines {S} {C} state n a b = (t : ℕ) (x y : TargetOf S C) → slice_get a.targets t ≡ Some x → slice_get b.targets t ≡ Some y → (state x.store).tells_fuse ≡ true
+    → AtMostRises (n t + stop_lines_of t b.watch.stops + one_if (state y.store).fused) (stop_lines_of t a.watch.stops + one_if (state x.store).fused) (state x.store).faults (state y.store).faults
+
 -- What is told of the stops of a target, where its store tells what it keeps, and said h of itself before: where its fuse is told, it stopped as
 -- often at most as fuses of its stop lines fired and the outside failed it; the outside failed it in as many turns as are counted, and where it was
 -- given up in nine.

@@ -1,6 +1,5 @@
 -- What a part of a turn leaves of a target and of what lies between actors.
-use Rattle.std.specs.Prelude.{ℕ, ◌≡◌, ◌≤◌, ◌<◌, ◌^◌, ◌++◌, ◌∷◌, Bool, true, false, List, [], filter, map, slice_get, slice_set, Option, Some, None, Result}
-use Rattle.base_messages.specs.declared.actor.ActorId.{ActorId}
+use Rattle.std.specs.Prelude.{ℕ, ◌≡◌, ◌≤◌, ◌<◌, ◌^◌, Bool, true, false, List, slice_get, slice_set, Option, Some, None, Result}
 use Rattle.base_types.specs.declared.epoch.Epoch.{Epoch}
 use Rattle.base_types.specs.declared.id.AttemptId.{AttemptId}
 use Rattle.base_types.specs.declared.report.Line.{Line}

@@ -42,7 +42,7 @@ module _ {S C : Type 0} (durable : S → Option Durable) (state : S → State) (
 
   -- some turns, and then it broke off
   pub goes-then_breaks : (way : Way) (a b : StageNow S C) (xs : List (TargetOf S C)) → IsRun way → GoesOn durable state may is_read next_reading way a b → Breaks durable state may b xs → Breaks durable state may a xs
-  goes-then_breaks way a b xs runs k broke tell r = breaks-then durable state may steady (GoesWithin state is_read next_reading way r a.targets b.targets) r a b xs (λ w v turn. runs r w v turn.goes) (k.led tell r) (broke tell r)
+  goes-then_breaks way a b xs runs k broke tell r = breaks-then durable state may steady (GoesWithin state is_read next_reading way r a b) r a b xs (λ w v turn. runs r w v turn.goes) (k.led tell r) (broke tell r)
 
   pub goes-then_breaks-err : {T E : Type 0} (way : Way) (a b : StageNow S C) (xs : List (TargetOf S C)) (result : Result T E) → IsRun way → GoesOn durable state may is_read next_reading way a b → OnErr result (Breaks durable state may b xs)
       → OnErr result (Breaks durable state may a xs)
@@ -61,14 +61,14 @@ module _ {S C : Type 0} (durable : S → Option Durable) (state : S → State) (
   -- ---- in a target's turn
 
   module _ (findable : AreFindable durable may) (alike : AreAlike durable) (a : StageNow S C) (can : CanGo durable state may a) (settling : Bool) (t number : ℕ) (tell : AllTell durable) (r : Rules) where
-    turns-go : (b : StageNow S C) → GoesOnRuns (GoesWithin state is_read next_reading (turn_of settling (target t) number) r a.targets b.targets) r
+    turns-go : (b : StageNow S C) → GoesOnRuns (GoesWithin state is_read next_reading (turn_of settling (target t) number) r a b) r
     turns-go b w v turn = turn-runs-on settling r (target t) number w v turn.goes
 
     faults-go : (raised : ℕ) (stops : Option ℕ) (read : Option (ℕ × ℕ)) → GoesOnRuns (FaultBy r t settling number raised stops read) r
     faults-go raised stops read w v by = act-runs-on settling r (target t) number w v by.0
 
     after-turn : (b : StageNow S C) → GoesOn durable state may is_read next_reading (turn_of settling (target t) number) a b → BreaksOff durable state may r a b.targets
-    after-turn b goes = breaks-after durable state may steady (GoesWithin state is_read next_reading (turn_of settling (target t) number) r a.targets b.targets) r a b (turns-go b) (goes.led tell r)
+    after-turn b goes = breaks-after durable state may steady (GoesWithin state is_read next_reading (turn_of settling (target t) number) r a b) r a b (turns-go b) (goes.led tell r)
 
     -- a store that tells what it keeps meets no foreign byte
     none-foreign : (x y : TargetOf S C) (left : _) (at byte : ℕ) → IsTurned durable state may settling t number x y a.between left (Err (stop.Foreign at byte)) → ⊥

@@ -12,7 +12,7 @@ use Rattle.daos_model.specs.Opening.{Opening}
 use Rattle.run_base.specs.Picks.{due}
 use Rattle.run_base.specs.Sweeps.{lives_of}
 use Rattle.model_laws.specs.Lists.{at-within}
-use Rattle.run_laws.specs.shows.Accounts.{AreAccounted, AreWithinRises, AtMostBothRise}
+use Rattle.run_laws.specs.shows.Accounts.{AreAccounted, AreOfStopLines, AreWithinRises, AtMostBothRise, AtMostRises, one_if, stop_lines_of}
 use Rattle.run_laws.specs.shows.CanGo.{CanGo}
 use Rattle.run_laws.specs.shows.Going.{AreAlike, AreSteady}
 use Rattle.run_laws.specs.shows.ListLaws.{map-get}
@@ -56,9 +56,10 @@ left_of xs watch lines = record { clients = []; targets = xs; watch = watch; bet
 
 module _ {S C : Type 0} (durable : S → Option Durable) (state : S → State) (is_read : C → C → Type 0) (next_reading : C → Option ℕ) where
   -- A run in this order, from a world, has ended in one in which no actor has anything to do; what it left are its targets, how they stand, and
-  -- its lines, where stores of targets that don't run would be found so. It began with the first targets; and of each target no more turns were cut, and
-  -- no more openings failed, than counts of its store rose in it; and its clock gave the readings at which it issued epochs, and no others.
-  pub record HasRun (r : Rules) (order : ℕ) (first : World) (xs : List (TargetOf S C)) (found : ℕ → Durable) (left : StageNow S C) : Type 0 where
+  -- its lines, where stores of targets that don't run would be found so. It began with the actors at first; and of each target no more turns were cut, and
+  -- no more openings failed, than counts of its store rose in it, each by a stop line or by the outside; and its clock gave the readings at which it
+  -- issued epochs, and no others.
+  pub record HasRun (r : Rules) (order : ℕ) (first : World) (start : StageNow S C) (found : ℕ → Durable) (left : StageNow S C) : Type 0 where
     pub last : World
     pub run : InOrder r order first last
     pub quiet : due true r last ≡ []
@@ -68,16 +69,17 @@ module _ {S C : Type 0} (durable : S → Option Durable) (state : S → State) (
     pub lives : lives_of last ≡ left.watch.lives
     pub targets : (t : ℕ) (x : TargetOf S C) (life : Life) (s : TargetState) → IsPlace left t x life → slice_get last.targets t ≡ Some s → IsTargetOf durable state (target_plan r t) life (found t) x s
     pub restarts : last.numbers.restarts ≡ left.watch.restarts
-    pub faults : AreWithinRises state (λ t. cuts_and_failures t (orders-are-runs r order first last run)) xs left.targets
-    pub clocks : HaveGiven is_read next_reading xs left.targets Begins (orders-are-runs r order first last run)
+    pub faults : AreWithinRises state (λ t. cuts_and_failures t (orders-are-runs r order first last run)) start.targets left.targets
+    pub by_lines : AreOfStopLines state (λ t. cuts_and_failures t (orders-are-runs r order first last run)) start left
+    pub clocks : HaveGiven is_read next_reading start.targets left.targets Begins (orders-are-runs r order first last run)
 
   -- whatever these stores would be found with, a run has ended so
-  abbrev pub HasRunWith : (S → Durable → Type 0) → Rules → ℕ → World → List (TargetOf S C) → StageNow S C → Type 0
-  HasRunWith may r order first xs left = (found : ℕ → Durable) → AreFound may left found → HasRun r order first xs found left
+  abbrev pub HasRunWith : (S → Durable → Type 0) → Rules → ℕ → World → StageNow S C → StageNow S C → Type 0
+  HasRunWith may r order first start left = (found : ℕ → Durable) → AreFound may left found → HasRun r order first start found left
 
   -- where the actors of a begun run came in order to where none has anything to do, it has run
-  pub has-run : AreAlike durable → (may : S → Durable → Type 0) (r : Rules) (order : ℕ) (w : World) (o : Opening) (a b : StageNow S C) → RunBegins r o w → AreDrawn w → ((found : ℕ → Durable) → Shows durable state r found a w) → (AllTell durable → Leads durable state may (GoesWithin state is_read next_reading (in_order order) r a.targets b.targets) r a b)
-      → HasRunWith may r order w a.targets (left_of b.targets b.watch b.between.lines)
+  pub has-run : AreAlike durable → (may : S → Durable → Type 0) (r : Rules) (order : ℕ) (w : World) (o : Opening) (a b : StageNow S C) → RunBegins r o w → AreDrawn w → ((found : ℕ → Durable) → Shows durable state r found a w) → (AllTell durable → Leads durable state may (GoesWithin state is_read next_reading (in_order order) r a b) r a b)
+      → HasRunWith may r order w a (left_of b.targets b.watch b.between.lines)
   unfolding orders-are-runs
   has-run alike may r order w o a b begins drawn shows leads found are =
       let m = leads (begun-tell durable state alike r o w found a begins (shows found)) found (λ t x life place rests. are t x life (record { there = place.there; stands = place.stands }) rests) in
@@ -94,6 +96,7 @@ module _ {S C : Type 0} (durable : S → Option Durable) (state : S → State) (
         restarts = x.shows.restarts;
         clocks = λ t y z at there c given. x.turn.clocks w Begins t y z at there c given;
         faults = λ t y z at there. subst (λ n. AtMostBothRise n (state y.store) (state z.store)) (sym (order-faults t r order w x.next x.turn.goes)) (x.turn.within t y z at there);
+        by_lines = λ t y z at there tells. subst (λ n. AtMostRises (n + stop_lines_of t b.watch.stops + one_if (state z.store).fused) (stop_lines_of t a.watch.stops + one_if (state y.store).fused) (state y.store).faults (state z.store).faults) (sym (order-faults t r order w x.next x.turn.goes)) (x.turn.by_lines t y z at there tells);
       }
 
 -- how often targets stopped is accounted for by what is left

@@ -5,8 +5,8 @@ use Rattle.std.proofs.Common.{sym, ◌∙◌, subst, arith}
 use Rattle.base_messages.specs.declared.actor.ActorId.{ActorId}
 use Rattle.base_types.specs.declared.script.StopDecl.{StopDecl}
 use Rattle.daos_model.specs.declared.durable.Durable.{Durable}
-use Rattle.run_laws.specs.shows.Accounts.{AreAccounted, AreServed, AtMostBothRise}
-use Rattle.run_laws.specs.shows.Accounting.{none-rise, rise-then}
+use Rattle.run_laws.specs.shows.Accounts.{AreAccounted, AreOfStopLines, AreServed, AtMostBothRise, AtMostRises, one_if, stop_lines_of}
+use Rattle.run_laws.specs.shows.Accounting.{lines-none, lines-then, none-rise, rise-then}
 use Rattle.run_laws.specs.shows.Broken.{GoesOnRuns}
 use Rattle.run_laws.specs.shows.Serving.{served-first, served-then}
 use Rattle.run_laws.specs.shows.CanGo.{CanGo}
@@ -99,11 +99,11 @@ module _ {S C : Type 0} (durable : S → Option Durable) (state : S → State) (
       record { before = m.before; were = m.were; led = λ w was s. let x = m.led w was s in record { next = x.next; turn = said found m.before w x.next s x.shows x.turn; shows = x.shows } }
 
   module _ (is_read : C → C → Type 0) (next_reading : C → Option ℕ) where
-    -- Turns led in this way from one stage to another, where stores tell what they keep, with no more faults of a target than counts of its store rose:
-    -- those of a begun run, as many clients, and the same stores after some calls; how often targets stopped is still accounted for; and the lines
-    -- still tell of clients' commands in turn, and of answers that fit.
+    -- Turns led in this way from one stage to another, where stores tell what they keep, with no more faults of a target than counts of its store rose, each
+    -- by a stop line or by the outside: those of a begun run, as many clients, and the same stores after some calls; how often targets stopped is still
+    -- accounted for; and the lines still tell of clients' commands in turn, and of answers that fit.
     pub record GoesOn (way : Way) (a b : StageNow S C) : Type 0 where
-      pub led : AllTell durable → (r : Rules) → Leads durable state may (GoesWithin state is_read next_reading way r a.targets b.targets) r a b
+      pub led : AllTell durable → (r : Rules) → Leads durable state may (GoesWithin state is_read next_reading way r a b) r a b
       pub going : CanGo durable state may b
       pub clients : length b.clients ≡ length a.clients
       pub served : AreServed durable state is_read a.targets b.targets
@@ -112,7 +112,7 @@ module _ {S C : Type 0} (durable : S → Option Durable) (state : S → State) (
 
     pub goes-none : (way : Way) (a : StageNow S C) → ((r : Rules) (w : World) → IsNoWay way r w) → CanGo durable state may a → GoesOn way a a
     goes-none way a none going = record {
-      led = λ tell r. leads-none r (GoesWithin state is_read next_reading way r a.targets a.targets) a (λ w. record { goes = (none r w).0; within = λ t x y at there. still r w t x y at there; clocks = λ u run t x y at there first given. same-given r w u run t x y at there first given });
+      led = λ tell r. leads-none r (GoesWithin state is_read next_reading way r a a) a (λ w. record { goes = (none r w).0; within = λ t x y at there. still r w t x y at there; by_lines = λ t x y at there tells. unasked r w t x y at there tells; clocks = λ u run t x y at there first given. same-given r w u run t x y at there first given });
       going = going;
       clients = refl;
       served = served-first durable state is_read a.targets;
@@ -130,10 +130,16 @@ module _ {S C : Type 0} (durable : S → Option Durable) (state : S → State) (
             let same : x ≡ y = let e : Some x ≡ Some y = sym at ∙ there in cc in
             subst (λ z. AtMostBothRise (way.faults r w w (none r w).0 t) (state x.store) (state z.store)) same (none-rise (way.faults r w w (none r w).0 t) (state x.store) (state x.store) ((none r w).1 t) (omega arith) (omega arith))
 
+        unasked : (r : Rules) (w : World) → AreOfStopLines state (way.faults r w w (none r w).0) a a
+        unasked r w t x y at there tells =
+            let same : x ≡ y = let e : Some x ≡ Some y = sym at ∙ there in cc in
+            subst (λ z. AtMostRises (way.faults r w w (none r w).0 t + stop_lines_of t a.watch.stops + one_if (state z.store).fused) (stop_lines_of t a.watch.stops + one_if (state x.store).fused) (state x.store).faults (state z.store).faults) same
+            (lines-none (way.faults r w w (none r w).0 t) (stop_lines_of t a.watch.stops) (one_if (state x.store).fused) (state x.store).faults ((none r w).1 t))
+
     pub goes-then : (one other both : Way) (a b c : StageNow S C) → IsRun one → ((r : Rules) (found : ℕ → Durable) (w u v : World) → Shows durable state r found b u → (p : one.goes r w u) (q : other.goes r u v) → IsBothWays one other both r w u v p q) → GoesOn one a b → GoesOn other b c → GoesOn both a c
     goes-then one other both a b c runs join k l = record {
-      led = λ tell r. leads-then r (GoesWithin state is_read next_reading one r a.targets b.targets) (GoesWithin state is_read next_reading other r b.targets c.targets) (GoesWithin state is_read next_reading both r a.targets c.targets) a b c (λ w u p. runs r w u p.goes)
-          (λ found w u v s p q. record { goes = (join r found w u v s p.goes q.goes).0; within = λ t x z at there. within r found w u v s p q t x z at there; clocks = λ y run t x z at there first given. both-given r found w u v s p q y run t x z at there first given }) (k.led tell r) (l.led tell r);
+      led = λ tell r. leads-then r (GoesWithin state is_read next_reading one r a b) (GoesWithin state is_read next_reading other r b c) (GoesWithin state is_read next_reading both r a c) a b c (λ w u p. runs r w u p.goes)
+          (λ found w u v s p q. record { goes = (join r found w u v s p.goes q.goes).0; within = λ t x z at there. within r found w u v s p q t x z at there; by_lines = λ t x z at there tells. by-lines r found w u v s p q t x z at there tells; clocks = λ y run t x z at there first given. both-given r found w u v s p q y run t x z at there first given }) (k.led tell r) (l.led tell r);
       going = l.going;
       clients = l.clients ∙ k.clients;
       served = served-then durable state is_read a.targets b.targets c.targets k.served l.served;
@@ -141,13 +147,13 @@ module _ {S C : Type 0} (durable : S → Option Durable) (state : S → State) (
       tells = λ r. tells-then r a b c (k.tells r) (l.tells r);
     }
       where
-        both-given : (r : Rules) (found : ℕ → Durable) (w u v : World) (s : Shows durable state r found b u) (p : GoesWithin state is_read next_reading one r a.targets b.targets w u) (q : GoesWithin state is_read next_reading other r b.targets c.targets u v) (o : World) (run : WorldRun r o w)
+        both-given : (r : Rules) (found : ℕ → Durable) (w u v : World) (s : Shows durable state r found b u) (p : GoesWithin state is_read next_reading one r a b w u) (q : GoesWithin state is_read next_reading other r b c u v) (o : World) (run : WorldRun r o w)
             → HaveGiven is_read next_reading a.targets c.targets run (both.runs r o w v (join r found w u v s p.goes q.goes).0 run)
         both-given r found w u v s p q o run t x z at there first given =
             let y = at-both a.targets b.targets t x k.served.many at in
             subst (λ e. HasGiven is_read next_reading first (readings_of t e) z.clock) (sym ((join r found w u v s p.goes q.goes).2 o run)) (q.clocks o (one.runs r o w u p.goes run) t y.0 z y.1 there first (p.clocks o run t x y.0 at y.1 first given))
 
-        within : (r : Rules) (found : ℕ → Durable) (w u v : World) (s : Shows durable state r found b u) (p : GoesWithin state is_read next_reading one r a.targets b.targets w u) (q : GoesWithin state is_read next_reading other r b.targets c.targets u v) (t : ℕ) (x z : TargetOf S C) → slice_get a.targets t ≡ Some x
+        within : (r : Rules) (found : ℕ → Durable) (w u v : World) (s : Shows durable state r found b u) (p : GoesWithin state is_read next_reading one r a b w u) (q : GoesWithin state is_read next_reading other r b c u v) (t : ℕ) (x z : TargetOf S C) → slice_get a.targets t ≡ Some x
             → slice_get c.targets t ≡ Some z → AtMostBothRise (both.faults r w v (join r found w u v s p.goes q.goes).0 t) (state x.store) (state z.store)
         within r found w u v s p q t x z at there =
             let y = at-both a.targets b.targets t x k.served.many at in
@@ -155,15 +161,26 @@ module _ {S C : Type 0} (durable : S → Option Durable) (state : S → State) (
             rise-then (one.faults r w u p.goes t) (other.faults r u v q.goes t) (both.faults r w v (join r found w u v s p.goes q.goes).0 t) (state x.store) (state y.0.store) (state z.store) ((join r found w u v s p.goes q.goes).1 t) later.faults later.burns
             (p.within t x y.0 at y.1) (q.within t y.0 z y.1 there)
 
+        by-lines : (r : Rules) (found : ℕ → Durable) (w u v : World) (s : Shows durable state r found b u) (p : GoesWithin state is_read next_reading one r a b w u) (q : GoesWithin state is_read next_reading other r b c u v) → AreOfStopLines state (both.faults r w v (join r found w u v s p.goes q.goes).0) a c
+        by-lines r found w u v s p q t x z at there tells =
+            let y = at-both a.targets b.targets t x k.served.many at in
+            lines-then (one.faults r w u p.goes t) (other.faults r u v q.goes t) (both.faults r w v (join r found w u v s p.goes q.goes).0 t) (stop_lines_of t a.watch.stops) (one_if (state x.store).fused) (stop_lines_of t b.watch.stops) (one_if (state y.0.store).fused)
+            (stop_lines_of t c.watch.stops) (one_if (state z.store).fused) (state x.store).faults (state y.0.store).faults (state z.store).faults ((join r found w u v s p.goes q.goes).1 t) (l.served.stores t y.0 z y.1 there).faults
+            (p.by_lines t x y.0 at y.1 tells) (q.by_lines t y.0 z y.1 there ((k.served.stores t x y.0 at y.1).tells_fuse ∙ tells))
+
     pub goes-as : (one other : Way) (a b : StageNow S C) → ((r : Rules) (found before : ℕ → Durable) (w v : World) → Shows durable state r before a w → Shows durable state r found b v → (p : one.goes r w v) → IsWayAs one other r w v p) → GoesOn one a b → GoesOn other a b
     goes-as one other a b said k = record {
-      led = λ tell r. leads-as r (GoesWithin state is_read next_reading one r a.targets b.targets) (GoesWithin state is_read next_reading other r a.targets b.targets) a b
+      led = λ tell r. leads-as r (GoesWithin state is_read next_reading one r a b) (GoesWithin state is_read next_reading other r a b) a b
           (λ found before w v s z p.
           let as' = said r found before w v s z p.goes in
-          record { goes = as'.0; within = λ t x y at there. subst (λ n. AtMostBothRise n (state x.store) (state y.store)) (sym (as'.1 t)) (p.within t x y at there); clocks = λ u run t x y at there first given. subst (λ e. HasGiven is_read next_reading first (readings_of t e) y.clock) (sym (as'.2 u run)) (p.clocks u run t x y at there first given) }) (k.led tell r);
+          record { goes = as'.0; within = λ t x y at there. subst (λ n. AtMostBothRise n (state x.store) (state y.store)) (sym (as'.1 t)) (p.within t x y at there); by_lines = λ t x y at there tells. same-lines t x y (as'.1 t) (p.by_lines t x y at there tells); clocks = λ u run t x y at there first given. subst (λ e. HasGiven is_read next_reading first (readings_of t e) y.clock) (sym (as'.2 u run)) (p.clocks u run t x y at there first given) }) (k.led tell r);
       going = k.going;
       clients = k.clients;
       served = k.served;
       accounts = k.accounts;
       tells = k.tells;
     }
+      where
+        same-lines : (t : ℕ) (x y : TargetOf S C) {n m : ℕ} → m ≡ n → AtMostRises (n + stop_lines_of t b.watch.stops + one_if (state y.store).fused) (stop_lines_of t a.watch.stops + one_if (state x.store).fused) (state x.store).faults (state y.store).faults
+            → AtMostRises (m + stop_lines_of t b.watch.stops + one_if (state y.store).fused) (stop_lines_of t a.watch.stops + one_if (state x.store).fused) (state x.store).faults (state y.store).faults
+        same-lines t x y same z = subst (λ n. AtMostRises (n + stop_lines_of t b.watch.stops + one_if (state y.store).fused) (stop_lines_of t a.watch.stops + one_if (state x.store).fused) (state x.store).faults (state y.store).faults) (sym same) z

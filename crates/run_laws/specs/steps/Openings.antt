@@ -25,7 +25,7 @@ use Rattle.run_laws.specs.shows.Stages.{IsPlace, StageNow}
 use Rattle.run_laws.specs.shows.Steps.{NotOpened, Opened, OpeningEnds, Reopened, TargetReopened}
 use Rattle.run_laws.specs.shows.Turned.{AfterFailure, AfterStop, ByForeign, ByStop, followed, given_up_stage, swept_stage}
 use Rattle.run_laws.specs.steps.Going.{AllTell, GoesOn}
-use Rattle.run_laws.specs.steps.Turning.{Counts, counts-none, turn-done}
+use Rattle.run_laws.specs.steps.Turning.{Counts, counts-none, one-struck, turn-done}
 use Rattle.run_laws.specs.steps.Turnings.{after-clients, after-down, after-down-so, after-failed, after-openings, after-others, after-stops, after-targets}
 use Rattle.run_laws.specs.steps.Ways.{turn_of}
 use Rattle.run_laws.specs.turns.Readings.{GivesOn, gives-none}
@@ -128,6 +128,10 @@ module _ {S C : Type 0} (durable : S → Option Durable) (state : S → State) (
           let faults = opens.faults in
           let burns = opens.burns in
           none-rise 0 (state x.store) (state z.store) refl (omega (arith, same, faults)) (omega (arith, burnt, burns));
+      struck = λ tells.
+          let told = ap one_if (fuse.state_is.told (opens.tells_fuse ∙ tells)).0 in
+          let taken = fuse-taken t a.watch.stops in
+          inl (omega (arith, told, taken));
     }
 
     pub opened-goes : (settling : Bool) (number : ℕ) → ((r : Rules) → TellsOn r a opened-left) → GoesOn durable state may is_read next_reading (turn_of settling (target t) number) a opened-left
@@ -191,6 +195,8 @@ module _ {S C : Type 0} (durable : S → Option Durable) (state : S → State) (
           failed = λ n at. after-failed t _ _ failed-left b after n at;
           down = λ e. after-down-so t _ _ failed-left b after e;
           fault = one-fault (once_for (Some t) t) (state x.store) (state y.store) (ap (λ c. if c then 1 else 0) (same_number t)) opens.faults opens.burns ailed;
+          struck = λ tells.
+              one-struck (state x.store) (state y.store) opens.fuse ailed tells (once_for (Some t) t) (stop_lines_of t a.watch.stops) (stop_lines_of t b.watch.stops) (ap (λ c. if c then 1 else 0) (same_number t)) (same-lines t);
         }
 
     -- it isn't a store that was made here: then it doesn't tell what it keeps

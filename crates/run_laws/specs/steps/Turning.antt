@@ -1,5 +1,5 @@
 -- A turn, with all that it leaves.
-use Rattle.std.specs.Prelude.{ℕ, ◌≡◌, ◌≤◌, ◌+◌, ◌++◌, ◌⊎◌, Bool, true, List, length, slice_get, Option, Some, None, is_some, refl}
+use Rattle.std.specs.Prelude.{ℕ, ◌≡◌, ◌≤◌, ◌+◌, ◌++◌, ◌⊎◌, ◌&&◌, Bool, true, false, List, length, slice_get, Option, Some, None, is_some, refl}
 use Rattle.std.proofs.Common.{inl, inr, sym, ◌∙◌, ap, subst, arith}
 use Rattle.base_messages.specs.declared.actor.ActorId.{ActorId}
 use Rattle.base_outside.specs.Causes.{Rose}
@@ -7,8 +7,8 @@ use Rattle.base_types.specs.declared.script.StopDecl.{StopDecl}
 use Rattle.daos_model.specs.Stops.{down_targets}
 use Rattle.daos_model.specs.declared.durable.Durable.{Durable}
 use Rattle.model_laws.specs.Members.{Has, contains-from_has, has-cases, has-from_contains}
-use Rattle.run_laws.specs.shows.Accounting.{downs-told, no-more, none-rise, one-rise, stops-told}
-use Rattle.run_laws.specs.shows.Accounts.{AreAccounted, AreServed, AreWithinRises, AtMostBothRise, AtMostRises, IsAccounted, one_if, stop_lines_of, stops_told_in}
+use Rattle.run_laws.specs.shows.Accounting.{downs-told, fuse-less, no-more, none-rise, one-rise, stops-told}
+use Rattle.run_laws.specs.shows.Accounts.{AreAccounted, AreOfStopLines, AreServed, AreWithinRises, AtMostBothRise, AtMostRises, IsAccounted, one_if, stop_lines_of, stops_told_in}
 use Rattle.run_laws.specs.shows.CanGo.{CanGo}
 use Rattle.run_laws.specs.shows.Fitting.{Fits, can-go}
 use Rattle.run_laws.specs.shows.Going.{AreAlike, AreFindable, going-on}
@@ -18,13 +18,13 @@ use Rattle.run_laws.specs.shows.Shows.{IsGoing, Leads}
 use Rattle.run_laws.specs.shows.Stages.{StageNow}
 use Rattle.run_laws.specs.steps.Going.{AllTell, GoesOn, leads-as}
 use Rattle.run_laws.specs.steps.Ways.{GoesWithin, HaveGiven, turn_of}
-use Rattle.run_laws.specs.turns.Faults.{once_for}
+use Rattle.run_laws.specs.turns.Faults.{fault_by, once_for}
 use Rattle.run_laws.specs.turns.OrderLaws.{turn-goes}
 use Rattle.run_laws.specs.turns.Readings.{GivesOn, HasGiven, read_by, reading_of, readings_of, turn-reads}
 use Rattle.run_laws.specs.turns.StopLines.{one_or_none}
 use Rattle.run_laws.specs.turns.Turns.{TurnOf}
 use Rattle.target_core.specs.Targets.{TargetOf}
-use Rattle.vos_store.specs.Calls.{State}
+use Rattle.vos_store.specs.Calls.{Ailed, Fires, State}
 use Rattle.world_base.specs.declared.world.World.{World}
 use Rattle.world_base.specs.Events.{Rules}
 use Rattle.world_base.specs.Stops.{WorldRun}
@@ -40,6 +40,15 @@ more-or-one : (m n more before now later : ℕ) → AtMostOne n m now later → 
 more-or-one m n more before now later (inl fewer) up k = no-more m n more before now later fewer up k
 more-or-one m n more before now later (inr z) up k = one-rise m n more before now later z.0 z.1 k
 
+-- one came of a fuse, or of the outside
+pub one-struck : (h k : State) → Fires h k → Ailed h k → h.tells_fuse ≡ true → (n l m : ℕ) → n ≡ 1 → m ≡ l → AtMostOne (n + m + one_if k.fused) (l + one_if h.fused) h.faults k.faults
+one-struck h k fires (inl rose) tells n l m one same = let less = fuse-less h k fires tells in inr (omega (arith, one, same, less), rose)
+one-struck h k fires (inr z) tells n l m one same =
+    let off : k.fused ≡ false = ap (λ b. b && k.fused) (sym tells) ∙ z.2 in
+    let none : one_if k.fused ≡ 0 = ap one_if off in
+    let set' : one_if h.fused ≡ 1 = ap one_if z.1 in
+    inl (omega (arith, one, same, none, set'))
+
 -- What a turn in which some targets stopped and were given up, and which was cut, or in which an opening failed, leaves of what is counted of a target.
 pub record Counts {S C : Type 0} (state : S → State) (a b : StageNow S C) (stops downs faults : Option ℕ) (t : ℕ) (x y : TargetOf S C) : Type 0 where
   pub up : (state x.store).faults ≤ (state y.store).faults
@@ -49,6 +58,8 @@ pub record Counts {S C : Type 0} (state : S → State) (a b : StageNow S C) (sto
   pub failed : (n : ℕ) → slice_get b.watch.faults t ≡ Some n → (m : ℕ) × (slice_get a.watch.faults t ≡ Some m) × AtMostOne n m (state x.store).faults (state y.store).faults
   pub down : downs ≡ Some t → (slice_get a.watch.faults t ≡ Some 8) × Rose (state x.store).faults (state y.store).faults
   pub fault : AtMostBothRise (once_for faults t) (state x.store) (state y.store)
+  pub struck : (state x.store).tells_fuse ≡ true
+      → AtMostOne (once_for faults t + stop_lines_of t b.watch.stops + one_if (state y.store).fused) (stop_lines_of t a.watch.stops + one_if (state x.store).fused) (state x.store).faults (state y.store).faults
 
 -- of a target that no turn touched nothing is counted
 pub counts-none : {S C : Type 0} (state : S → State) (a b : StageNow S C) (stops downs faults : Option ℕ) (t : ℕ) (x : TargetOf S C) → stops_of stops t ≡ 0 → (downs ≡ Some t → ⊥) → once_for faults t ≡ 0 → stop_lines_of t b.watch.stops ≤ stop_lines_of t a.watch.stops
@@ -60,6 +71,7 @@ counts-none state a b stops downs faults t x none up no_fault fewer same = recor
   failed = λ n at. (n, same n at, inl (omega arith));
   down = λ is. absurd (up is);
   fault = none-rise (once_for faults t) (state x.store) (state x.store) no_fault (omega arith) (omega arith);
+  struck = λ tells. inl (omega (arith, no_fault, fewer));
 }
 
 its-down : (t : ℕ) (downs : Option ℕ) → Has t (one_or_none downs) → downs ≡ Some t
@@ -122,12 +134,16 @@ module _ {S C : Type 0} (durable : S → Option Durable) (state : S → State) (
         more (inl fewer) = inl (omega (arith, fewer, told))
         more (inr z) = let few = z.0 in inr (omega (arith, few, told), z.1)
 
-    -- with no more faults of each target than counts of its store rose
-    leads-within : (r : Rules) → AllTell durable → AreWithinRises state (once_for faults) a.targets b.targets → Leads durable state may (GoesWithin state is_read next_reading (turn_of settling actor number) r a.targets b.targets) r a b
-    leads-within r tell few =
-        leads-as durable state may r (IsTurnSo settling r actor number raised stops downs faults read) (GoesWithin state is_read next_reading (turn_of settling actor number) r a.targets b.targets) a b
-        (λ found before w v s z one. record { goes = one.turn; within = λ t x y at there. subst (λ o. AtMostBothRise (once_for o t) (state x.store) (state y.store)) (sym one.faults_is) (few t x y at there); clocks = λ u run t x y at there first given. given-on w v one.turn one.read_is u run t x y at there first given }) (leads tell r)
+    -- with no more faults of each target than counts of its store rose, each by a stop line or by the outside
+    leads-within : (r : Rules) → AllTell durable → AreWithinRises state (once_for faults) a.targets b.targets → AreOfStopLines state (once_for faults) a b → Leads durable state may (GoesWithin state is_read next_reading (turn_of settling actor number) r a b) r a b
+    leads-within r tell few lines =
+        leads-as durable state may r (IsTurnSo settling r actor number raised stops downs faults read) (GoesWithin state is_read next_reading (turn_of settling actor number) r a b) a b
+        (λ found before w v s z one. record { goes = one.turn; within = λ t x y at there. subst (λ o. AtMostBothRise (once_for o t) (state x.store) (state y.store)) (sym one.faults_is) (few t x y at there); by_lines = by-lines (fault_by one.turn) one.faults_is; clocks = λ u run t x y at there first given. given-on w v one.turn one.read_is u run t x y at there first given }) (leads tell r)
       where
+        by-lines : (o : Option ℕ) → o ≡ faults → AreOfStopLines state (once_for o) a b
+        by-lines o is t x y at there tells =
+            subst (λ f. AtMostRises (once_for f t + stop_lines_of t b.watch.stops + one_if (state y.store).fused) (stop_lines_of t a.watch.stops + one_if (state x.store).fused) (state x.store).faults (state y.store).faults) (sym is) (lines t x y at there tells)
+
         given-on : (w v : World) (turn : TurnOf settling r actor number w v) → read_by turn ≡ read → (u : World) (run : WorldRun r u w) → HaveGiven is_read next_reading a.targets b.targets run (turn-goes settling r actor number u w v turn run)
         given-on w v turn is u run t x y at there first given =
             subst (λ xs. HasGiven is_read next_reading first xs y.clock) (sym (turn-reads t settling r actor number u w v turn run)) (subst (λ o. HasGiven is_read next_reading first (readings_of t run ++ reading_of o t) y.clock) (sym is) (clocks t x y at there first (readings_of t run) given))
@@ -137,7 +153,7 @@ module _ {S C : Type 0} (durable : S → Option Durable) (state : S → State) (
         → ((t : ℕ) (x y : TargetOf S C) → slice_get a.targets t ≡ Some x → slice_get b.targets t ≡ Some y → is_some (durable x.store) ≡ true → Counts state a b stops downs faults t x y)
         → GoesOn durable state may is_read next_reading (turn_of settling actor number) a b
     turn-done fits up clients tells counts = record {
-      led = λ tell r. leads-within r tell (λ t x y at there. (counts t x y at there (tell x.store)).fault);
+      led = λ tell r. leads-within r tell (λ t x y at there. (counts t x y at there (tell x.store)).fault) (λ t x y at there tells. struck t x y (counts t x y at there (tell x.store)) tells);
       going = can-go durable state may can.rules b can.form fits
           (λ t y d at is.
           let some : is_some (durable y.store) ≡ true = ap is_some is in
@@ -148,3 +164,9 @@ module _ {S C : Type 0} (durable : S → Option Durable) (state : S → State) (
       accounts = accounted counts;
       tells = tells;
     }
+      where
+        struck : (t : ℕ) (x y : TargetOf S C) → Counts state a b stops downs faults t x y → (state x.store).tells_fuse ≡ true
+            → AtMostRises (once_for faults t + stop_lines_of t b.watch.stops + one_if (state y.store).fused) (stop_lines_of t a.watch.stops + one_if (state x.store).fused) (state x.store).faults (state y.store).faults
+        struck t x y c tells =
+            more-or-one (stop_lines_of t a.watch.stops + one_if (state x.store).fused) (once_for faults t + stop_lines_of t b.watch.stops + one_if (state y.store).fused) (stop_lines_of t a.watch.stops + one_if (state x.store).fused)
+            (state x.store).faults (state x.store).faults (state y.store).faults (c.struck tells) c.up (inr (omega arith))

@@ -1,5 +1,5 @@
 -- A client's turn, and a target's turn, whole or cut, with all that they leave.
-use Rattle.std.specs.Prelude.{ℕ, ◌≡◌, ◌<◌, ◌+◌, ◌==◌, ◌&&◌, Bool, true, false, List, [], length, slice_get, slice_set, Option, Some, None, Ok, Err, refl, if◌then◌else◌}
+use Rattle.std.specs.Prelude.{ℕ, ◌≡◌, ◌<◌, ◌+◌, ◌==◌, Bool, true, false, List, [], length, slice_get, slice_set, Option, Some, None, Ok, Err, refl, if◌then◌else◌}
 use Rattle.std.proofs.Common.{inl, inr, sym, ◌∙◌, ap, subst, arith}
 use Rattle.std.proofs.lemmas.Bool.Decides.{nat_tests}
 use Rattle.base_outside.specs.Causes.{Rose}
@@ -13,7 +13,7 @@ use Rattle.model_laws.specs.TargetLaws.{same_number}
 use Rattle.run_base.specs.Letters.{BetweenNow, IsPicked}
 use Rattle.run_base.specs.Picks.{count_to, heard_awake}
 use Rattle.run_laws.specs.shows.Accounting.{fuse-less, none-rise, one-fault}
-use Rattle.run_laws.specs.shows.Accounts.{AreServed, IsServed, one_if, stop_lines_of}
+use Rattle.run_laws.specs.shows.Accounts.{AreServed, IsServed, stop_lines_of}
 use Rattle.run_laws.specs.shows.CanGo.{CanGo}
 use Rattle.run_laws.specs.shows.Clients.{client-goes, client-hears}
 use Rattle.run_laws.specs.shows.Fitting.{Fits, few-numbers, fit-after_stop, fit-swept, fit-target, fits-of}
@@ -30,7 +30,7 @@ use Rattle.run_laws.specs.shows.Stages.{IsPlace, StageNow}
 use Rattle.run_laws.specs.shows.Stopping.{cut-leads}
 use Rattle.run_laws.specs.shows.Turned.{AfterStop, ByHearing, ByIdling, Failed, HasTurned, IsTurned, LastTime, NotFailed, cut_between, followed, read_then, stopped_stage, swept_stage, with_between, with_client_at, with_target_at}
 use Rattle.run_laws.specs.steps.Going.{GoesOn}
-use Rattle.run_laws.specs.steps.Turning.{AtMostOne, Counts, counts-none, turn-done}
+use Rattle.run_laws.specs.steps.Turning.{AtMostOne, Counts, counts-none, one-struck, turn-done}
 use Rattle.run_laws.specs.steps.Ways.{turn_of}
 use Rattle.run_laws.specs.turns.Faults.{once_for}
 use Rattle.run_laws.specs.turns.Readings.{GivesOn, gives-none, others-read, reading_of}
@@ -228,6 +228,7 @@ module _ {S C : Type 0} (durable : S → Option Durable) (state : S → State) (
           failed = λ n at. (n, at, inl (omega arith));
           down = λ e. let no : ⊥ = cc in absurd no;
           fault = none-rise 0 (state x.store) (state y.store) refl served.faults served.burns;
+          struck = λ tells. let less = fuse-less (state x.store) (state y.store) runs.fuse tells in inl (omega (arith, less));
         }
 
   -- ---- a cut turn
@@ -246,15 +247,6 @@ module _ {S C : Type 0} (durable : S → Option Durable) (state : S → State) (
         fit-swept state can.rules can.form (stopped_stage t issued lines (record a { targets = slice_set a.targets t y; between = left }))
         (fit-target state can.rules can.form a f t x y (with_life t Stopped a.watch) Stopped (cut_between t issued lines left) place.there plan refl f.openings (λ e. let no : ⊥ = cc in absurd no)
         (record { messages = lost-form (target_plan can.rules) t false left small letters; asked = asked-lost (target_plan can.rules) t left letters }))
-
-    -- it stopped by a fuse, or as often as the outside failed it
-    cut-stopped : (state x.store).tells_fuse ≡ true → Ailed (state x.store) (state y.store) → (n : ℕ) → n ≡ 1 → (l : ℕ) → AtMostOne (n + l + one_if (state y.store).fused) (l + one_if (state x.store).fused) (state x.store).faults (state y.store).faults
-    cut-stopped tells (inl rose) n one l = let less = fuse-less (state x.store) (state y.store) fires tells in inr (omega (arith, one, less), rose)
-    cut-stopped tells (inr z) n one l =
-        let off : (state y.store).fused ≡ false = ap (λ b. b && (state y.store).fused) (sym tells) ∙ z.2 in
-        let none : one_if (state y.store).fused ≡ 0 = ap one_if off in
-        let set' : one_if (state x.store).fused ≡ 1 = ap one_if z.1 in
-        inl (omega (arith, one, none, set'))
 
     pub cut-done : (settling : Bool) (number : ℕ) → HasTurned durable state may is_read next_reading settling t number x y a.between left (Err (stop.Store issued lines)) → AfterStop t (state x.store).faults (state y.store).faults cut-left c → ((r : Rules) → TellsOn r a c)
         → GoesOn durable state may is_read next_reading (turn_of settling (target t) number) a c
@@ -285,9 +277,10 @@ module _ {S C : Type 0} (durable : S → Option Durable) (state : S → State) (
           up = served.faults;
           tells = served.tells_fuse;
           stopped = λ tells.
-              subst (λ m. AtMostOne (stops_of (Some t) t + m + one_if (state y.store).fused) (stop_lines_of t a.watch.stops + one_if (state x.store).fused) (state x.store).faults (state y.store).faults) (sym (stops-same t))
-              (cut-stopped tells ailed (stops_of (Some t) t) (ap (λ b. if b then 1 else 0) (same_number t)) (stop_lines_of t a.watch.stops));
+              one-struck (state x.store) (state y.store) fires ailed tells (stops_of (Some t) t) (stop_lines_of t a.watch.stops) (stop_lines_of t c.watch.stops) (ap (λ b. if b then 1 else 0) (same_number t)) (stops-same t);
           failed = λ n at. after-failed t _ _ cut-left c after n at;
           down = λ e. after-down-so t _ _ cut-left c after e;
           fault = one-fault (once_for (Some t) t) (state x.store) (state y.store) (ap (λ b. if b then 1 else 0) (same_number t)) served.faults served.burns ailed;
+          struck = λ tells.
+              one-struck (state x.store) (state y.store) fires ailed tells (once_for (Some t) t) (stop_lines_of t a.watch.stops) (stop_lines_of t c.watch.stops) (ap (λ b. if b then 1 else 0) (same_number t)) (stops-same t);
         }

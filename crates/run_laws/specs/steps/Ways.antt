@@ -2,7 +2,8 @@
 use Rattle.std.specs.Prelude.{ℕ, ◌≡◌, Bool, List, slice_get, Option, Some}
 use Rattle.base_messages.specs.declared.actor.ActorId.{ActorId}
 use Rattle.run_base.specs.Picks.{actors}
-use Rattle.run_laws.specs.shows.Accounts.{AreWithinRises}
+use Rattle.run_laws.specs.shows.Accounts.{AreOfStopLines, AreWithinRises}
+use Rattle.run_laws.specs.shows.Stages.{StageNow}
 use Rattle.run_laws.specs.turns.Faults.{fault_by, faults_in_draws, faults_in_order, faults_in_rounds, faults_in_turn, once_for}
 use Rattle.run_laws.specs.turns.Keeping.{TurnsKeep, draws-keep, in_turn-keeps, order-keeps, rounds-keep}
 use Rattle.run_laws.specs.turns.OrderLaws.{turn-goes}
@@ -25,12 +26,13 @@ pub record Way : Type 1 where
 abbrev pub HaveGiven : {S C : Type 0} → (C → C → Type 0) → (C → Option ℕ) → List (TargetOf S C) → List (TargetOf S C) → {r : Rules} {u w v : World} → WorldRun r u w → WorldRun r u v → Type 0
 HaveGiven {S} {C} is_read next_reading xs ys run later = (t : ℕ) (x y : TargetOf S C) → slice_get xs t ≡ Some x → slice_get ys t ≡ Some y → (first : C) → HasGiven is_read next_reading first (readings_of t run) x.clock → HasGiven is_read next_reading first (readings_of t later) y.clock
 
--- It was gone from one world to another, with no more such faults of each target than counts of its store rose meanwhile, and its clock gave the
--- readings of the events, and no others.
-pub record GoesWithin {S C : Type 0} (state : S → State) (is_read : C → C → Type 0) (next_reading : C → Option ℕ) (way : Way) (r : Rules) (xs ys : List (TargetOf S C)) (w v : World) : Type 0 where
+-- It was gone from one world to another, with no more such faults of each target than counts of its store rose meanwhile, each by a stop line or by the
+-- outside; and its clock gave the readings of the events, and no others.
+pub record GoesWithin {S C : Type 0} (state : S → State) (is_read : C → C → Type 0) (next_reading : C → Option ℕ) (way : Way) (r : Rules) (a b : StageNow S C) (w v : World) : Type 0 where
   pub goes : way.goes r w v
-  pub within : AreWithinRises state (way.faults r w v goes) xs ys
-  pub clocks : (u : World) (run : WorldRun r u w) → HaveGiven is_read next_reading xs ys run (way.runs r u w v goes run)
+  pub within : AreWithinRises state (way.faults r w v goes) a.targets b.targets
+  pub by_lines : AreOfStopLines state (way.faults r w v goes) a b
+  pub clocks : (u : World) (run : WorldRun r u w) → HaveGiven is_read next_reading a.targets b.targets run (way.runs r u w v goes run)
 
 -- ---- the ways
 

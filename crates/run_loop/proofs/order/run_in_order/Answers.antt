@@ -12,7 +12,7 @@ go-went-requires-clause-few_targets g c = let few = few-targets g.S.Store.durabl
 pub returns-in-Ok-clause-run : goal.returns-in-Ok-clause-run
 returns-in-Ok-clause-run g c r w o begins drawn shows =
     let last = c.go-went.new.stage in
-    subst (λ lines. HasRunWith g.S.Store.durable g.S.Store.state g.C.Clock.is_read g.C.Clock.next g.S.Store.may r c.args.order w c.args.stage.targets.items (left_of last.targets.items last.watch lines)) (sym c.into_lines-lines.ensures)
+    subst (λ lines. HasRunWith g.S.Store.durable g.S.Store.state g.C.Clock.is_read g.C.Clock.next g.S.Store.may r c.args.order w (stage_now c.args.stage) (left_of last.targets.items last.watch lines)) (sym c.into_lines-lines.ensures)
     (has-run g.S.Store.durable g.S.Store.state g.C.Clock.is_read g.C.Clock.next g.met.S.Store.alike g.S.Store.may r c.args.order w o (stage_now c.args.stage) (stage_now last) begins drawn shows (λ tell. c.in-Ok.ensures.goes.led tell r))
 
 pub returns-in-Ok-clause-accounts : goal.returns-in-Ok-clause-accounts
