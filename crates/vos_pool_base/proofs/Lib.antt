@@ -2,3 +2,4 @@ pub mod Changing
 pub mod Staging
 pub mod Commits
 pub mod Writing
+pub mod Freezing

@@ -1,5 +1,6 @@
 -- What an open pool keeps in its region.
-use Rattle.std.specs.Prelude.{◌≡◌, ℕ, Bool, false, IsTrue, List, [], map, Option, Some, None, cond}
+use Rattle.std.specs.Prelude.{◌≡◌, ◌⊎◌, ◌≤◌, ℕ, Bool, true, false, IsTrue, List, [], map, Option, Some, None, cond}
+use Rattle.base_outside.specs.Causes.{Rose}
 use Rattle.base_outside.specs.Images.{Image, Range}
 use Rattle.base_types.specs.declared.entry.Entry.{Entry}
 use Rattle.daos_model.specs.declared.durable.Durable.{Durable}
@@ -61,3 +62,12 @@ IfRunning p P = p.blocks.undo.stopped ≡ false → P
 -- counters have the roots of a table
 abbrev pub HasRoots : Table → Counters → Type 0
 HasRoots t n = (n.objects ≡ t.header.objects) × (n.entries ≡ t.header.entries)
+
+-- A call that stops, or doesn't: it stops only where a count of the region rose in it, or the pool had stopped before; a pool that had
+-- stopped stays so, and one that a call stopped has stopped.
+pub record StopsBy (stops was is : Bool) (faults_before faults_now burns_before burns_now : ℕ) : Type 0 where
+  pub later_faults : faults_before ≤ faults_now
+  pub later_burns : burns_before ≤ burns_now
+  pub cause : stops ≡ true → (was ≡ true) ⊎ (Rose faults_before faults_now ⊎ Rose burns_before burns_now)
+  pub always : was ≡ true → stops ≡ true
+  pub stopped : is ≡ stops
