@@ -22,6 +22,10 @@ pub record AreSetSoFar {S C : Type 0} (P : ℕ → S → C → Type 0) (targets 
   pub are : (t : ℕ) → t < n → (x : S × C) × IsAt slots t x × P t x.0 x.1
   pub unset : (t : ℕ) → n ≤ t → t < targets → slice_get slots t ≡ Some None
 
+-- to the targets from a number on no clocks may be handed out that might not have been at first
+abbrev pub GivesAsFirst : {C : Type 0} → ℕ → (ℕ → C → Type 0) → (ℕ → C → Type 0) → Type 0
+GivesAsFirst {C} n first now = (t : ℕ) (clock : C) → n ≤ t → now t clock → first t clock
+
 at-replicate : {T : Type 0} (n t : ℕ) (x : T) → t < n → slice_get (replicate n x) t ≡ Some x
 at-replicate zero t x low = absurd (omega (arith, low))
 at-replicate (suc n) zero x low = refl

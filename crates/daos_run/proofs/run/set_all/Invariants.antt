@@ -1,5 +1,5 @@
-use Rattle.std.specs.Prelude.{ℕ, ◌≡◌, ◌≤◌}
-use Rattle.daos_run.proofs.Slots.{AreSetSoFar}
+use Rattle.std.specs.Prelude.{◌≡◌}
+use Rattle.daos_run.proofs.Slots.{AreSetSoFar, GivesAsFirst}
 use Rattle.daos_run.specs.Starts.{IsNewStore}
 use Rattle.daos_run.proofs.run.set_all.Given as goal
 
@@ -7,4 +7,4 @@ use Rattle.daos_run.proofs.run.set_all.Given as goal
 -- of the rack raised its count
 abbrev pub invariant-loop-t : goal.invariant-loop-t
 invariant-loop-t g l = AreSetSoFar (λ t store clock. IsNewStore l.job.size_mib store × g.B.Rack.gives l.initial.rack t clock) l.job.targets l.t l.parts
-    × ((t : ℕ) (clock : g.B.Rack.Clock) → l.t ≤ t → g.B.Rack.gives l.rack t clock → g.B.Rack.gives l.initial.rack t clock) × (g.B.Rack.count l.rack ≡ g.B.Rack.count l.initial.rack)
+    × GivesAsFirst l.t (g.B.Rack.gives l.initial.rack) (g.B.Rack.gives l.rack) × (g.B.Rack.count l.rack ≡ g.B.Rack.count l.initial.rack)
