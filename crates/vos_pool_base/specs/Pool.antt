@@ -51,6 +51,10 @@ may_of tells extent may_leave p = MayBeFound tells p.table.header.target (extent
 abbrev pub ChangesTo : (Durable → Durable) → Option Durable → Table → Table → Type 0
 ChangesTo change old t u = (vs : List Version) (es : List Entry) → old ≡ Some (kept_with t vs es) → kept_with u vs es ≡ change (kept_with t vs es)
 
+-- so many changes are written by one commit at most: those of all containers that there may be, and some more
+abbrev pub most_changes : ℕ
+most_changes = 300
+
 -- the ranges that changes write
 abbrev pub ranges_of : List Change → List Range
 ranges_of xs = map range_of xs

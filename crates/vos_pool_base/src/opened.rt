@@ -2,7 +2,7 @@
 ghost use Rattle.std.specs.Prelude.{◌≡◌, ◌≤◌, [], length, OnOk, OnErr, IsTrue};
 ghost use Rattle.daos_model.specs.declared.durable.Durable.{Durable};
 ghost use Rattle.pmem_pages.specs.Blocks.{Stops};
-ghost use Rattle.vos_pool_base.specs.Pool.{ChangesTo, IfRunning, kept_of, may_of, ranges_of};
+ghost use Rattle.vos_pool_base.specs.Pool.{ChangesTo, IfRunning, kept_of, may_of, most_changes, ranges_of};
 ghost use Rattle.vos_store.specs.Calls.{Makes};
 ghost use Rattle.vos_store.specs.Refusals.{always_stop};
 ghost use Rattle.vos_tables.specs.Changes.{AllFit, all_changed};
@@ -34,7 +34,7 @@ impl<R: Region> Model for Opened<R> {
 
 // Stages what changes write.
 fn stage<R: Region>(blocks: &mut Blocks<R>, changes: &[Change])
-    requires few { length changes.now ≤ 300 }
+    requires few { length changes.now ≤ most_changes }
     requires unstaged { blocks.old.undo.staged ≡ [] }
     ensures { blocks.new ≡ record blocks.old { undo = record blocks.old.undo { staged = ranges_of changes.now } } }
 {
@@ -47,13 +47,13 @@ fn stage<R: Region>(blocks: &mut Blocks<R>, changes: &[Change])
 
 impl<R: Region> Opened<R> {
     /// Writes changes of fixed places, all of them by one commit or none. A change of what is kept that
-    /// they make is made whole or not at all.
+    /// they make is made whole or not at all. There are at most 300.
     ///
     /// # Errors
     ///
     /// `Stopped` comes only where a count of the region rose in this call, or it had stopped before.
     pub fn write(&mut self, changes: &[Change]) -> Result<(), Stopped>
-        requires few { length changes.now ≤ 300 }
+        requires few { length changes.now ≤ most_changes }
         requires fits { AllFit self.old.table changes.now }
         ensures table { OnOk result (self.new.table ≡ all_changed changes.now self.old.table) }
         ensures kept { OnErr result (self.new.table ≡ self.old.table) }
