@@ -19,10 +19,9 @@ returns-clause-set g c =
     let low = c.loop-t.auto.t-end in
     let over = c.loop-t-test.false in
     let all = c.loop-t.invariant.0 in
-    let so = λ t store clock. IsNewStore c.args.job.now.size_mib store × g.B.Rack.gives c.args.rack.now t clock in
     record {
-      set = all-are-set so c.args.job.now.targets c.loop-t.t c.loop-t.parts all (omega (arith, low, over));
-      each = λ t x at. (all-are-so so c.args.job.now.targets c.loop-t.t c.loop-t.parts all (omega (arith, low, over)) t x at).0;
+      set = all-are-set (λ t store clock. IsNewStore c.args.job.now.size_mib store × g.B.Rack.gives c.args.rack.now t clock) c.args.job.now.targets c.loop-t.t c.loop-t.parts all (omega (arith, low, over));
+      each = λ t x at. (all-are-so (λ t store clock. IsNewStore c.args.job.now.size_mib store × g.B.Rack.gives c.args.rack.now t clock) c.args.job.now.targets c.loop-t.t c.loop-t.parts all (omega (arith, low, over)) t x at).0;
     }
 
 pub returns-clause-clocks : goal.returns-clause-clocks
