@@ -3,3 +3,4 @@ pub mod Map
 pub mod Blocks
 pub mod Pages
 pub mod Laws
+pub mod Still

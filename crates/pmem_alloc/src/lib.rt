@@ -5,6 +5,7 @@ mod bits;
 pub mod blocks;
 mod free_map;
 mod pages;
+pub mod stage;
 
 /// The place of the map of blocks.
 pub(crate) const MAP: u64 = 307200;

@@ -1,9 +1,11 @@
 // Blocks of a region as the trees above see them.
-ghost use Rattle.std.specs.Prelude.{◌≡◌, ◌⊎◌, ◌↔◌, ◌+◌, ◌*◌, ◌<◌, Some, None, replicate, IfSome, IsSome, OnOk, OnErr, IsErr, IsTrue};
+ghost use Rattle.std.specs.Prelude.{◌≡◌, ◌⊎◌, ◌↔◌, ℕ, ◌+◌, ◌*◌, ◌<◌, ◌≤◌, List, Some, None, replicate, IfOk, IfSome, IsSome, OnOk, OnErr, IsErr, IsErrOf, IsTrue};
 ghost use Rattle.pmem_pages.specs.Blocks.{IsTaken, IsSpent, Stops, put};
+ghost use Rattle.pmem_pages.specs.declared.refusal.PageNo.TheVariants.{NoBlock, TooMuch as too_much};
 ghost use Rattle.pmem_undo.specs.Layout.{IsContent};
 ghost use Rattle.pmem_alloc.specs.Blocks.{IsOutsideMap, free_count};
 ghost use Rattle.pmem_alloc.specs.Pages.{shown, left, IsTakenBlock};
+ghost use Rattle.pmem_alloc.specs.Still.{IsStill};
 
 use crate::blocks::{Blocks, take_one};
 use base_outside::region::Region;
@@ -58,6 +60,7 @@ impl<R: Region> Pages for Blocks<R> {
         ensures stops { Stops self.old.undo.stopped self.new.undo.stopped (R.count self.old.undo.region) (R.count self.new.undo.region)
             (R.burns self.old.undo.region) (R.burns self.new.undo.region) result }
         ensures other { OnOk result ((IsTakenBlock self.old.map block → ⊥) → to.new ≡ replicate 256 0) }
+        ensures still { IsStill R.extent R.tells R.image R.may_leave self.old self.new }
     {
         steps.tick();
         match self.place_of(block) {
@@ -81,6 +84,7 @@ impl<R: Region> Pages for Blocks<R> {
         ensures count { R.count self.new.undo.region ≡ R.count self.old.undo.region }
         ensures burns { R.burns self.new.undo.region ≡ R.burns self.old.undo.region }
         ensures other { (IsTakenBlock self.old.map block → ⊥) → self.new ≡ self.old }
+        ensures still { IsStill R.extent R.tells R.image R.may_leave self.old self.new }
     {
         if !self.undo.has_room(256) {
             return Err(TooMuch);
@@ -91,7 +95,22 @@ impl<R: Region> Pages for Blocks<R> {
         }
     }
 
-    fn take_block(&mut self) -> Result<u32, PageNo> {
+    fn take_block(&mut self) -> Result<u32, PageNo>
+        ensures first { IfOk result (λ b. 1264 ≤ b) }
+        ensures was_free { IfOk result (λ b. IsTrue R.tells → shown R.image self.old b ≡ None) }
+        ensures taken { IfOk result (λ b. IsTrue R.tells → (bytes : List ℕ) × (shown R.image self.new ≡ put (shown R.image self.old) b (Some bytes))) }
+        ensures kept { OnErr result (IsTrue R.tells → shown R.image self.new ≡ shown R.image self.old) }
+        ensures no_block { IsErrOf result NoBlock ↔ ((left self.old).free ≡ 0) }
+        ensures too_much { IsErrOf result too_much ↔ ((0 < (left self.old).free)
+            × (((left self.old).ranges < 1) ⊎ ((left self.old).bytes < 1))) }
+        ensures free { OnOk result ((left self.new).free + 1 ≡ (left self.old).free) }
+        ensures free_kept { OnErr result ((left self.new).free ≡ (left self.old).free) }
+        ensures spent { IsSpent 1 1 (left self.old) (left self.new) }
+        ensures stopped { self.new.undo.stopped ≡ self.old.undo.stopped }
+        ensures count { R.count self.new.undo.region ≡ R.count self.old.undo.region }
+        ensures burns { R.burns self.new.undo.region ≡ R.burns self.old.undo.region }
+        ensures still { IsStill R.extent R.tells R.image R.may_leave self.old self.new }
+    {
         if self.map.count() == 0 {
             return Err(PageNo::NoBlock);
         }
@@ -113,6 +132,7 @@ impl<R: Region> Pages for Blocks<R> {
         ensures count { R.count self.new.undo.region ≡ R.count self.old.undo.region }
         ensures burns { R.burns self.new.undo.region ≡ R.burns self.old.undo.region }
         ensures other { (IsTakenBlock self.old.map block → ⊥) → self.new ≡ self.old }
+        ensures still { IsStill R.extent R.tells R.image R.may_leave self.old self.new }
     {
         if !self.undo.has_room(1) {
             return Err(TooMuch);

@@ -8,9 +8,9 @@ use base_types::id::AttemptId;
 use base_types::items::{Items, Memory};
 use daos_model::durable::Durable;
 use std::alloc::Global;
-use vos_plain::rows::settle_all;
-use vos_plain::sweeps::{remove_entry, remove_pending};
-use vos_plain::tables::{commit, confirm, copied};
+use vos_contents::rows::settle_all;
+use vos_contents::sweeps::{remove_entry, remove_pending};
+use vos_contents::tables::{commit, confirm, copied};
 
 /// The same again.
 pub fn copy_kept(alloc: Global, durable: &Durable) -> Result<Durable, Memory>

@@ -6,7 +6,7 @@ use base_types::shown::Shown;
 use dtx_base::leading::LeaderMemory;
 use dtx_base::member::{MemberMemory, Parked};
 use std::alloc::Global;
-use vos_plain::tables::copied;
+use vos_contents::tables::copied;
 use world_base::target::TargetMemory;
 
 // The same reads again.

@@ -12,7 +12,7 @@ use base_types::items::Memory;
 use base_types::path::Path;
 use base_types::shown::Shown;
 use daos_model::durable::{ContRow, Durable, Version};
-use vos_plain::tables::{has_snap, new_row, row_of};
+use vos_contents::tables::{has_snap, new_row, row_of};
 use world_base::target::TargetPlan;
 
 // The row of a container, or a new one.

@@ -18,7 +18,7 @@ use base_types::shown::Shown;
 use daos_model::durable::Durable;
 use replay_base::entries::other_leader;
 use std::alloc::Global;
-use vos_plain::rows::first_blocking;
+use vos_contents::rows::first_blocking;
 use vos_scan::reads::answer_below;
 use vos_stamp::checks::check_read;
 use world_base::request::FetchRequest;

@@ -10,8 +10,8 @@ use base_types::items::{Items, Memory};
 use base_types::operation::MinorWrite;
 use daos_model::durable::{Durable, Version};
 use std::alloc::Global;
-use vos_plain::keyed::put_in;
-use vos_plain::rows::versions_in_form;
+use vos_contents::keyed::put_in;
+use vos_contents::rows::versions_in_form;
 
 // Puts versions among others in order, for which there is room.
 fn put_all(rows: &mut Vec<Version>, new: Vec<Version>)

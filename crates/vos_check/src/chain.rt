@@ -6,6 +6,7 @@ ghost use Rattle.vos_check_base.specs.declared.ground.Ground.{Ground as GroundOf
 ghost use Rattle.vos_check_base.specs.Answers.{Does, LeadsIn, Plain, nothing, same};
 ghost use Rattle.vos_check_base.specs.Sets.{open_of};
 ghost use Rattle.vos_check.specs.Steps.{is_nothing, is_same, read_link};
+ghost use Rattle.vos_check_base.specs.Health.{IsRead, says_stopped};
 
 use crate::codec::four_at;
 use pmem_pages::BLOCK;
@@ -62,6 +63,7 @@ fn link_at<S: Source>(
     requires { part ≤ 248 }
     ensures read { IsTrue S.tells → (g : GroundOf) → Does g (S.bytes source.old) (λ c. read_link c block is_last part) (open_of fresh.old) (open_of fresh.new) is_same result }
     ensures kept { IsTrue S.tells → S.bytes source.new ≡ S.bytes source.old }
+    ensures stops { IsRead S.health S.looked source.old source.new (says_stopped result) }
 {
     let mut bytes = [0; BLOCK];
     source.read(256 * u64::from(block), &mut bytes)?;
@@ -81,6 +83,7 @@ fn links<S: Source>(
 ) -> Result<(), CheckNo>
     ensures read { IsTrue S.tells → (g : GroundOf) → Does g (S.bytes source.old) (λ c. read_links c count block length) (open_of fresh.old) (open_of fresh.new) is_nothing result }
     ensures kept { IsTrue S.tells → S.bytes source.new ≡ S.bytes source.old }
+    ensures stops { IsRead S.health S.looked source.old source.new (says_stopped result) }
 {
     if count == 0 {
         return Ok(());
@@ -102,6 +105,7 @@ pub fn chain<S: Source>(
 ) -> Result<(), CheckNo>
     ensures read { IsTrue S.tells → (g : GroundOf) → Does g (S.bytes source.old) (λ c. read_chain c block length) (open_of fresh.old) (open_of fresh.new) is_nothing result }
     ensures kept { IsTrue S.tells → S.bytes source.new ≡ S.bytes source.old }
+    ensures stops { IsRead S.health S.looked source.old source.new (says_stopped result) }
 {
     links(source, fresh, length.div_ceil(PART), block, length)
 }

@@ -6,6 +6,7 @@ ghost use Rattle.vos_image.specs.Trees.{read_tree};
 ghost use Rattle.vos_check_base.specs.Answers.{Does};
 ghost use Rattle.vos_check_base.specs.Sets.{open_of};
 ghost use Rattle.vos_check.specs.Rows.{row_of};
+ghost use Rattle.vos_check_base.specs.Health.{IsRead, says_stopped};
 
 use crate::node::NodeRow;
 use crate::objects::Objects;
@@ -32,6 +33,7 @@ pub fn check_objects<S: Source>(
     ensures read { IsTrue S.tells → Does ground.now (S.bytes source.old) (λ c. read_tree objects c root) (open_of fresh.old) (open_of fresh.new)
         (λ nodes o. nodes.items ≡ map row_of (nodes_in o)) result }
     ensures kept { IsTrue S.tells → S.bytes source.new ≡ S.bytes source.old }
+    ensures stops { IsRead S.health S.looked source.old source.new (says_stopped result) }
 {
     let mut out = Vec::new(alloc);
     let level = Objects { ground: *ground };

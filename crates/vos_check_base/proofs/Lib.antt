@@ -1,3 +1,4 @@
 mod Sets
 pub mod Steps
 pub mod Faults
+pub mod Looking

@@ -1,8 +1,9 @@
 // The blocks that a field may still lead to.
-ghost use Rattle.std.specs.Prelude.{◌≡◌, ◌≤◌, ◌+◌, ◌*◌, ℕ, List, [], true, IfOk, IsTrue};
+ghost use Rattle.std.specs.Prelude.{◌≡◌, ◌≤◌, ◌+◌, ◌*◌, ℕ, List, [], true, IfOk, IsTrue, is_err};
 ghost use Rattle.vos_check_base.specs.Sets.{IsWithout, open_in, open_of};
 ghost use Rattle.vos_check_base.specs.Answers.{Finds, MarksIn, content, nothing};
 ghost use Rattle.vos_image.specs.Content.{Content, link};
+ghost use Rattle.vos_check_base.specs.Health.{IsRead};
 
 use crate::MAP_BYTES;
 use crate::bits::{is_clear, without_bit};
@@ -58,6 +59,7 @@ impl Fresh {
     pub fn new<S: Source>(source: &mut S, ground: &Ground) -> Result<Fresh, Stopped>
         ensures all { IfOk result (λ m. IsTrue S.tells → MarksIn (content ground.now (S.bytes source.old)) (open_of m) []) }
         ensures kept { IsTrue S.tells → S.bytes source.new ≡ S.bytes source.old }
+        ensures stops { IsRead S.health S.looked source.old source.new (is_err result) }
     {
         let mut bytes = [0; MAP_BYTES];
         source.read(MAP, &mut bytes)?;

@@ -1,4 +1,5 @@
 // Why a check ended.
+use base_outside::Failed;
 use pmem_pages::refusal::Stopped;
 use std::alloc::{AllocError, AllocFailed};
 use thiserror::Error;
@@ -21,6 +22,17 @@ impl From<Stopped> for CheckNo {
     ghost from_gives = { λ _ e. e ≡ stopped };
 
     fn from(_: Stopped) -> Self {
+        CheckNo::Stopped
+    }
+}
+
+impl From<Failed> for CheckNo {
+    ghost use Rattle.std.specs.Prelude.{◌≡◌};
+    ghost use Rattle.vos_check_base.specs.declared.refusal.CheckNo.TheVariants.{Stopped as stopped};
+
+    ghost from_gives = { λ _ e. e ≡ stopped };
+
+    fn from(_: Failed) -> Self {
         CheckNo::Stopped
     }
 }

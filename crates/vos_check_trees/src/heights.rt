@@ -1,8 +1,9 @@
 // The heights that nodes say.
-ghost use Rattle.std.specs.Prelude.{◌≡◌, ◌<◌, ◌==◌, ◌&&◌, not, true, IfOk, IsTrue};
+ghost use Rattle.std.specs.Prelude.{◌≡◌, ◌<◌, ◌==◌, ◌&&◌, not, true, IfOk, IsTrue, is_err};
 ghost use Rattle.vos_image.specs.Trees.{is_height, stored_height};
 ghost use Rattle.vos_check_base.specs.Answers.{content};
 ghost use Rattle.vos_check_base.specs.declared.ground.Ground.{Ground as GroundOf};
+ghost use Rattle.vos_check_base.specs.Health.{IsRead};
 
 use pmem_pages::node::Links;
 use pmem_pages::refusal::Stopped;
@@ -20,6 +21,7 @@ fn is_height(height: u8, left: u8, right: u8) -> bool
 pub fn stored_height<S: Source>(source: &mut S, block: u32) -> Result<u8, Stopped>
     ensures read { IfOk result (λ h. IsTrue S.tells → (g : GroundOf) → h ≡ stored_height (content g (S.bytes source.old)) block) }
     ensures kept { IsTrue S.tells → S.bytes source.new ≡ S.bytes source.old }
+    ensures stops { IsRead S.health S.looked source.old source.new (is_err result) }
 {
     if block == 0 {
         return Ok(0);
@@ -34,6 +36,7 @@ pub fn has_height<S: Source>(source: &mut S, most: u8, links: &Links) -> Result<
         (stored_height (content g (S.bytes source.old)) links.now.left) (stored_height (content g (S.bytes source.old)) links.now.right))) }
     ensures some { IfOk result (λ t. t ≡ true → 0 < most) }
     ensures kept { IsTrue S.tells → S.bytes source.new ≡ S.bytes source.old }
+    ensures stops { IsRead S.health S.looked source.old source.new (is_err result) }
 {
     if most == 0 {
         return Ok(false);

@@ -5,6 +5,7 @@ ghost use Rattle.vos_check_base.specs.declared.ground.Ground.{Ground as GroundOf
 ghost use Rattle.vos_check_base.specs.Answers.{Does, Leads, Plainly, content, same};
 ghost use Rattle.vos_check_base.specs.Sets.{open_of};
 ghost use Rattle.base_outside.specs.Images.{Image};
+ghost use Rattle.vos_check_base.specs.Health.{IsRead, says_stopped};
 
 use pmem_pages::node::{Links, TreeKey, Value};
 use vos_check_base::fresh::Fresh;
@@ -88,7 +89,8 @@ pub trait Level {
     ) -> Result<(), CheckNo>
         ensures read { IsTrue S.tells → Does (basis self.now) (S.bytes source.old) (λ c. (reads self.now).thing c (named name) value)
             (open_of fresh.old) (open_of fresh.new) (λ _ a. out.new.items ≡ out.old.items ++ rows block a) result }
-        ensures kept { IsTrue S.tells → S.bytes source.new ≡ S.bytes source.old };
+        ensures kept { IsTrue S.tells → S.bytes source.new ≡ S.bytes source.old }
+        ensures stops { IsRead S.health S.looked source.old source.new (says_stopped result) };
 }
 
 /// The keys between which the keys of a tree lie, where there are such.

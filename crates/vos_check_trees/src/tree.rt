@@ -4,6 +4,7 @@ ghost use Rattle.vos_image.specs.Trees.{read_below, read_fields, read_tree};
 ghost use Rattle.vos_check_base.specs.Answers.{Does};
 ghost use Rattle.vos_check_base.specs.Sets.{open_of};
 ghost use Rattle.vos_check_trees.specs.Found.{Gathers, HaveLengths, IsFound, enter};
+ghost use Rattle.vos_check_base.specs.Health.{IsRead, says_stopped};
 
 use crate::fields::fields;
 use crate::heights::{has_height, stored_height};
@@ -26,6 +27,7 @@ fn fields_at<K: Level, S: Source>(
         (open_of fresh.old) (open_of fresh.new) (IsFound K.named) result }
     ensures length { IfOk result (λ v. v.key.len ≤ 64) }
     ensures kept { IsTrue S.tells → S.bytes source.new ≡ S.bytes source.old }
+    ensures stops { IsRead S.health S.looked source.old source.new (says_stopped result) }
 {
     let mut bytes = [0; BLOCK];
     source.read(256 * u64::from(block), &mut bytes)?;
@@ -50,6 +52,7 @@ fn enter<K: Level, S: Source>(
     ensures some { OnOk result (0 < most) }
     ensures length { IfOk result (λ v. v.key.len ≤ 64) }
     ensures kept { IsTrue S.tells → S.bytes source.new ≡ S.bytes source.old }
+    ensures stops { IsRead S.health S.looked source.old source.new (says_stopped result) }
 {
     let found = fields_at(level, source, fresh, block, keys)?;
     if has_height(source, most, &found.links)? {
@@ -73,6 +76,7 @@ fn below<K: Level, S: Source>(
     ensures read { IsTrue S.tells → Does (K.basis level.now) (S.bytes source.old) (λ c. read_below (K.reads level.now) c most block keys.now.low keys.now.high)
         (open_of fresh.old) (open_of fresh.new) (λ _ t. Gathers K.rows out.old.items out.new.items t) result }
     ensures kept { IsTrue S.tells → S.bytes source.new ≡ S.bytes source.old }
+    ensures stops { IsRead S.health S.looked source.old source.new (says_stopped result) }
 {
     if block == 0 {
         return Ok(());
@@ -114,6 +118,7 @@ pub fn tree<K: Level, S: Source>(
     ensures read { IsTrue S.tells → Does (K.basis level.now) (S.bytes source.old) (λ c. read_tree (K.reads level.now) c root)
         (open_of fresh.old) (open_of fresh.new) (λ _ t. Gathers K.rows out.old.items out.new.items t) result }
     ensures kept { IsTrue S.tells → S.bytes source.new ≡ S.bytes source.old }
+    ensures stops { IsRead S.health S.looked source.old source.new (says_stopped result) }
 {
     let most = stored_height(source, root)?;
     let keys = Bounds {

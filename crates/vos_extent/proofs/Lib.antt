@@ -5,3 +5,4 @@ pub mod Greatest
 pub mod Walking
 pub mod Records
 pub mod Tops
+pub mod Settling

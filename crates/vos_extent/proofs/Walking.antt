@@ -47,7 +47,7 @@ use Rattle.vos_extent.proofs.Greatest.{greatest_append, greatest_none, painted_s
 -- ---- keys
 
 -- the key of an index alone lies below those of the extents from it on, and above the others
-start_order : (low : ℕ) (x : ExtentKey) → low < 2 ^ 32 → IsExtentKey x → key_cmp (start_key low) (extent_key x) ≡ ordering_then (nat_cmp low x.low) Less
+pub start_order : (low : ℕ) (x : ExtentKey) → low < 2 ^ 32 → IsExtentKey x → key_cmp (start_key low) (extent_key x) ≡ ordering_then (nat_cmp low x.low) Less
 unfolding extent_key start_key name_key
 start_order low x h g =
     ap (λ z. key_cmp (key_of z) (key_of (packed (extent_fields x)))) (sym (append-nil (big_bytes 4 low)))
@@ -133,7 +133,7 @@ split k (e ∷ es) (s ∷ xs) p r = by (key_cmp k e.key) refl (split k es xs p.1
     by Greater c t = later Greater c (λ n. let z : ⊥ = cc in z) refl t
 
 -- what a key and a value of an extent say
-placed_again : (s : Stored) → IsStored s → placed_in_pair (pair_of_thing extent_level s) ≡ Some (placed_of s)
+pub placed_again : (s : Stored) → IsStored s → placed_in_pair (pair_of_thing extent_level s) ≡ Some (placed_of s)
 placed_again s h =
     ap (placed_when (version_value (mark_of s))) (extents_exact.again (place_of s.extent) h.place)
     ∙ ap (placed_with (place_of s.extent)) (singles_exact.again (mark_of s) h.mark)

@@ -5,3 +5,4 @@ mod cells;
 pub mod extent;
 pub mod laws;
 pub mod pieces;
+pub mod settle;

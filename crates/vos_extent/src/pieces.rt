@@ -66,7 +66,7 @@ fn start_of(epoch: Epoch) -> Moment
 
 // The key of an index alone.
 #[tactic(auto, unfolding(crate::specs::Shown::start_key))]
-fn start_key(low: u32) -> TreeKey
+pub(crate) fn start_key(low: u32) -> TreeKey
     ensures key { result ≡ start_key low }
     ensures is { IsKey result }
 {
@@ -221,6 +221,9 @@ impl Extents {
 
     /// What the indexes from one on and before another hold, by extents below an epoch and a punch: each
     /// the record of the greatest extent below that covers it, unless the punch is later; holes elsewhere.
+    ///
+    /// The nodes and blocks that it reads are proportional to the extents that overlap the indexes or begin at most 1,023
+    /// before them, and not to all.
     ///
     /// # Errors
     ///

@@ -1,3 +1,4 @@
 pub mod Adding
 pub mod Reading
 pub mod Changing
+pub mod Settling

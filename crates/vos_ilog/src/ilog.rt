@@ -75,7 +75,7 @@ fn value_of(entry: LogEntry) -> Value
 }
 
 // The key of a moment.
-fn key_at(at: Moment) -> TreeKey
+pub(crate) fn key_at(at: Moment) -> TreeKey
     requires minor { at.minor < 64 }
     ensures key { result ≡ moment_key at }
     ensures is { IsKey result }
@@ -189,7 +189,7 @@ impl Ilog {
     }
 
     // What the entry of a moment says, if there is one.
-    fn find_mark<P: Pages, L: Ledger>(
+    pub(crate) fn find_mark<P: Pages, L: Ledger>(
         &self,
         pages: &mut P,
         key: &TreeKey,

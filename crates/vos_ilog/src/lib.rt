@@ -3,3 +3,4 @@
 
 pub mod ilog;
 pub mod laws;
+pub mod settle;

@@ -1,6 +1,7 @@
 -- Writes that are settled or pruned one after another.
 use Rattle.std.proofs.Common.{◌≡◌, ◌&&◌, ℕ, ◌+◌, ◌*◌, ◌≤◌, true, List, [], ◌∷◌, ◌++◌, Option, Some, None, refl, sym, ap, ◌∙◌, subst, arith}
-use Rattle.std.specs.Prelude.{is_some, take, drop}
+use Rattle.std.specs.Prelude.{All, is_some, take, drop}
+use Rattle.std.proofs.lemmas.List.Elements.{All-cons, All-head, All-nil, All-tail}
 use Rattle.std.proofs.lemmas.List.{take-append-drop}
 use Rattle.base_types.specs.declared.entry.Settle.{Settle}
 use Rattle.base_types.specs.declared.id.AttemptId.{AttemptId}
@@ -14,7 +15,7 @@ use Rattle.pmem_pages.proofs.Owning.{changed_then}
 use Rattle.vos_levels.specs.Levels.{hung_root, without_those}
 use Rattle.vos_levels.proofs.Changing.{stays}
 use Rattle.vos_path.specs.Objects.{Objects, objects_owner, objects_versions}
-use Rattle.vos_path.specs.Writes.{ObjectsAreSmall}
+use Rattle.vos_path.specs.Small.{PathIsSmall}
 use Rattle.vos_path.proofs.Written.{fewer_than, lacked_before}
 use Rattle.vos_settle.specs.declared.name.WriteName.{WriteName}
 use Rattle.vos_settle.specs.declared.task.WriteKind.{WriteKind}
@@ -22,11 +23,11 @@ use Rattle.vos_settle.specs.declared.task.WriteKind.TheVariants as kind
 use Rattle.vos_settle.specs.Costs.{Lacks, Spends, for_one, objects_cost}
 use Rattle.vos_settle.specs.Names.{IsNamed, moment_of}
 use Rattle.vos_settle.specs.Versions.{WriteTurn, fits_kind, object_in, versions_after, versions_freed}
-use Rattle.vos_settle.proofs.Smaller.{objects_small}
+use Rattle.vos_settle.proofs.Smaller.{path_stays_small}
 use Rattle.vos_settle.proofs.Sums.{spends_then}
 use Rattle.vos_prune.specs.Removals.{Removed, done_blocks, pruning}
 use Rattle.vos_prune.specs.Writers.{writer_of}
-use Rattle.vos_object.specs.Each.{RemoveTurn, RemovedIf, SettleTurn, Turned, Turning, TurnsEach, each_cost, removed_blocks, settled_blocks}
+use Rattle.vos_object.specs.Each.{PathsAreSmall, RemoveTurn, RemovedIf, SettleTurn, Turned, Turning, TurnsEach, each_cost, removed_blocks, settled_blocks}
 use Rattle.vos_object.specs.Settling.{is_removed, removed_each, settled_each, settling}
 use Rattle.vos_object.proofs.Settled.{nobody_removed}
 
@@ -66,6 +67,18 @@ lacks_after r s t d x y le h few =
     fewer_than (r + (s + (16 * d + 32))) (256 * r + 256 * (s + (16 * d + 32))) (t + (16 * d + 32)) (256 * (t + (16 * d + 32))) x (omega (arith, le)) (omega (arith, le))
     (lacked_before r (256 * r) (s + (16 * d + 32)) (256 * (s + (16 * d + 32))) x y h few)
 
+-- what holds of all holds of the first, and of the last
+all_front : {A : Type 0} (P : A → Type 0) (xs ys : List A) → All P (xs ++ ys) → All P xs
+all_front P [] ys h = All-nil P
+all_front P (x ∷ xs) ys h = All-cons P x xs (All-head P x (xs ++ ys) h) (all_front P xs ys (All-tail P x (xs ++ ys) h))
+
+all_last : {A : Type 0} (P : A → Type 0) (xs : List A) (y : A) → All P (xs ++ y ∷ []) → P y
+all_last P [] y h = All-head P y [] h
+all_last P (x ∷ xs) y h = all_last P xs y (All-tail P x (xs ++ y ∷ []) h)
+
+pub paths_front : (d : ℕ) (g : Objects) (ns : List WriteName) (i : ℕ) → PathsAreSmall d ns g → PathsAreSmall d (take i ns) g
+paths_front d g ns i h = all_front (λ z. PathIsSmall d z.path g) (take i ns) (drop i ns) (subst (λ z. PathsAreSmall d z g) (sym (take-append-drop i ns)) h)
+
 -- ---- one turn more
 
 turns_more : (T : Turning) (ns : List WriteName) (x : WriteName) (m : Blocks) (g : Objects) (n : Blocks) (at : ℕ) (h : Objects) (o : Blocks) (root : ℕ) (k : Objects) → root ≡ hung_root k → TurnsEach T ns m g n at h → T x n h o root k → TurnsEach T (ns ++ x ∷ []) m g o root k
@@ -86,22 +99,22 @@ pub record OneTurn (T : Turning) (after : After) (freed : Freed) (x : WriteName)
   pub changed : Changed objects_owner m g n now
   pub root_is : at ≡ hung_root now
   pub versions : objects_versions now ≡ after (x ∷ []) (objects_versions g)
-  pub small : (d : ℕ) → ObjectsAreSmall d g → ObjectsAreSmall d now
-  pub staged : (d : ℕ) → ObjectsAreSmall d g → Spends (one_cost x (for_one d) 1) b c
+  pub small : (d : ℕ) (q : Path) → PathIsSmall d q g → PathIsSmall d q now
+  pub staged : (d : ℕ) → PathIsSmall d x.path g → Spends (one_cost x (for_one d) 1) b c
   pub gives : b.free + freed (x ∷ []) (objects_versions g) ≤ c.free
 
 -- such turns one after another
 pub record SoFar (T : Turning) (after : After) (freed : Freed) (ns : List WriteName) (m : Blocks) (g : Objects) (b : Budget) (n : Blocks) (at : ℕ) (c : Budget) : Type 0 where
   pub turned : Turned T after ns m g n at
-  pub small : (d : ℕ) → ObjectsAreSmall d g → ObjectsAreSmall d turned.now
-  pub staged : (d : ℕ) → ObjectsAreSmall d g → Spends (each_cost ns (for_one d) 1) b c
+  pub small : (d : ℕ) (q : Path) → PathIsSmall d q g → PathIsSmall d q turned.now
+  pub staged : (d : ℕ) → PathsAreSmall d ns g → Spends (each_cost ns (for_one d) 1) b c
   pub gives : b.free + freed ns (objects_versions g) ≤ c.free
 
 module _ (T : Turning) (after : After) (freed : Freed) (after_none : (vs : List Version) → after [] vs ≡ vs) (freed_none : (vs : List Version) → freed [] vs ≡ 0) (after_more : (ns : List WriteName) (x : WriteName) (vs : List Version) → after (ns ++ x ∷ []) vs ≡ after (x ∷ []) (after ns vs)) (freed_more : (ns : List WriteName) (x : WriteName) (vs : List Version) → freed (ns ++ x ∷ []) vs ≡ freed ns vs + freed (x ∷ []) (after ns vs)) where
   first : (m : Blocks) (g : Objects) (b : Budget) (at : ℕ) → Holds objects_owner m g → at ≡ hung_root g → SoFar T after freed [] m g b m at b
   first m g b at held root = record {
     turned = record { now = g; turns = record { same = record { blocks = refl; root_is = root }; now_is = refl }; changed = stays objects_owner m g held; root_is = root; versions = sym (after_none (objects_versions g)) };
-    small = λ d h. h;
+    small = λ d q h. h;
     staged = λ d h. record { ranges_most = omega arith; ranges_least = omega arith; bytes_most = omega arith; bytes_least = omega arith };
     gives = omega (arith, freed_none (objects_versions g));
   }
@@ -118,8 +131,8 @@ module _ (T : Turning) (after : After) (freed : Freed) (after_none : (vs : List 
           root_is = one.root_is;
           versions = one.versions ∙ (ap (after (x ∷ [])) s.turned.versions ∙ sym (after_more ns x vs));
         };
-        small = λ d h. one.small d (s.small d h);
-        staged = λ d h. subst (λ k. Spends k b e) (cost_more ns x (for_one d) 1) (spends_then (each_cost ns (for_one d) 1) (one_cost x (for_one d) 1) b c e (s.staged d h) (one.staged d (s.small d h)));
+        small = λ d q h. one.small d q (s.small d q h);
+        staged = λ d h. subst (λ k. Spends k b e) (cost_more ns x (for_one d) 1) (spends_then (each_cost ns (for_one d) 1) (one_cost x (for_one d) 1) b c e (s.staged d (all_front (λ z. PathIsSmall d z.path g) ns (x ∷ []) h)) (one.staged d (s.small d x.path (all_last (λ z. PathIsSmall d z.path g) ns x h))));
         gives = omega (arith, s.gives, gave, freed_more ns x vs);
       }
 
@@ -141,7 +154,7 @@ settled_first a s m g b at held root = first (SettleTurn a s) (settled_each a s)
 
 pub settled_next : (a : AttemptId) (s : Settle) (ns : List WriteName) (x : WriteName) → IsNamed x → (m : Blocks) (g : Objects) (b : Budget) (n : Blocks) (at : ℕ) (c : Budget) (o : Blocks) (root : ℕ) (e : Budget) (f : SettledSoFar a s ns m g b n at c)
     → WriteTurn (settling a x s) x.path n f.turned.now o root
-    → ((d : ℕ) → ObjectsAreSmall d f.turned.now → Spends (one_cost x (for_one d) 1) c e)
+    → ((d : ℕ) → PathIsSmall d x.path f.turned.now → Spends (one_cost x (for_one d) 1) c e)
     → c.free + versions_freed (settling a x s) x.path (objects_versions f.turned.now) ≤ e.free
     → SettledSoFar a s (ns ++ x ∷ []) m g b o root e
 settled_next a s ns x named m g b n at c o root e f w staged gives =
@@ -152,7 +165,7 @@ settled_next a s ns x named m g b n at c o root e f w staged gives =
       changed = w.changed;
       root_is = w.root_is;
       versions = w.versions;
-      small = λ d h. objects_small (settling a x s) (object_in x.path y.0) x.path n o f.turned.now w.now d f.turned.changed.holds w.changed.holds (w.nodes y.0 y.1) h;
+      small = λ d q h. path_stays_small (settling a x s) (object_in x.path y.0) x.path q n o f.turned.now w.now d f.turned.changed.holds w.changed.holds (w.nodes y.0 y.1) h;
       staged = staged;
       gives = omega (arith, gives);
     })
@@ -175,7 +188,7 @@ removed_first m g b at held root = first RemoveTurn removed_each removed_blocks 
 
 one_removed : (x : WriteName) → IsNamed x → (m : Blocks) (g : Objects) (b : Budget) (n : Blocks) (at : ℕ) (c : Budget) → Holds objects_owner m g
     → Removed (writer_of x.path x.kind (moment_of x) (objects_versions g)) x.kind (moment_of x) x.path m g n at
-    → ((d : ℕ) → ObjectsAreSmall d g → Spends (one_cost x (for_one d) 1) b c)
+    → ((d : ℕ) → PathIsSmall d x.path g → Spends (one_cost x (for_one d) 1) b c)
     → b.free + done_blocks x.path x.kind (moment_of x) (objects_versions g) ≤ c.free
     → OneTurn RemoveTurn removed_each removed_blocks x m g b n at c
 one_removed x named m g b n at c held removed staged gives = by (writer_of x.path x.kind (moment_of x) (objects_versions g)) refl removed
@@ -187,7 +200,7 @@ one_removed x named m g b n at c held removed staged gives = by (writer_of x.pat
       changed = subst (λ y. Changed objects_owner m g y g) (sym r.blocks) (stays objects_owner m g held);
       root_is = r.root_is;
       versions = sym (nobody_removed x (objects_versions g) e);
-      small = λ d h. h;
+      small = λ d q h. h;
       staged = staged;
       gives = omega (arith, gives);
     }
@@ -199,14 +212,14 @@ one_removed x named m g b n at c held removed staged gives = by (writer_of x.pat
           changed = r.changed;
           root_is = r.root_is;
           versions = r.versions;
-          small = λ d h. objects_small (pruning x.kind (moment_of x) a) (object_in x.path y.0) x.path m n g r.now d held r.changed.holds (r.nodes y.0 y.1) h;
+          small = λ d q h. path_stays_small (pruning x.kind (moment_of x) a) (object_in x.path y.0) x.path q m n g r.now d held r.changed.holds (r.nodes y.0 y.1) h;
           staged = staged;
           gives = omega (arith, gives);
         }
 
 pub removed_next : (ns : List WriteName) (x : WriteName) → IsNamed x → (m : Blocks) (g : Objects) (b : Budget) (n : Blocks) (at : ℕ) (c : Budget) (o : Blocks) (root : ℕ) (e : Budget) (f : RemovedSoFar ns m g b n at c)
     → Removed (writer_of x.path x.kind (moment_of x) (objects_versions f.turned.now)) x.kind (moment_of x) x.path n f.turned.now o root
-    → ((d : ℕ) → ObjectsAreSmall d f.turned.now → Spends (one_cost x (for_one d) 1) c e)
+    → ((d : ℕ) → PathIsSmall d x.path f.turned.now → Spends (one_cost x (for_one d) 1) c e)
     → c.free + done_blocks x.path x.kind (moment_of x) (objects_versions f.turned.now) ≤ e.free
     → RemovedSoFar (ns ++ x ∷ []) m g b o root e
 removed_next ns x named m g b n at c o root e f removed staged gives = next RemoveTurn removed_each removed_blocks (λ vs. refl) (λ vs. refl) removed_more removed_blocks_more ns x m g b n at c o root e f (one_removed x named n f.turned.now c o root e f.turned.changed.holds removed staged gives)

@@ -1,5 +1,5 @@
 -- Writes that are settled or pruned one after another, by their names.
-use Rattle.std.specs.Prelude.{◌≡◌, ◌+◌, ℕ, List, [], ◌∷◌, Option, Some, None}
+use Rattle.std.specs.Prelude.{All, ◌≡◌, ◌+◌, ℕ, List, [], ◌∷◌, Option, Some, None}
 use Rattle.base_types.specs.declared.entry.Settle.{Settle}
 use Rattle.base_types.specs.declared.id.AttemptId.{AttemptId}
 use Rattle.daos_model.specs.declared.durable.Version.{Version}
@@ -7,6 +7,7 @@ use Rattle.pmem_pages.specs.Blocks.{Blocks}
 use Rattle.pmem_pages.specs.Owners.{Changed}
 use Rattle.vos_levels.specs.Levels.{hung_root, without_those}
 use Rattle.vos_path.specs.Objects.{Objects, objects_owner, objects_versions}
+use Rattle.vos_path.specs.Small.{PathIsSmall}
 use Rattle.vos_settle.specs.declared.name.WriteName.{WriteName}
 use Rattle.vos_settle.specs.Costs.{objects_cost}
 use Rattle.vos_settle.specs.Names.{moment_of}
@@ -50,6 +51,10 @@ pub record Turned (T : Turning) (after : List WriteName → List Version → Lis
   pub changed : Changed objects_owner m g n now
   pub root_is : at ≡ hung_root now
   pub versions : objects_versions now ≡ after ns (objects_versions g)
+
+-- no tree on the path of one of some writes has 2^d pairs
+abbrev pub PathsAreSmall : ℕ → List WriteName → Objects → Type 0
+PathsAreSmall d ns g = All (λ n. PathIsSmall d n.path g) ns
 
 -- what the turns may stage in all, with so much for each entry and version that goes, and so much for a value on the way
 abbrev pub each_cost : List WriteName → ℕ → ℕ → ℕ

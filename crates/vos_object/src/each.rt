@@ -7,10 +7,9 @@ ghost use Rattle.pmem_tree_base.specs.declared.refusal.TreeNo.{TreeNo};
 ghost use Rattle.vos_levels.specs.Calls.{HasThing, OfThing};
 ghost use Rattle.vos_levels.specs.Levels.{hung_root};
 ghost use Rattle.vos_path.specs.Objects.{objects_owner, objects_versions};
-ghost use Rattle.vos_path.specs.Writes.{ObjectsAreSmall};
 ghost use Rattle.vos_settle.specs.Costs.{Lacks, Spends, for_one};
 ghost use Rattle.vos_settle.specs.Names.{IsNamed};
-ghost use Rattle.vos_object.specs.Each.{RemoveTurn, SettleTurn, Turned, each_cost, removed_blocks, settled_blocks};
+ghost use Rattle.vos_object.specs.Each.{PathsAreSmall, RemoveTurn, SettleTurn, Turned, each_cost, removed_blocks, settled_blocks};
 ghost use Rattle.vos_object.specs.Settling.{decides, removed_each, settled_each};
 
 use crate::object::Objects;
@@ -45,9 +44,9 @@ impl Objects {
         ensures settled { OnOk result (OfThing P.tells objects_owner hung_root (P.blocks pages.old) self.old.tree.root (λ g. Turned (SettleTurn attempt step) (settled_each attempt step) names.now (P.blocks pages.old) g (P.blocks pages.new) self.new.tree.root)) }
         ensures kept { self.new ≡ self.old }
         ensures no_block { IsErrOf result TreeNo.NoBlock → ⊥ }
-        ensures too_much { IsErrOf result TreeNo.TooMuch → OfThing P.tells objects_owner hung_root (P.blocks pages.old) self.old.tree.root (λ g. (d : ℕ) → ObjectsAreSmall d g → Lacks (each_cost names.now (for_one d) 1) d (P.budget pages.old)) }
-        ensures few_left { IsErrOf result TreeNo.TooMuch → OfThing P.tells objects_owner hung_root (P.blocks pages.old) self.old.tree.root (λ g. (d : ℕ) → ObjectsAreSmall d g → IsShort d (P.budget pages.new)) }
-        ensures staged { OnOk result (OfThing P.tells objects_owner hung_root (P.blocks pages.old) self.old.tree.root (λ g. (d : ℕ) → ObjectsAreSmall d g → Spends (each_cost names.now (for_one d) 1) (P.budget pages.old) (P.budget pages.new))) }
+        ensures too_much { IsErrOf result TreeNo.TooMuch → OfThing P.tells objects_owner hung_root (P.blocks pages.old) self.old.tree.root (λ g. (d : ℕ) → PathsAreSmall d names.now g → Lacks (each_cost names.now (for_one d) 1) d (P.budget pages.old)) }
+        ensures few_left { IsErrOf result TreeNo.TooMuch → OfThing P.tells objects_owner hung_root (P.blocks pages.old) self.old.tree.root (λ g. (d : ℕ) → PathsAreSmall d names.now g → IsShort d (P.budget pages.new)) }
+        ensures staged { OnOk result (OfThing P.tells objects_owner hung_root (P.blocks pages.old) self.old.tree.root (λ g. (d : ℕ) → PathsAreSmall d names.now g → Spends (each_cost names.now (for_one d) 1) (P.budget pages.old) (P.budget pages.new))) }
         ensures committed { step ≡ commit_step → OnOk result (Spends (each_cost names.now 1 0) (P.budget pages.old) (P.budget pages.new)) }
         ensures gives { OnOk result (OfThing P.tells objects_owner hung_root (P.blocks pages.old) self.old.tree.root (λ g. (P.budget pages.old).free + settled_blocks attempt step names.now (objects_versions g) ≤ (P.budget pages.new).free)) }
         ensures goes { Goes P.stopped P.count P.burns pages.old pages.new }
@@ -77,9 +76,9 @@ impl Objects {
         ensures removed { OnOk result (OfThing P.tells objects_owner hung_root (P.blocks pages.old) self.old.tree.root (λ g. Turned RemoveTurn removed_each names.now (P.blocks pages.old) g (P.blocks pages.new) self.new.tree.root)) }
         ensures kept { self.new ≡ self.old }
         ensures no_block { IsErrOf result TreeNo.NoBlock → ⊥ }
-        ensures too_much { IsErrOf result TreeNo.TooMuch → OfThing P.tells objects_owner hung_root (P.blocks pages.old) self.old.tree.root (λ g. (d : ℕ) → ObjectsAreSmall d g → Lacks (each_cost names.now (for_one d) 1) d (P.budget pages.old)) }
-        ensures few_left { IsErrOf result TreeNo.TooMuch → OfThing P.tells objects_owner hung_root (P.blocks pages.old) self.old.tree.root (λ g. (d : ℕ) → ObjectsAreSmall d g → IsShort d (P.budget pages.new)) }
-        ensures staged { OnOk result (OfThing P.tells objects_owner hung_root (P.blocks pages.old) self.old.tree.root (λ g. (d : ℕ) → ObjectsAreSmall d g → Spends (each_cost names.now (for_one d) 1) (P.budget pages.old) (P.budget pages.new))) }
+        ensures too_much { IsErrOf result TreeNo.TooMuch → OfThing P.tells objects_owner hung_root (P.blocks pages.old) self.old.tree.root (λ g. (d : ℕ) → PathsAreSmall d names.now g → Lacks (each_cost names.now (for_one d) 1) d (P.budget pages.old)) }
+        ensures few_left { IsErrOf result TreeNo.TooMuch → OfThing P.tells objects_owner hung_root (P.blocks pages.old) self.old.tree.root (λ g. (d : ℕ) → PathsAreSmall d names.now g → IsShort d (P.budget pages.new)) }
+        ensures staged { OnOk result (OfThing P.tells objects_owner hung_root (P.blocks pages.old) self.old.tree.root (λ g. (d : ℕ) → PathsAreSmall d names.now g → Spends (each_cost names.now (for_one d) 1) (P.budget pages.old) (P.budget pages.new))) }
         ensures gives { OnOk result (OfThing P.tells objects_owner hung_root (P.blocks pages.old) self.old.tree.root (λ g. (P.budget pages.old).free + removed_blocks names.now (objects_versions g) ≤ (P.budget pages.new).free)) }
         ensures goes { Goes P.stopped P.count P.burns pages.old pages.new }
         ensures stopped { IsErrOf result TreeNo.Stopped → P.stopped pages.new ≡ true }

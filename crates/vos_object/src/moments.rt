@@ -6,9 +6,8 @@ ghost use Rattle.pmem_tree_base.specs.Calls.{Goes};
 ghost use Rattle.vos_levels.specs.Calls.{Becomes, HasThing, OfThing};
 ghost use Rattle.vos_levels.specs.Levels.{hung_root};
 ghost use Rattle.vos_path.specs.Objects.{objects_owner, objects_versions};
-ghost use Rattle.vos_path.specs.Writes.{ObjectsAreSmall};
 ghost use Rattle.vos_settle.specs.Costs.{Lacks, Spends, for_one};
-ghost use Rattle.vos_object.specs.Each.{RemoveTurn, SettleTurn, Turned, each_cost};
+ghost use Rattle.vos_object.specs.Each.{PathsAreSmall, RemoveTurn, SettleTurn, Turned, each_cost};
 ghost use Rattle.vos_object.specs.Moments.{pruned_at, pruned_freed, pruned_names, settled_at, settled_freed, settled_names};
 ghost use Rattle.vos_object.specs.Settling.{decides, removed_each, settled_each};
 ghost use Rattle.vos_object.specs.declared.refusal.SettleNo.{SettleNo};
@@ -54,9 +53,9 @@ impl Objects {
         ensures settled { OnOk result (OfThing P.tells objects_owner hung_root (P.blocks pages.old) self.old.tree.root (λ g. Becomes objects_owner hung_root objects_versions (P.blocks pages.old) g (P.blocks pages.new) self.new.tree.root (λ vs ws. ws ≡ settled_at attempt which.now step vs))) }
         ensures turns { OnOk result (OfThing P.tells objects_owner hung_root (P.blocks pages.old) self.old.tree.root (λ g. Turned (SettleTurn attempt step) (settled_each attempt step) (settled_names attempt which.now step (objects_versions g)) (P.blocks pages.old) g (P.blocks pages.new) self.new.tree.root)) }
         ensures kept { self.new ≡ self.old }
-        ensures too_much { IsErrOf result SettleNo.TooMuch → OfThing P.tells objects_owner hung_root (P.blocks pages.old) self.old.tree.root (λ g. (d : ℕ) → ObjectsAreSmall d g → Lacks (each_cost (settled_names attempt which.now step (objects_versions g)) (for_one d) 1) d (P.budget pages.old)) }
-        ensures few_left { IsErrOf result SettleNo.TooMuch → OfThing P.tells objects_owner hung_root (P.blocks pages.old) self.old.tree.root (λ g. (d : ℕ) → ObjectsAreSmall d g → IsShort d (P.budget pages.new)) }
-        ensures staged { OnOk result (OfThing P.tells objects_owner hung_root (P.blocks pages.old) self.old.tree.root (λ g. (d : ℕ) → ObjectsAreSmall d g → Spends (each_cost (settled_names attempt which.now step (objects_versions g)) (for_one d) 1) (P.budget pages.old) (P.budget pages.new))) }
+        ensures too_much { IsErrOf result SettleNo.TooMuch → OfThing P.tells objects_owner hung_root (P.blocks pages.old) self.old.tree.root (λ g. (d : ℕ) → PathsAreSmall d (settled_names attempt which.now step (objects_versions g)) g → Lacks (each_cost (settled_names attempt which.now step (objects_versions g)) (for_one d) 1) d (P.budget pages.old)) }
+        ensures few_left { IsErrOf result SettleNo.TooMuch → OfThing P.tells objects_owner hung_root (P.blocks pages.old) self.old.tree.root (λ g. (d : ℕ) → PathsAreSmall d (settled_names attempt which.now step (objects_versions g)) g → IsShort d (P.budget pages.new)) }
+        ensures staged { OnOk result (OfThing P.tells objects_owner hung_root (P.blocks pages.old) self.old.tree.root (λ g. (d : ℕ) → PathsAreSmall d (settled_names attempt which.now step (objects_versions g)) g → Spends (each_cost (settled_names attempt which.now step (objects_versions g)) (for_one d) 1) (P.budget pages.old) (P.budget pages.new))) }
         ensures committed { step ≡ commit_step → OnOk result (OfThing P.tells objects_owner hung_root (P.blocks pages.old) self.old.tree.root (λ g. Spends (each_cost (settled_names attempt which.now step (objects_versions g)) 1 0) (P.budget pages.old) (P.budget pages.new))) }
         ensures gives { OnOk result (OfThing P.tells objects_owner hung_root (P.blocks pages.old) self.old.tree.root (λ g. (P.budget pages.old).free + settled_freed attempt which.now step (objects_versions g) ≤ (P.budget pages.new).free)) }
         ensures memory { IsErrOf result SettleNo.Memory → (IsTrue P.tells → P.blocks pages.new ≡ P.blocks pages.old) × (P.budget pages.new ≡ P.budget pages.old) }
@@ -94,9 +93,9 @@ impl Objects {
         ensures pruned { OnOk result (OfThing P.tells objects_owner hung_root (P.blocks pages.old) self.old.tree.root (λ g. Becomes objects_owner hung_root objects_versions (P.blocks pages.old) g (P.blocks pages.new) self.new.tree.root (λ vs ws. ws ≡ pruned_at path.now gone.now vs))) }
         ensures turns { OnOk result (OfThing P.tells objects_owner hung_root (P.blocks pages.old) self.old.tree.root (λ g. Turned RemoveTurn removed_each (pruned_names path.now gone.now (objects_versions g)) (P.blocks pages.old) g (P.blocks pages.new) self.new.tree.root)) }
         ensures kept { self.new ≡ self.old }
-        ensures too_much { IsErrOf result SettleNo.TooMuch → OfThing P.tells objects_owner hung_root (P.blocks pages.old) self.old.tree.root (λ g. (d : ℕ) → ObjectsAreSmall d g → Lacks (each_cost (pruned_names path.now gone.now (objects_versions g)) (for_one d) 1) d (P.budget pages.old)) }
-        ensures few_left { IsErrOf result SettleNo.TooMuch → OfThing P.tells objects_owner hung_root (P.blocks pages.old) self.old.tree.root (λ g. (d : ℕ) → ObjectsAreSmall d g → IsShort d (P.budget pages.new)) }
-        ensures staged { OnOk result (OfThing P.tells objects_owner hung_root (P.blocks pages.old) self.old.tree.root (λ g. (d : ℕ) → ObjectsAreSmall d g → Spends (each_cost (pruned_names path.now gone.now (objects_versions g)) (for_one d) 1) (P.budget pages.old) (P.budget pages.new))) }
+        ensures too_much { IsErrOf result SettleNo.TooMuch → OfThing P.tells objects_owner hung_root (P.blocks pages.old) self.old.tree.root (λ g. (d : ℕ) → PathsAreSmall d (pruned_names path.now gone.now (objects_versions g)) g → Lacks (each_cost (pruned_names path.now gone.now (objects_versions g)) (for_one d) 1) d (P.budget pages.old)) }
+        ensures few_left { IsErrOf result SettleNo.TooMuch → OfThing P.tells objects_owner hung_root (P.blocks pages.old) self.old.tree.root (λ g. (d : ℕ) → PathsAreSmall d (pruned_names path.now gone.now (objects_versions g)) g → IsShort d (P.budget pages.new)) }
+        ensures staged { OnOk result (OfThing P.tells objects_owner hung_root (P.blocks pages.old) self.old.tree.root (λ g. (d : ℕ) → PathsAreSmall d (pruned_names path.now gone.now (objects_versions g)) g → Spends (each_cost (pruned_names path.now gone.now (objects_versions g)) (for_one d) 1) (P.budget pages.old) (P.budget pages.new))) }
         ensures gives { OnOk result (OfThing P.tells objects_owner hung_root (P.blocks pages.old) self.old.tree.root (λ g. (P.budget pages.old).free + pruned_freed path.now gone.now (objects_versions g) ≤ (P.budget pages.new).free)) }
         ensures memory { IsErrOf result SettleNo.Memory → (IsTrue P.tells → P.blocks pages.new ≡ P.blocks pages.old) × (P.budget pages.new ≡ P.budget pages.old) }
         ensures goes { Goes P.stopped P.count P.burns pages.old pages.new }

@@ -19,7 +19,9 @@ ghost use Rattle.vos_levels.specs.Levels.{hung_root};
 ghost use Rattle.vos_chain.specs.declared.refusal.PiecesNo.TheVariants.{Stopped as stopped_no};
 ghost use Rattle.vos_path.specs.Calls.{LacksFor, SpendsAtMost, for_pair};
 ghost use Rattle.vos_path.specs.Objects.{objects_owner, objects_versions};
-ghost use Rattle.vos_path.specs.Writes.{IsNewIn, NamesAreKeys, ObjectsAreSmall, below_object_pairs, data_blocks, is_update, object_pairs};
+ghost use Rattle.base_types.specs.Operations.{write_path};
+ghost use Rattle.vos_path.specs.Small.{PathIsSmall};
+ghost use Rattle.vos_path.specs.Writes.{IsNewIn, NamesAreKeys, below_object_pairs, data_blocks, is_update, object_pairs};
 ghost use Rattle.vos_punches.specs.Punches.{ArePunchesOf};
 ghost use Rattle.vos_punches.specs.Rows.{moments_at};
 ghost use Rattle.vos_reads.specs.Cost.{OfNames, StepsToExtents, StepsToSingle};
@@ -79,9 +81,9 @@ impl Objects {
         ensures added { OnOk result (OfThing P.tells objects_owner hung_root (P.blocks pages.old) self.old.tree.root (λ g. IsNewIn (new_version epoch by write.now) g → Added epoch by write.now (P.blocks pages.old) g (P.blocks pages.new) self.new.tree.root)) }
         ensures kind { self.new.tree.kind ≡ 1 }
         ensures no_block { IsErrOf result TreeNo.NoBlock → (P.budget pages.old).free < most_blocks write.now.write }
-        ensures too_much { IsErrOf result TreeNo.TooMuch → OfThing P.tells objects_owner hung_root (P.blocks pages.old) self.old.tree.root (λ g. IsNewIn (new_version epoch by write.now) g → (d : ℕ) → ObjectsAreSmall d g → LacksFor (data_blocks write.now.write) (below_object_pairs write.now.write (for_pair d)) d (P.budget pages.old)) }
-        ensures few_left { IsErrOf result TreeNo.TooMuch → OfThing P.tells objects_owner hung_root (P.blocks pages.old) self.old.tree.root (λ g. IsNewIn (new_version epoch by write.now) g → (d : ℕ) → ObjectsAreSmall d g → IsShort d (P.budget pages.new)) }
-        ensures staged { OnOk result (OfThing P.tells objects_owner hung_root (P.blocks pages.old) self.old.tree.root (λ g. IsNewIn (new_version epoch by write.now) g → (d : ℕ) → ObjectsAreSmall d g → SpendsAtMost (data_blocks write.now.write) (object_pairs write.now.write (for_pair d)) (P.budget pages.old) (P.budget pages.new))) }
+        ensures too_much { IsErrOf result TreeNo.TooMuch → OfThing P.tells objects_owner hung_root (P.blocks pages.old) self.old.tree.root (λ g. IsNewIn (new_version epoch by write.now) g → (d : ℕ) → PathIsSmall d (write_path write.now.write) g → LacksFor (data_blocks write.now.write) (below_object_pairs write.now.write (for_pair d)) d (P.budget pages.old)) }
+        ensures few_left { IsErrOf result TreeNo.TooMuch → OfThing P.tells objects_owner hung_root (P.blocks pages.old) self.old.tree.root (λ g. IsNewIn (new_version epoch by write.now) g → (d : ℕ) → PathIsSmall d (write_path write.now.write) g → IsShort d (P.budget pages.new)) }
+        ensures staged { OnOk result (OfThing P.tells objects_owner hung_root (P.blocks pages.old) self.old.tree.root (λ g. IsNewIn (new_version epoch by write.now) g → (d : ℕ) → PathIsSmall d (write_path write.now.write) g → SpendsAtMost (data_blocks write.now.write) (object_pairs write.now.write (for_pair d)) (P.budget pages.old) (P.budget pages.new))) }
         ensures free { OnOk result ((P.budget pages.old).free ≤ (P.budget pages.new).free + most_blocks write.now.write) }
         ensures counted { most_blocks write.now.write < write_blocks write.now.write }
         ensures goes { Goes P.stopped P.count P.burns pages.old pages.new }
@@ -116,9 +118,9 @@ impl Objects {
         ensures added { OnOk result (OfThing P.tells objects_owner hung_root (P.blocks pages.old) self.old.tree.root (λ g. IsNewIn (new_version epoch by write.now) g → Added epoch by write.now (P.blocks pages.old) g (P.blocks pages.new) self.new.tree.root)) }
         ensures kind { self.new.tree.kind ≡ 1 }
         ensures no_block { IsErrOf result TreeNo.NoBlock → (P.budget pages.old).free < most_blocks write.now.write }
-        ensures too_much { IsErrOf result TreeNo.TooMuch → OfThing P.tells objects_owner hung_root (P.blocks pages.old) self.old.tree.root (λ g. IsNewIn (new_version epoch by write.now) g → (d : ℕ) → ObjectsAreSmall d g → LacksFor (data_blocks write.now.write) (below_object_pairs write.now.write (for_pair d)) d (P.budget pages.old)) }
-        ensures few_left { IsErrOf result TreeNo.TooMuch → OfThing P.tells objects_owner hung_root (P.blocks pages.old) self.old.tree.root (λ g. IsNewIn (new_version epoch by write.now) g → (d : ℕ) → ObjectsAreSmall d g → IsShort d (P.budget pages.new)) }
-        ensures staged { OnOk result (OfThing P.tells objects_owner hung_root (P.blocks pages.old) self.old.tree.root (λ g. IsNewIn (new_version epoch by write.now) g → (d : ℕ) → ObjectsAreSmall d g → SpendsAtMost (data_blocks write.now.write) (object_pairs write.now.write (for_pair d)) (P.budget pages.old) (P.budget pages.new))) }
+        ensures too_much { IsErrOf result TreeNo.TooMuch → OfThing P.tells objects_owner hung_root (P.blocks pages.old) self.old.tree.root (λ g. IsNewIn (new_version epoch by write.now) g → (d : ℕ) → PathIsSmall d (write_path write.now.write) g → LacksFor (data_blocks write.now.write) (below_object_pairs write.now.write (for_pair d)) d (P.budget pages.old)) }
+        ensures few_left { IsErrOf result TreeNo.TooMuch → OfThing P.tells objects_owner hung_root (P.blocks pages.old) self.old.tree.root (λ g. IsNewIn (new_version epoch by write.now) g → (d : ℕ) → PathIsSmall d (write_path write.now.write) g → IsShort d (P.budget pages.new)) }
+        ensures staged { OnOk result (OfThing P.tells objects_owner hung_root (P.blocks pages.old) self.old.tree.root (λ g. IsNewIn (new_version epoch by write.now) g → (d : ℕ) → PathIsSmall d (write_path write.now.write) g → SpendsAtMost (data_blocks write.now.write) (object_pairs write.now.write (for_pair d)) (P.budget pages.old) (P.budget pages.new))) }
         ensures free { OnOk result ((P.budget pages.old).free ≤ (P.budget pages.new).free + most_blocks write.now.write) }
         ensures counted { most_blocks write.now.write < write_blocks write.now.write }
         ensures goes { Goes P.stopped P.count P.burns pages.old pages.new }

@@ -7,7 +7,7 @@ ghost use Rattle.pmem_tree_base.specs.declared.refusal.TreeNo.{TreeNo};
 ghost use Rattle.vos_levels.specs.Calls.{HasThing, OfThing};
 ghost use Rattle.vos_levels.specs.Levels.{hung_root};
 ghost use Rattle.vos_path.specs.Objects.{objects_owner, objects_versions};
-ghost use Rattle.vos_path.specs.Writes.{ObjectsAreSmall};
+ghost use Rattle.vos_path.specs.Small.{PathIsSmall};
 ghost use Rattle.vos_settle.specs.Costs.{Lacks, Spends, for_one, objects_cost};
 ghost use Rattle.vos_settle.specs.Versions.{WriteTurn, versions_freed, write_freed};
 ghost use Rattle.vos_prune.specs.Removals.{Removed, done_blocks, removed_freed};
@@ -64,9 +64,9 @@ impl Objects {
         ensures settled { OnOk result (OfThing P.tells objects_owner hung_root (P.blocks pages.old) self.old.tree.root (λ g. WriteTurn (settling attempt name.now step) name.now.path (P.blocks pages.old) g (P.blocks pages.new) self.new.tree.root)) }
         ensures kept { self.new ≡ self.old }
         ensures no_block { IsErrOf result TreeNo.NoBlock → ⊥ }
-        ensures too_much { IsErrOf result TreeNo.TooMuch → OfThing P.tells objects_owner hung_root (P.blocks pages.old) self.old.tree.root (λ g. (d : ℕ) → ObjectsAreSmall d g → Lacks (objects_cost name.now.kind name.now.path.dkey name.now.path.akey (for_one d) 1) d (P.budget pages.old)) }
-        ensures few_left { IsErrOf result TreeNo.TooMuch → OfThing P.tells objects_owner hung_root (P.blocks pages.old) self.old.tree.root (λ g. (d : ℕ) → ObjectsAreSmall d g → IsShort d (P.budget pages.new)) }
-        ensures staged { OnOk result (OfThing P.tells objects_owner hung_root (P.blocks pages.old) self.old.tree.root (λ g. (d : ℕ) → ObjectsAreSmall d g → Spends (objects_cost name.now.kind name.now.path.dkey name.now.path.akey (for_one d) 1) (P.budget pages.old) (P.budget pages.new))) }
+        ensures too_much { IsErrOf result TreeNo.TooMuch → OfThing P.tells objects_owner hung_root (P.blocks pages.old) self.old.tree.root (λ g. (d : ℕ) → PathIsSmall d name.now.path g → Lacks (objects_cost name.now.kind name.now.path.dkey name.now.path.akey (for_one d) 1) d (P.budget pages.old)) }
+        ensures few_left { IsErrOf result TreeNo.TooMuch → OfThing P.tells objects_owner hung_root (P.blocks pages.old) self.old.tree.root (λ g. (d : ℕ) → PathIsSmall d name.now.path g → IsShort d (P.budget pages.new)) }
+        ensures staged { OnOk result (OfThing P.tells objects_owner hung_root (P.blocks pages.old) self.old.tree.root (λ g. (d : ℕ) → PathIsSmall d name.now.path g → Spends (objects_cost name.now.kind name.now.path.dkey name.now.path.akey (for_one d) 1) (P.budget pages.old) (P.budget pages.new))) }
         ensures committed { step ≡ commit_step → OnOk result (Spends (objects_cost name.now.kind name.now.path.dkey name.now.path.akey 1 0) (P.budget pages.old) (P.budget pages.new)) }
         ensures free { OnOk result (OfThing P.tells objects_owner hung_root (P.blocks pages.old) self.old.tree.root (λ g. (P.budget pages.new).free ≡ (P.budget pages.old).free + write_freed (settling attempt name.now step) name.now.path g)) }
         ensures gives { OnOk result (OfThing P.tells objects_owner hung_root (P.blocks pages.old) self.old.tree.root (λ g. (P.budget pages.old).free + versions_freed (settling attempt name.now step) name.now.path (objects_versions g) ≤ (P.budget pages.new).free)) }
@@ -101,9 +101,9 @@ impl Objects {
         ensures removed { OnOk result (OfThing P.tells objects_owner hung_root (P.blocks pages.old) self.old.tree.root (λ g. Removed (writer_of name.now.path name.now.kind (moment_of name.now) (objects_versions g)) name.now.kind (moment_of name.now) name.now.path (P.blocks pages.old) g (P.blocks pages.new) self.new.tree.root)) }
         ensures kept { self.new ≡ self.old }
         ensures no_block { IsErrOf result TreeNo.NoBlock → ⊥ }
-        ensures too_much { IsErrOf result TreeNo.TooMuch → OfThing P.tells objects_owner hung_root (P.blocks pages.old) self.old.tree.root (λ g. (d : ℕ) → ObjectsAreSmall d g → Lacks (objects_cost name.now.kind name.now.path.dkey name.now.path.akey (for_one d) 1) d (P.budget pages.old)) }
-        ensures few_left { IsErrOf result TreeNo.TooMuch → OfThing P.tells objects_owner hung_root (P.blocks pages.old) self.old.tree.root (λ g. (d : ℕ) → ObjectsAreSmall d g → IsShort d (P.budget pages.new)) }
-        ensures staged { OnOk result (OfThing P.tells objects_owner hung_root (P.blocks pages.old) self.old.tree.root (λ g. (d : ℕ) → ObjectsAreSmall d g → Spends (objects_cost name.now.kind name.now.path.dkey name.now.path.akey (for_one d) 1) (P.budget pages.old) (P.budget pages.new))) }
+        ensures too_much { IsErrOf result TreeNo.TooMuch → OfThing P.tells objects_owner hung_root (P.blocks pages.old) self.old.tree.root (λ g. (d : ℕ) → PathIsSmall d name.now.path g → Lacks (objects_cost name.now.kind name.now.path.dkey name.now.path.akey (for_one d) 1) d (P.budget pages.old)) }
+        ensures few_left { IsErrOf result TreeNo.TooMuch → OfThing P.tells objects_owner hung_root (P.blocks pages.old) self.old.tree.root (λ g. (d : ℕ) → PathIsSmall d name.now.path g → IsShort d (P.budget pages.new)) }
+        ensures staged { OnOk result (OfThing P.tells objects_owner hung_root (P.blocks pages.old) self.old.tree.root (λ g. (d : ℕ) → PathIsSmall d name.now.path g → Spends (objects_cost name.now.kind name.now.path.dkey name.now.path.akey (for_one d) 1) (P.budget pages.old) (P.budget pages.new))) }
         ensures free { OnOk result (OfThing P.tells objects_owner hung_root (P.blocks pages.old) self.old.tree.root (λ g. (P.budget pages.new).free ≡ (P.budget pages.old).free + removed_freed (writer_of name.now.path name.now.kind (moment_of name.now) (objects_versions g)) name.now.kind (moment_of name.now) name.now.path g)) }
         ensures gives { OnOk result (OfThing P.tells objects_owner hung_root (P.blocks pages.old) self.old.tree.root (λ g. (P.budget pages.old).free + done_blocks name.now.path name.now.kind (moment_of name.now) (objects_versions g) ≤ (P.budget pages.new).free)) }
         ensures goes { Goes P.stopped P.count P.burns pages.old pages.new }

@@ -20,9 +20,10 @@ use Rattle.vos_path.specs.Calls.{LacksFor, SpendsAtMost, Turns, akey_or_zero, fo
 use Rattle.pmem_tree.specs.Changes.{PutAt}
 use Rattle.vos_path.specs.Nodes.{AkeysNoted, ValuesNoted}
 use Rattle.vos_path.specs.Objects.{Akey, akey_level, akey_path, akey_versions, akeys_versions, held_values, no_values, values_or_none, values_owner, values_roots, values_versions}
-use Rattle.vos_path.specs.Writes.{AkeysAreNew, AkeysAreSmall, IsSmall, ValuesAreNew, ValuesAreSmall, fresh}
+use Rattle.vos_path.specs.Small.{AkeysOnPathAreSmall}
+use Rattle.vos_path.specs.Writes.{AkeysAreNew, IsSmall, ValuesAreNew, ValuesAreSmall, fresh}
 use Rattle.vos_path.proofs.Finding.{akey_found, akey_zero, found_holds, listed_found, no_values_hold, no_values_own}
-use Rattle.vos_path.proofs.Lists.{all_found}
+use Rattle.vos_path.proofs.Lists.{all_found, passes_found}
 use Rattle.vos_path.proofs.Naming.{name_exact}
 use Rattle.vos_path.proofs.Putting.{changed_part, level_equal, level_put, still}
 use Rattle.vos_path.proofs.Written.{fewer_than, lacked_before, spent_at_most, spent_then}
@@ -57,8 +58,8 @@ akey_holds m g name h = found_holds 3 held_values values_owner akey_level.key ak
 pub akey_new : (s : Stamp) (g : Hung Akey) (name : List ℕ) → AkeysAreNew s g → ValuesAreNew s (values_or_none (akey_at name g))
 akey_new s g name h = all_found held_values no_values (ValuesAreNew s) (is_level akey_level (name_key name)) (things g) (record { punch = refl; single = refl; extent = λ low. refl }) h
 
-pub akey_small : (d : ℕ) (g : Hung Akey) (name : List ℕ) → AkeysAreSmall d g → ValuesAreSmall d (values_or_none (akey_at name g))
-akey_small d g name h = all_found held_values no_values (ValuesAreSmall d) (is_level akey_level (name_key name)) (things g) (some_power d, (some_power d, some_power d)) h.1
+pub akey_small : (d : ℕ) (g : Hung Akey) (name : List ℕ) → AkeysOnPathAreSmall d (Some name) g → ValuesAreSmall d (values_or_none (akey_at name g))
+akey_small d g name h = passes_found held_values no_values (ValuesAreSmall d) (is_level akey_level (name_key name)) (things g) (some_power d, (some_power d, some_power d)) h.1
 
 module _ (m n : Blocks) (g : Hung Akey) (held : Holds (hung akey_level) m g) (s : Stamp) (w : Write) (name : List ℕ) (is_name : IsName name) (roots : AkeyRoots)
     (t : Turns values_owner values_roots (values_versions (write_path w)) m (values_or_none (akey_at name g)) n roots (HasMore (fresh s w)) (ValuesNoted s w)) where

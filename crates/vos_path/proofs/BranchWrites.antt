@@ -25,7 +25,7 @@ use Rattle.vos_path.specs.Nodes.{BothNoted, LogNoted, OnePut, noted}
 use Rattle.vos_ilog.specs.declared.ilog.LogEntry.{LogEntry}
 use Rattle.vos_path.proofs.AkeyWrites.{put_lacks}
 use Rattle.vos_path.proofs.Finding.{found_holds, listed_found, no_below_holds, no_below_owns, roots_found, roots_zero}
-use Rattle.vos_path.proofs.Lists.{all_found, more_after, more_before}
+use Rattle.vos_path.proofs.Lists.{all_found, passes_found, more_after, more_before}
 use Rattle.vos_path.proofs.Putting.{changed_part, level_put, still}
 use Rattle.vos_path.proofs.Written.{both_change, fewer_than, first_changes, first_stands, punches_kept, punches_more, spent_at_most, spent_then}
 
@@ -107,6 +107,9 @@ module _ {N A : Type 0} (kind : ℕ) (key : N → TreeKey) (Good : N → Type 0)
 
   pub branch_all : (Q : Below A → Type 0) (g : Hung (Branch N A)) → Q no_below → All (λ b. Q (held_below b)) (things g) → Q (below_or_none (branch_at g))
   branch_all Q g none h = all_found held_below no_below Q (is_level (branch_level kind key Good L) (key name)) (things g) none h
+
+  pub branch_passes : (Q : Below A → Type 0) (g : Hung (Branch N A)) → Q no_below → All (λ b. is_level (branch_level kind key Good L) (key name) b ≡ true → Q (held_below b)) (things g) → Q (below_or_none (branch_at g))
+  branch_passes Q g none h = passes_found held_below no_below Q (is_level (branch_level kind key Good L) (key name)) (things g) none h
 
   module _ (m : Blocks) (g : Hung (Branch N A)) (held : Holds (hung (branch_level kind key Good L)) m g) (k : TreeKey) (key_is : k ≡ key name) (found : Option Roots) (says : found ≡ option_and_then roots_in (value_of (entry_at k (entries g.0)))) where
     branch_said : found ≡ option_map (λ b. below_roots (held_below b)) (branch_at g)

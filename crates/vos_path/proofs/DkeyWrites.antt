@@ -1,5 +1,5 @@
 -- A dkey, and an object, that a write names.
-use Rattle.std.proofs.Common.{◌≡◌, ℕ, true, List, Option, refl, sym}
+use Rattle.std.proofs.Common.{◌≡◌, ℕ, true, List, Option, Some, None, refl, sym}
 use Rattle.std.specs.Option.{option_and_then}
 use Rattle.std.proofs.lemmas.List.Elements.{All-nil}
 use Rattle.daos_model.specs.declared.durable.Version.{Version}
@@ -19,10 +19,12 @@ use Rattle.vos_path.specs.Calls.{Turns, roots_or_zero}
 use Rattle.pmem_tree.specs.Changes.{PutAt}
 use Rattle.base_types.specs.declared.operation.Write.{Write}
 use Rattle.vos_path.specs.Nodes.{DkeyNoted, DkeysNoted, ObjectNoted, ObjectsNoted}
-use Rattle.vos_path.specs.Objects.{Akey, Below, Dkey, Object, Objects, akey_level, below_dkey_versions, below_object_versions, below_or_none, below_owner, below_roots, dkey_level, dkeys_versions, object_level, objects_owner, objects_versions}
-use Rattle.vos_path.specs.Writes.{BelowDkeyIsNew, BelowDkeyIsSmall, BelowObjectIsSmall, DkeysAreNew, DkeysAreSmall, ObjectsAreSmall}
+use Rattle.vos_path.specs.Objects.{Akey, Below, Dkey, Object, Objects, akey_level, below_dkey_versions, below_object_versions, below_or_none, no_tree, below_owner, below_roots, dkey_level, dkeys_versions, object_level, objects_owner, objects_versions}
+use Rattle.base_types.specs.declared.path.Path.{Path}
+use Rattle.vos_path.specs.Small.{AkeysOnPathAreSmall, BelowDkeyOnPathIsSmall, BelowObjectOnPathIsSmall, DkeysOnPathAreSmall, PathIsSmall}
+use Rattle.vos_path.specs.Writes.{BelowDkeyIsNew, DkeysAreNew, IsAtObject}
 use Rattle.vos_path.proofs.AkeyWrites.{some_power}
-use Rattle.vos_path.proofs.BranchWrites.{branch_all, branch_at, branch_holds, branch_roots_are, branch_still, branch_written}
+use Rattle.vos_path.proofs.BranchWrites.{branch_all, branch_at, branch_passes, branch_holds, branch_roots_are, branch_still, branch_written}
 use Rattle.vos_path.proofs.Naming.{name_exact, object_exact}
 use Rattle.vos_path.proofs.Putting.{level_equal}
 
@@ -37,8 +39,12 @@ dkey_holds m g name h = branch_holds 2 name_key IsName akey_level name m g h
 pub dkey_new : (s : Stamp) (g : Hung Dkey) (name : List ℕ) → DkeysAreNew s g → BelowDkeyIsNew s (below_or_none (dkey_at name g))
 dkey_new s g name h = branch_all 2 name_key IsName akey_level name (BelowDkeyIsNew s) g (record { punch = refl; akeys = All-nil _ }) h
 
-pub dkey_small : (d : ℕ) (g : Hung Dkey) (name : List ℕ) → DkeysAreSmall d g → BelowDkeyIsSmall d (below_or_none (dkey_at name g))
-dkey_small d g name h = branch_all 2 name_key IsName akey_level name (BelowDkeyIsSmall d) g (some_power d, (some_power d, All-nil _)) h.1
+akeys_none : (d : ℕ) (akey : Option (List ℕ)) → AkeysOnPathAreSmall d akey no_tree
+akeys_none d None = tt
+akeys_none d (Some name) = (some_power d, All-nil _)
+
+pub dkey_small : (d : ℕ) (g : Hung Dkey) (name : List ℕ) (akey : Option (List ℕ)) → DkeysOnPathAreSmall d (Some name) akey g → BelowDkeyOnPathIsSmall d akey (below_or_none (dkey_at name g))
+dkey_small d g name akey h = branch_passes 2 name_key IsName akey_level name (BelowDkeyOnPathIsSmall d akey) g (some_power d, akeys_none d akey) h.1
 
 pub dkey_roots_are : (m : Blocks) (g : Hung Dkey) → Holds (hung dkey_level) m g → (name : List ℕ) (k : TreeKey) → k ≡ name_key name → (found : Option Roots) → found ≡ option_and_then roots_in (value_of (entry_at k (entries g.0)))
     → (roots : Roots) → roots ≡ roots_or_zero found → roots ≡ below_roots (below_or_none (dkey_at name g))
@@ -63,8 +69,12 @@ object_at name g = branch_at 1 object_key (IsObjectKey Two) dkey_level name g
 pub object_holds : (m : Blocks) (g : Objects) (name : ObjectKey) → Holds objects_owner m g → Holds (below_owner dkey_level) m (below_or_none (object_at name g))
 object_holds m g name h = branch_holds 1 object_key (IsObjectKey Two) dkey_level name m g h
 
-pub object_small : (d : ℕ) (g : Objects) (name : ObjectKey) → ObjectsAreSmall d g → BelowObjectIsSmall d (below_or_none (object_at name g))
-object_small d g name h = branch_all 1 object_key (IsObjectKey Two) dkey_level name (BelowObjectIsSmall d) g (some_power d, (some_power d, All-nil _)) h.1
+dkeys_none : (d : ℕ) (dkey akey : Option (List ℕ)) → DkeysOnPathAreSmall d dkey akey no_tree
+dkeys_none d None akey = tt
+dkeys_none d (Some name) akey = (some_power d, All-nil _)
+
+pub object_small : (d : ℕ) (g : Objects) (name : ObjectKey) (p : Path) → IsAtObject name p → PathIsSmall d p g → BelowObjectOnPathIsSmall d p.dkey p.akey (below_or_none (object_at name g))
+object_small d g name p at h = branch_passes 1 object_key (IsObjectKey Two) dkey_level name (BelowObjectOnPathIsSmall d p.dkey p.akey) g (some_power d, dkeys_none d p.dkey p.akey) (h name at).1
 
 pub object_roots_are : (m : Blocks) (g : Objects) → Holds objects_owner m g → (name : ObjectKey) (k : TreeKey) → k ≡ object_key name → (found : Option Roots) → found ≡ option_and_then roots_in (value_of (entry_at k (entries g.0)))
     → (roots : Roots) → roots ≡ roots_or_zero found → roots ≡ below_roots (below_or_none (object_at name g))

@@ -9,3 +9,4 @@ pub mod AkeyWrites
 pub mod BranchWrites
 pub mod DkeyWrites
 pub mod NewVersions
+pub mod AllSmall

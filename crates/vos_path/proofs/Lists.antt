@@ -85,6 +85,15 @@ together_more f (Some a) b v xs ys h more =
     (subst (λ z. HasMore v (together f h.left ++ (f a ++ together f h.right)) z) (sym (ap (together f) h.after_is ∙ together_append f h.left (b ∷ h.right))) inside)
 
 -- what holds of all holds of one that is found, or of none
+-- what holds of those that pass a test holds of the one that is found
+pub passes_found : {A P : Type 0} (f : A → P) (none : P) (Q : P → Type 0) (test : A → Bool) (xs : List A) → Q none → All (λ a. test a ≡ true → Q (f a)) xs → Q (or_none f none (find test xs))
+passes_found f none Q test [] n h = n
+passes_found {A = A} {P = P} f none Q test (x ∷ xs) n h = by (test x) refl (passes_found f none Q test xs n (All-tail (λ a. test a ≡ true → Q (f a)) x xs h))
+  where
+    by : (t : Bool) → test x ≡ t → Q (or_none f none (find test xs)) → Q (or_none f none (if t then Some x else find test xs))
+    by true e r = All-head (λ a. test a ≡ true → Q (f a)) x xs h e
+    by false e r = r
+
 pub all_found : {A P : Type 0} (f : A → P) (none : P) (Q : P → Type 0) (test : A → Bool) (xs : List A) → Q none → All (λ a. Q (f a)) xs → Q (or_none f none (find test xs))
 all_found f none Q test [] n h = n
 all_found {A = A} {P = P} f none Q test (x ∷ xs) n h = by (test x) (all_found f none Q test xs n (All-tail (λ a. Q (f a)) x xs h))

@@ -11,7 +11,8 @@ ghost use Rattle.vos_values.specs.declared.keys.ObjectKey.{ObjectKey as ObjectKe
 ghost use Rattle.vos_path.specs.Calls.{LacksFor, SpendsAtMost, Turns, for_pair};
 ghost use Rattle.vos_path.specs.Nodes.{AkeysNoted};
 ghost use Rattle.vos_path.specs.Objects.{akey_level, akey_path, akeys_versions};
-ghost use Rattle.vos_path.specs.Writes.{AkeysAreNew, AkeysAreSmall, NamesAreKeys, akey_pairs, data_blocks, fresh, goes_below_dkey, values_pairs};
+ghost use Rattle.vos_path.specs.Small.{AkeysOnPathAreSmall};
+ghost use Rattle.vos_path.specs.Writes.{AkeysAreNew, NamesAreKeys, akey_pairs, data_blocks, fresh, goes_below_dkey, values_pairs};
 
 use crate::find::{akey_or_zero, find_akey};
 use crate::name::key_of;
@@ -50,9 +51,9 @@ pub fn write_akeys<P: Pages, L: Ledger>(
     ensures written { OnOk result (OfThing P.tells (hung akey_level) hung_root (P.blocks pages.old) akeys.old.root (λ g. AkeysAreNew stamp g → (o : ObjectKeyOf) (d a : List ℕ) → write_path write.now ≡ akey_path o d a → Turns (hung akey_level) hung_root (akeys_versions o d) (P.blocks pages.old) g (P.blocks pages.new) akeys.new.root (HasMore (fresh stamp write.now)) (AkeysNoted stamp write.now a))) }
     ensures kind { akeys.new.kind ≡ 3 }
     ensures no_block { IsErrOf result TreeNo.NoBlock → (P.budget pages.old).free < data_blocks write.now + akey_pairs write.now 1 }
-    ensures too_much { IsErrOf result TreeNo.TooMuch → OfThing P.tells (hung akey_level) hung_root (P.blocks pages.old) akeys.old.root (λ g. AkeysAreNew stamp g → (d : ℕ) → AkeysAreSmall d g → LacksFor (data_blocks write.now) (values_pairs write.now (for_pair d)) d (P.budget pages.old)) }
-    ensures few_left { IsErrOf result TreeNo.TooMuch → OfThing P.tells (hung akey_level) hung_root (P.blocks pages.old) akeys.old.root (λ g. AkeysAreNew stamp g → (d : ℕ) → AkeysAreSmall d g → IsShort d (P.budget pages.new)) }
-    ensures staged { OnOk result (OfThing P.tells (hung akey_level) hung_root (P.blocks pages.old) akeys.old.root (λ g. AkeysAreNew stamp g → (d : ℕ) → AkeysAreSmall d g → SpendsAtMost (data_blocks write.now) (akey_pairs write.now (for_pair d)) (P.budget pages.old) (P.budget pages.new))) }
+    ensures too_much { IsErrOf result TreeNo.TooMuch → OfThing P.tells (hung akey_level) hung_root (P.blocks pages.old) akeys.old.root (λ g. AkeysAreNew stamp g → (d : ℕ) → AkeysOnPathAreSmall d (write_path write.now).akey g → LacksFor (data_blocks write.now) (values_pairs write.now (for_pair d)) d (P.budget pages.old)) }
+    ensures few_left { IsErrOf result TreeNo.TooMuch → OfThing P.tells (hung akey_level) hung_root (P.blocks pages.old) akeys.old.root (λ g. AkeysAreNew stamp g → (d : ℕ) → AkeysOnPathAreSmall d (write_path write.now).akey g → IsShort d (P.budget pages.new)) }
+    ensures staged { OnOk result (OfThing P.tells (hung akey_level) hung_root (P.blocks pages.old) akeys.old.root (λ g. AkeysAreNew stamp g → (d : ℕ) → AkeysOnPathAreSmall d (write_path write.now).akey g → SpendsAtMost (data_blocks write.now) (akey_pairs write.now (for_pair d)) (P.budget pages.old) (P.budget pages.new))) }
     ensures free { OnOk result ((P.budget pages.old).free ≤ (P.budget pages.new).free + (data_blocks write.now + akey_pairs write.now 1)) }
     ensures goes { Goes P.stopped P.count P.burns pages.old pages.new }
     ensures stopped { IsErrOf result TreeNo.Stopped → P.stopped pages.new ≡ true }

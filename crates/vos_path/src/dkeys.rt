@@ -13,7 +13,8 @@ ghost use Rattle.vos_path.specs.Calls.{HasAt, LacksFor, OfAt, SpendsAtMost, Turn
 ghost use Rattle.vos_path.specs.Nodes.{DkeyNoted, DkeysNoted};
 ghost use Rattle.std.specs.Prelude.{None as no_name, Some as some_name};
 ghost use Rattle.vos_path.specs.Objects.{akey_level, akey_path, below_dkey_versions, below_owner, below_roots, dkey_level, dkey_path, dkeys_versions};
-ghost use Rattle.vos_path.specs.Writes.{BelowDkeyIsNew, BelowDkeyIsSmall, DkeysAreNew, DkeysAreSmall, IsAtDkey, NamesAreKeys, akey_pairs, below_dkey_pairs, data_blocks, dkey_pairs, fresh, goes_below_dkey, goes_below_object, log_pairs};
+ghost use Rattle.vos_path.specs.Small.{BelowDkeyOnPathIsSmall, DkeysOnPathAreSmall};
+ghost use Rattle.vos_path.specs.Writes.{BelowDkeyIsNew, DkeysAreNew, IsAtDkey, IsSmall, NamesAreKeys, akey_pairs, below_dkey_pairs, data_blocks, dkey_pairs, fresh, goes_below_dkey, goes_below_object, log_pairs};
 
 use crate::akeys::write_akeys;
 use crate::find::{find_roots, roots_or_zero};
@@ -53,9 +54,9 @@ fn write_below<P: Pages, L: Ledger>(
     requires here { HasAt P.tells (below_owner akey_level) below_roots (P.blocks pages.old) roots (BelowDkeyIsNew stamp) }
     ensures written { IfOk result (λ now. OfAt P.tells (below_owner akey_level) below_roots (P.blocks pages.old) roots (λ g. BelowDkeyIsNew stamp g → (o : ObjectKeyOf) (d a : List ℕ) → write_path write.now ≡ akey_path o d a → Turns (below_owner akey_level) below_roots (below_dkey_versions o d) (P.blocks pages.old) g (P.blocks pages.new) now (HasMore (fresh stamp write.now)) (DkeyNoted stamp write.now (some_name a)))) }
     ensures no_block { IsErrOf result TreeNo.NoBlock → (P.budget pages.old).free < data_blocks write.now + (akey_pairs write.now 1 + log_pairs write.now 1) }
-    ensures too_much { IsErrOf result TreeNo.TooMuch → OfAt P.tells (below_owner akey_level) below_roots (P.blocks pages.old) roots (λ g. BelowDkeyIsNew stamp g → (d : ℕ) → BelowDkeyIsSmall d g → LacksFor (data_blocks write.now) (akey_pairs write.now (for_pair d) + log_pairs write.now (for_pair d)) d (P.budget pages.old)) }
-    ensures few_left { IsErrOf result TreeNo.TooMuch → OfAt P.tells (below_owner akey_level) below_roots (P.blocks pages.old) roots (λ g. BelowDkeyIsNew stamp g → (d : ℕ) → BelowDkeyIsSmall d g → IsShort d (P.budget pages.new)) }
-    ensures staged { OnOk result (OfAt P.tells (below_owner akey_level) below_roots (P.blocks pages.old) roots (λ g. BelowDkeyIsNew stamp g → (d : ℕ) → BelowDkeyIsSmall d g → SpendsAtMost (data_blocks write.now) (akey_pairs write.now (for_pair d) + log_pairs write.now (for_pair d)) (P.budget pages.old) (P.budget pages.new))) }
+    ensures too_much { IsErrOf result TreeNo.TooMuch → OfAt P.tells (below_owner akey_level) below_roots (P.blocks pages.old) roots (λ g. BelowDkeyIsNew stamp g → (d : ℕ) → BelowDkeyOnPathIsSmall d (write_path write.now).akey g → LacksFor (data_blocks write.now) (akey_pairs write.now (for_pair d) + log_pairs write.now (for_pair d)) d (P.budget pages.old)) }
+    ensures few_left { IsErrOf result TreeNo.TooMuch → OfAt P.tells (below_owner akey_level) below_roots (P.blocks pages.old) roots (λ g. BelowDkeyIsNew stamp g → (d : ℕ) → BelowDkeyOnPathIsSmall d (write_path write.now).akey g → IsShort d (P.budget pages.new)) }
+    ensures staged { OnOk result (OfAt P.tells (below_owner akey_level) below_roots (P.blocks pages.old) roots (λ g. BelowDkeyIsNew stamp g → (d : ℕ) → BelowDkeyOnPathIsSmall d (write_path write.now).akey g → SpendsAtMost (data_blocks write.now) (akey_pairs write.now (for_pair d) + log_pairs write.now (for_pair d)) (P.budget pages.old) (P.budget pages.new))) }
     ensures free { OnOk result ((P.budget pages.old).free ≤ (P.budget pages.new).free + (data_blocks write.now + (akey_pairs write.now 1 + log_pairs write.now 1))) }
     ensures goes { Goes P.stopped P.count P.burns pages.old pages.new }
     ensures stopped { IsErrOf result TreeNo.Stopped → P.stopped pages.new ≡ true }
@@ -84,9 +85,9 @@ fn punch_log<P: Pages, L: Ledger>(
     requires here { HasAt P.tells (below_owner akey_level) below_roots (P.blocks pages.old) roots (BelowDkeyIsNew stamp) }
     ensures written { IfOk result (λ now. OfAt P.tells (below_owner akey_level) below_roots (P.blocks pages.old) roots (λ g. BelowDkeyIsNew stamp g → (o : ObjectKeyOf) (d : List ℕ) → Turns (below_owner akey_level) below_roots (below_dkey_versions o d) (P.blocks pages.old) g (P.blocks pages.new) now (HasMore (fresh stamp (punch_write (dkey_path o d)))) (DkeyNoted stamp (punch_write (dkey_path o d)) no_name))) }
     ensures no_block { IsErrOf result TreeNo.NoBlock → (P.budget pages.old).free < 1 }
-    ensures too_much { IsErrOf result TreeNo.TooMuch → OfAt P.tells (below_owner akey_level) below_roots (P.blocks pages.old) roots (λ g. BelowDkeyIsNew stamp g → (d : ℕ) → BelowDkeyIsSmall d g → LacksFor 0 0 d (P.budget pages.old)) }
-    ensures few_left { IsErrOf result TreeNo.TooMuch → OfAt P.tells (below_owner akey_level) below_roots (P.blocks pages.old) roots (λ g. BelowDkeyIsNew stamp g → (d : ℕ) → BelowDkeyIsSmall d g → IsShort d (P.budget pages.new)) }
-    ensures staged { OnOk result (OfAt P.tells (below_owner akey_level) below_roots (P.blocks pages.old) roots (λ g. BelowDkeyIsNew stamp g → (d : ℕ) → BelowDkeyIsSmall d g → SpendsAtMost 0 (for_pair d) (P.budget pages.old) (P.budget pages.new))) }
+    ensures too_much { IsErrOf result TreeNo.TooMuch → OfAt P.tells (below_owner akey_level) below_roots (P.blocks pages.old) roots (λ g. BelowDkeyIsNew stamp g → (d : ℕ) → IsSmall d g.0 → LacksFor 0 0 d (P.budget pages.old)) }
+    ensures few_left { IsErrOf result TreeNo.TooMuch → OfAt P.tells (below_owner akey_level) below_roots (P.blocks pages.old) roots (λ g. BelowDkeyIsNew stamp g → (d : ℕ) → IsSmall d g.0 → IsShort d (P.budget pages.new)) }
+    ensures staged { OnOk result (OfAt P.tells (below_owner akey_level) below_roots (P.blocks pages.old) roots (λ g. BelowDkeyIsNew stamp g → (d : ℕ) → IsSmall d g.0 → SpendsAtMost 0 (for_pair d) (P.budget pages.old) (P.budget pages.new))) }
     ensures free { OnOk result ((P.budget pages.old).free ≤ (P.budget pages.new).free + 1) }
     ensures goes { Goes P.stopped P.count P.burns pages.old pages.new }
     ensures stopped { IsErrOf result TreeNo.Stopped → P.stopped pages.new ≡ true }
@@ -114,9 +115,9 @@ fn write_dkey<P: Pages, L: Ledger>(
     requires here { HasAt P.tells (below_owner akey_level) below_roots (P.blocks pages.old) roots (BelowDkeyIsNew stamp) }
     ensures written { IfOk result (λ now. OfAt P.tells (below_owner akey_level) below_roots (P.blocks pages.old) roots (λ g. BelowDkeyIsNew stamp g → (o : ObjectKeyOf) (d : List ℕ) → IsAtDkey o d (write_path write.now) → Turns (below_owner akey_level) below_roots (below_dkey_versions o d) (P.blocks pages.old) g (P.blocks pages.new) now (HasMore (fresh stamp write.now)) (DkeyNoted stamp write.now (write_path write.now).akey))) }
     ensures no_block { IsErrOf result TreeNo.NoBlock → (P.budget pages.old).free < data_blocks write.now + below_dkey_pairs write.now 1 }
-    ensures too_much { IsErrOf result TreeNo.TooMuch → OfAt P.tells (below_owner akey_level) below_roots (P.blocks pages.old) roots (λ g. BelowDkeyIsNew stamp g → (d : ℕ) → BelowDkeyIsSmall d g → LacksFor (data_blocks write.now) (below_dkey_pairs write.now (for_pair d)) d (P.budget pages.old)) }
-    ensures few_left { IsErrOf result TreeNo.TooMuch → OfAt P.tells (below_owner akey_level) below_roots (P.blocks pages.old) roots (λ g. BelowDkeyIsNew stamp g → (d : ℕ) → BelowDkeyIsSmall d g → IsShort d (P.budget pages.new)) }
-    ensures staged { OnOk result (OfAt P.tells (below_owner akey_level) below_roots (P.blocks pages.old) roots (λ g. BelowDkeyIsNew stamp g → (d : ℕ) → BelowDkeyIsSmall d g → SpendsAtMost (data_blocks write.now) (below_dkey_pairs write.now (for_pair d)) (P.budget pages.old) (P.budget pages.new))) }
+    ensures too_much { IsErrOf result TreeNo.TooMuch → OfAt P.tells (below_owner akey_level) below_roots (P.blocks pages.old) roots (λ g. BelowDkeyIsNew stamp g → (d : ℕ) → BelowDkeyOnPathIsSmall d (write_path write.now).akey g → LacksFor (data_blocks write.now) (below_dkey_pairs write.now (for_pair d)) d (P.budget pages.old)) }
+    ensures few_left { IsErrOf result TreeNo.TooMuch → OfAt P.tells (below_owner akey_level) below_roots (P.blocks pages.old) roots (λ g. BelowDkeyIsNew stamp g → (d : ℕ) → BelowDkeyOnPathIsSmall d (write_path write.now).akey g → IsShort d (P.budget pages.new)) }
+    ensures staged { OnOk result (OfAt P.tells (below_owner akey_level) below_roots (P.blocks pages.old) roots (λ g. BelowDkeyIsNew stamp g → (d : ℕ) → BelowDkeyOnPathIsSmall d (write_path write.now).akey g → SpendsAtMost (data_blocks write.now) (below_dkey_pairs write.now (for_pair d)) (P.budget pages.old) (P.budget pages.new))) }
     ensures free { OnOk result ((P.budget pages.old).free ≤ (P.budget pages.new).free + (data_blocks write.now + below_dkey_pairs write.now 1)) }
     ensures goes { Goes P.stopped P.count P.burns pages.old pages.new }
     ensures stopped { IsErrOf result TreeNo.Stopped → P.stopped pages.new ≡ true }
@@ -154,9 +155,9 @@ pub fn write_dkeys<P: Pages, L: Ledger>(
     ensures written { OnOk result (OfThing P.tells (hung dkey_level) hung_root (P.blocks pages.old) dkeys.old.root (λ g. DkeysAreNew stamp g → (o : ObjectKeyOf) (d : List ℕ) → IsAtDkey o d (write_path write.now) → Turns (hung dkey_level) hung_root (dkeys_versions o) (P.blocks pages.old) g (P.blocks pages.new) dkeys.new.root (HasMore (fresh stamp write.now)) (DkeysNoted stamp write.now d (write_path write.now).akey))) }
     ensures kind { dkeys.new.kind ≡ 2 }
     ensures no_block { IsErrOf result TreeNo.NoBlock → (P.budget pages.old).free < data_blocks write.now + dkey_pairs write.now 1 }
-    ensures too_much { IsErrOf result TreeNo.TooMuch → OfThing P.tells (hung dkey_level) hung_root (P.blocks pages.old) dkeys.old.root (λ g. DkeysAreNew stamp g → (d : ℕ) → DkeysAreSmall d g → LacksFor (data_blocks write.now) (below_dkey_pairs write.now (for_pair d)) d (P.budget pages.old)) }
-    ensures few_left { IsErrOf result TreeNo.TooMuch → OfThing P.tells (hung dkey_level) hung_root (P.blocks pages.old) dkeys.old.root (λ g. DkeysAreNew stamp g → (d : ℕ) → DkeysAreSmall d g → IsShort d (P.budget pages.new)) }
-    ensures staged { OnOk result (OfThing P.tells (hung dkey_level) hung_root (P.blocks pages.old) dkeys.old.root (λ g. DkeysAreNew stamp g → (d : ℕ) → DkeysAreSmall d g → SpendsAtMost (data_blocks write.now) (dkey_pairs write.now (for_pair d)) (P.budget pages.old) (P.budget pages.new))) }
+    ensures too_much { IsErrOf result TreeNo.TooMuch → OfThing P.tells (hung dkey_level) hung_root (P.blocks pages.old) dkeys.old.root (λ g. DkeysAreNew stamp g → (d : ℕ) → DkeysOnPathAreSmall d (write_path write.now).dkey (write_path write.now).akey g → LacksFor (data_blocks write.now) (below_dkey_pairs write.now (for_pair d)) d (P.budget pages.old)) }
+    ensures few_left { IsErrOf result TreeNo.TooMuch → OfThing P.tells (hung dkey_level) hung_root (P.blocks pages.old) dkeys.old.root (λ g. DkeysAreNew stamp g → (d : ℕ) → DkeysOnPathAreSmall d (write_path write.now).dkey (write_path write.now).akey g → IsShort d (P.budget pages.new)) }
+    ensures staged { OnOk result (OfThing P.tells (hung dkey_level) hung_root (P.blocks pages.old) dkeys.old.root (λ g. DkeysAreNew stamp g → (d : ℕ) → DkeysOnPathAreSmall d (write_path write.now).dkey (write_path write.now).akey g → SpendsAtMost (data_blocks write.now) (dkey_pairs write.now (for_pair d)) (P.budget pages.old) (P.budget pages.new))) }
     ensures free { OnOk result ((P.budget pages.old).free ≤ (P.budget pages.new).free + (data_blocks write.now + dkey_pairs write.now 1)) }
     ensures goes { Goes P.stopped P.count P.burns pages.old pages.new }
     ensures stopped { IsErrOf result TreeNo.Stopped → P.stopped pages.new ≡ true }

@@ -4,6 +4,7 @@
 pub mod akeys;
 pub mod dkeys;
 pub mod find;
+pub mod laws;
 pub mod log;
 pub mod name;
 pub mod objects;

@@ -14,7 +14,8 @@ ghost use Rattle.vos_path.specs.Calls.{HasAt, LacksFor, OfAt, SpendsAtMost, Turn
 ghost use Rattle.vos_path.specs.Nodes.{ObjectNoted, ObjectsNoted};
 ghost use Rattle.std.specs.Prelude.{None as no_name};
 ghost use Rattle.vos_path.specs.Objects.{below_object_versions, below_owner, below_roots, dkey_level, object_path, objects_owner, objects_versions};
-ghost use Rattle.vos_path.specs.Writes.{BelowObjectIsNew, BelowObjectIsSmall, IsAtObject, IsNewIn, NamesAreKeys, ObjectsAreSmall, below_object_pairs, data_blocks, dkey_pairs, fresh, goes_below_object, log_pairs, object_pairs};
+ghost use Rattle.vos_path.specs.Small.{BelowObjectOnPathIsSmall, PathIsSmall};
+ghost use Rattle.vos_path.specs.Writes.{BelowObjectIsNew, IsAtObject, IsNewIn, IsSmall, NamesAreKeys, below_object_pairs, data_blocks, dkey_pairs, fresh, goes_below_object, log_pairs, object_pairs};
 
 use crate::dkeys::write_dkeys;
 use crate::find::{find_roots, roots_or_zero};
@@ -52,9 +53,9 @@ fn write_below<P: Pages, L: Ledger>(
     requires here { HasAt P.tells (below_owner dkey_level) below_roots (P.blocks pages.old) roots (BelowObjectIsNew stamp) }
     ensures written { IfOk result (λ now. OfAt P.tells (below_owner dkey_level) below_roots (P.blocks pages.old) roots (λ g. BelowObjectIsNew stamp g → (o : ObjectKeyOf) → IsAtObject o (write_path write.now) → Turns (below_owner dkey_level) below_roots (below_object_versions o) (P.blocks pages.old) g (P.blocks pages.new) now (HasMore (fresh stamp write.now)) (ObjectNoted stamp write.now (write_path write.now).dkey (write_path write.now).akey))) }
     ensures no_block { IsErrOf result TreeNo.NoBlock → (P.budget pages.old).free < data_blocks write.now + (dkey_pairs write.now 1 + log_pairs write.now 1) }
-    ensures too_much { IsErrOf result TreeNo.TooMuch → OfAt P.tells (below_owner dkey_level) below_roots (P.blocks pages.old) roots (λ g. BelowObjectIsNew stamp g → (d : ℕ) → BelowObjectIsSmall d g → LacksFor (data_blocks write.now) (dkey_pairs write.now (for_pair d) + log_pairs write.now (for_pair d)) d (P.budget pages.old)) }
-    ensures few_left { IsErrOf result TreeNo.TooMuch → OfAt P.tells (below_owner dkey_level) below_roots (P.blocks pages.old) roots (λ g. BelowObjectIsNew stamp g → (d : ℕ) → BelowObjectIsSmall d g → IsShort d (P.budget pages.new)) }
-    ensures staged { OnOk result (OfAt P.tells (below_owner dkey_level) below_roots (P.blocks pages.old) roots (λ g. BelowObjectIsNew stamp g → (d : ℕ) → BelowObjectIsSmall d g → SpendsAtMost (data_blocks write.now) (dkey_pairs write.now (for_pair d) + log_pairs write.now (for_pair d)) (P.budget pages.old) (P.budget pages.new))) }
+    ensures too_much { IsErrOf result TreeNo.TooMuch → OfAt P.tells (below_owner dkey_level) below_roots (P.blocks pages.old) roots (λ g. BelowObjectIsNew stamp g → (d : ℕ) → BelowObjectOnPathIsSmall d (write_path write.now).dkey (write_path write.now).akey g → LacksFor (data_blocks write.now) (dkey_pairs write.now (for_pair d) + log_pairs write.now (for_pair d)) d (P.budget pages.old)) }
+    ensures few_left { IsErrOf result TreeNo.TooMuch → OfAt P.tells (below_owner dkey_level) below_roots (P.blocks pages.old) roots (λ g. BelowObjectIsNew stamp g → (d : ℕ) → BelowObjectOnPathIsSmall d (write_path write.now).dkey (write_path write.now).akey g → IsShort d (P.budget pages.new)) }
+    ensures staged { OnOk result (OfAt P.tells (below_owner dkey_level) below_roots (P.blocks pages.old) roots (λ g. BelowObjectIsNew stamp g → (d : ℕ) → BelowObjectOnPathIsSmall d (write_path write.now).dkey (write_path write.now).akey g → SpendsAtMost (data_blocks write.now) (dkey_pairs write.now (for_pair d) + log_pairs write.now (for_pair d)) (P.budget pages.old) (P.budget pages.new))) }
     ensures free { OnOk result ((P.budget pages.old).free ≤ (P.budget pages.new).free + (data_blocks write.now + (dkey_pairs write.now 1 + log_pairs write.now 1))) }
     ensures goes { Goes P.stopped P.count P.burns pages.old pages.new }
     ensures stopped { IsErrOf result TreeNo.Stopped → P.stopped pages.new ≡ true }
@@ -83,9 +84,9 @@ fn punch_log<P: Pages, L: Ledger>(
     requires here { HasAt P.tells (below_owner dkey_level) below_roots (P.blocks pages.old) roots (BelowObjectIsNew stamp) }
     ensures written { IfOk result (λ now. OfAt P.tells (below_owner dkey_level) below_roots (P.blocks pages.old) roots (λ g. BelowObjectIsNew stamp g → (o : ObjectKeyOf) → Turns (below_owner dkey_level) below_roots (below_object_versions o) (P.blocks pages.old) g (P.blocks pages.new) now (HasMore (fresh stamp (punch_write (object_path o)))) (ObjectNoted stamp (punch_write (object_path o)) no_name no_name))) }
     ensures no_block { IsErrOf result TreeNo.NoBlock → (P.budget pages.old).free < 1 }
-    ensures too_much { IsErrOf result TreeNo.TooMuch → OfAt P.tells (below_owner dkey_level) below_roots (P.blocks pages.old) roots (λ g. BelowObjectIsNew stamp g → (d : ℕ) → BelowObjectIsSmall d g → LacksFor 0 0 d (P.budget pages.old)) }
-    ensures few_left { IsErrOf result TreeNo.TooMuch → OfAt P.tells (below_owner dkey_level) below_roots (P.blocks pages.old) roots (λ g. BelowObjectIsNew stamp g → (d : ℕ) → BelowObjectIsSmall d g → IsShort d (P.budget pages.new)) }
-    ensures staged { OnOk result (OfAt P.tells (below_owner dkey_level) below_roots (P.blocks pages.old) roots (λ g. BelowObjectIsNew stamp g → (d : ℕ) → BelowObjectIsSmall d g → SpendsAtMost 0 (for_pair d) (P.budget pages.old) (P.budget pages.new))) }
+    ensures too_much { IsErrOf result TreeNo.TooMuch → OfAt P.tells (below_owner dkey_level) below_roots (P.blocks pages.old) roots (λ g. BelowObjectIsNew stamp g → (d : ℕ) → IsSmall d g.0 → LacksFor 0 0 d (P.budget pages.old)) }
+    ensures few_left { IsErrOf result TreeNo.TooMuch → OfAt P.tells (below_owner dkey_level) below_roots (P.blocks pages.old) roots (λ g. BelowObjectIsNew stamp g → (d : ℕ) → IsSmall d g.0 → IsShort d (P.budget pages.new)) }
+    ensures staged { OnOk result (OfAt P.tells (below_owner dkey_level) below_roots (P.blocks pages.old) roots (λ g. BelowObjectIsNew stamp g → (d : ℕ) → IsSmall d g.0 → SpendsAtMost 0 (for_pair d) (P.budget pages.old) (P.budget pages.new))) }
     ensures free { OnOk result ((P.budget pages.old).free ≤ (P.budget pages.new).free + 1) }
     ensures goes { Goes P.stopped P.count P.burns pages.old pages.new }
     ensures stopped { IsErrOf result TreeNo.Stopped → P.stopped pages.new ≡ true }
@@ -112,9 +113,9 @@ fn write_object<P: Pages, L: Ledger>(
     requires here { HasAt P.tells (below_owner dkey_level) below_roots (P.blocks pages.old) roots (BelowObjectIsNew stamp) }
     ensures written { IfOk result (λ now. OfAt P.tells (below_owner dkey_level) below_roots (P.blocks pages.old) roots (λ g. BelowObjectIsNew stamp g → (o : ObjectKeyOf) → IsAtObject o (write_path write.now) → Turns (below_owner dkey_level) below_roots (below_object_versions o) (P.blocks pages.old) g (P.blocks pages.new) now (HasMore (fresh stamp write.now)) (ObjectNoted stamp write.now (write_path write.now).dkey (write_path write.now).akey))) }
     ensures no_block { IsErrOf result TreeNo.NoBlock → (P.budget pages.old).free < data_blocks write.now + below_object_pairs write.now 1 }
-    ensures too_much { IsErrOf result TreeNo.TooMuch → OfAt P.tells (below_owner dkey_level) below_roots (P.blocks pages.old) roots (λ g. BelowObjectIsNew stamp g → (d : ℕ) → BelowObjectIsSmall d g → LacksFor (data_blocks write.now) (below_object_pairs write.now (for_pair d)) d (P.budget pages.old)) }
-    ensures few_left { IsErrOf result TreeNo.TooMuch → OfAt P.tells (below_owner dkey_level) below_roots (P.blocks pages.old) roots (λ g. BelowObjectIsNew stamp g → (d : ℕ) → BelowObjectIsSmall d g → IsShort d (P.budget pages.new)) }
-    ensures staged { OnOk result (OfAt P.tells (below_owner dkey_level) below_roots (P.blocks pages.old) roots (λ g. BelowObjectIsNew stamp g → (d : ℕ) → BelowObjectIsSmall d g → SpendsAtMost (data_blocks write.now) (below_object_pairs write.now (for_pair d)) (P.budget pages.old) (P.budget pages.new))) }
+    ensures too_much { IsErrOf result TreeNo.TooMuch → OfAt P.tells (below_owner dkey_level) below_roots (P.blocks pages.old) roots (λ g. BelowObjectIsNew stamp g → (d : ℕ) → BelowObjectOnPathIsSmall d (write_path write.now).dkey (write_path write.now).akey g → LacksFor (data_blocks write.now) (below_object_pairs write.now (for_pair d)) d (P.budget pages.old)) }
+    ensures few_left { IsErrOf result TreeNo.TooMuch → OfAt P.tells (below_owner dkey_level) below_roots (P.blocks pages.old) roots (λ g. BelowObjectIsNew stamp g → (d : ℕ) → BelowObjectOnPathIsSmall d (write_path write.now).dkey (write_path write.now).akey g → IsShort d (P.budget pages.new)) }
+    ensures staged { OnOk result (OfAt P.tells (below_owner dkey_level) below_roots (P.blocks pages.old) roots (λ g. BelowObjectIsNew stamp g → (d : ℕ) → BelowObjectOnPathIsSmall d (write_path write.now).dkey (write_path write.now).akey g → SpendsAtMost (data_blocks write.now) (below_object_pairs write.now (for_pair d)) (P.budget pages.old) (P.budget pages.new))) }
     ensures free { OnOk result ((P.budget pages.old).free ≤ (P.budget pages.new).free + (data_blocks write.now + below_object_pairs write.now 1)) }
     ensures goes { Goes P.stopped P.count P.burns pages.old pages.new }
     ensures stopped { IsErrOf result TreeNo.Stopped → P.stopped pages.new ≡ true }
@@ -152,9 +153,9 @@ pub fn write_objects<P: Pages, L: Ledger>(
     ensures written { OnOk result (OfThing P.tells objects_owner hung_root (P.blocks pages.old) objects.old.root (λ g. IsNewIn (fresh stamp write.now) g → (o : ObjectKeyOf) → IsAtObject o (write_path write.now) → Turns objects_owner hung_root objects_versions (P.blocks pages.old) g (P.blocks pages.new) objects.new.root (HasMore (fresh stamp write.now)) (ObjectsNoted stamp write.now o (write_path write.now).dkey (write_path write.now).akey))) }
     ensures kind { objects.new.kind ≡ 1 }
     ensures no_block { IsErrOf result TreeNo.NoBlock → (P.budget pages.old).free < data_blocks write.now + object_pairs write.now 1 }
-    ensures too_much { IsErrOf result TreeNo.TooMuch → OfThing P.tells objects_owner hung_root (P.blocks pages.old) objects.old.root (λ g. IsNewIn (fresh stamp write.now) g → (d : ℕ) → ObjectsAreSmall d g → LacksFor (data_blocks write.now) (below_object_pairs write.now (for_pair d)) d (P.budget pages.old)) }
-    ensures few_left { IsErrOf result TreeNo.TooMuch → OfThing P.tells objects_owner hung_root (P.blocks pages.old) objects.old.root (λ g. IsNewIn (fresh stamp write.now) g → (d : ℕ) → ObjectsAreSmall d g → IsShort d (P.budget pages.new)) }
-    ensures staged { OnOk result (OfThing P.tells objects_owner hung_root (P.blocks pages.old) objects.old.root (λ g. IsNewIn (fresh stamp write.now) g → (d : ℕ) → ObjectsAreSmall d g → SpendsAtMost (data_blocks write.now) (object_pairs write.now (for_pair d)) (P.budget pages.old) (P.budget pages.new))) }
+    ensures too_much { IsErrOf result TreeNo.TooMuch → OfThing P.tells objects_owner hung_root (P.blocks pages.old) objects.old.root (λ g. IsNewIn (fresh stamp write.now) g → (d : ℕ) → PathIsSmall d (write_path write.now) g → LacksFor (data_blocks write.now) (below_object_pairs write.now (for_pair d)) d (P.budget pages.old)) }
+    ensures few_left { IsErrOf result TreeNo.TooMuch → OfThing P.tells objects_owner hung_root (P.blocks pages.old) objects.old.root (λ g. IsNewIn (fresh stamp write.now) g → (d : ℕ) → PathIsSmall d (write_path write.now) g → IsShort d (P.budget pages.new)) }
+    ensures staged { OnOk result (OfThing P.tells objects_owner hung_root (P.blocks pages.old) objects.old.root (λ g. IsNewIn (fresh stamp write.now) g → (d : ℕ) → PathIsSmall d (write_path write.now) g → SpendsAtMost (data_blocks write.now) (object_pairs write.now (for_pair d)) (P.budget pages.old) (P.budget pages.new))) }
     ensures free { OnOk result ((P.budget pages.old).free ≤ (P.budget pages.new).free + (data_blocks write.now + object_pairs write.now 1)) }
     ensures goes { Goes P.stopped P.count P.burns pages.old pages.new }
     ensures stopped { IsErrOf result TreeNo.Stopped → P.stopped pages.new ≡ true }

@@ -1,5 +1,2 @@
-pub mod Clients
-pub mod Kept
-pub mod Prepared
+pub mod Taken
 pub mod Turning
-pub mod Indexing

@@ -1,7 +1,5 @@
-pub mod Clients
 pub mod Costs
-pub mod Contents
-pub mod Steps
+pub mod Counted
 pub mod Stops
 pub mod Plain
 pub mod Laws

@@ -4,12 +4,12 @@ use Rattle.base_types.specs.declared.outcome.FloorWhy.TheVariants.{Opening}
 use Rattle.daos_model.specs.declared.durable.Durable.{Durable}
 use Rattle.vos_store.specs.Calls.{State}
 use Rattle.vos_plain.specs.declared.store.PlainStore.{PlainStore}
-use Rattle.vos_plain.specs.Contents.{contents_of, free_of}
+use Rattle.vos_plain.specs.Counted.{free_of, kept_by}
 use Rattle.vos_plain.specs.Stops.{signs_of}
 
 -- what it keeps
 abbrev pub plain_durable : PlainStore → Durable
-plain_durable s = contents_of s.contents
+plain_durable s = kept_by s.contents
 
 abbrev pub plain_state : PlainStore → State
 plain_state s = record {

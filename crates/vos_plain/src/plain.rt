@@ -1,16 +1,14 @@
 // The calls of a store over lists.
 ghost use Rattle.std.specs.Prelude.{◌≡◌, ◌+◌, ◌-◌, ◌*◌, ◌≤◌, IfOk, Some, refl};
 ghost use Rattle.daos_model.specs.Durables.{empty_durable};
-ghost use Rattle.vos_store.specs.Answers.{later_floor};
-ghost use Rattle.vos_plain.specs.Contents.{contents_of};
+ghost use Rattle.vos_plain.specs.Counted.{kept_by};
 ghost use Rattle.vos_plain.specs.Laws.{plain_formed, plain_steady};
 ghost use Rattle.vos_plain.specs.Plain.{new_state, plain_durable, plain_state};
 ghost use Rattle.vos_plain.specs.Stops.{has_some};
 
-use crate::contents::Contents;
+use crate::counted::Counted;
 use crate::stop_plan::{Injected, StopPlan};
 use crate::store::PlainStore;
-use crate::tables::copied;
 use base_types::answer::Answer;
 use base_types::entry::{Entries, Entry, Settle};
 use base_types::epoch::Epoch;
@@ -22,24 +20,13 @@ use base_types::path::Path;
 use base_types::shown::Shown;
 use base_types::snapshot::Snaps;
 use daos_model::accounts::blocks;
-use daos_model::durable::ContRow;
 use std::alloc::Global;
+use vos_contents::tables::copied;
 use vos_store::listed::{ContIds, ObjIds};
 use vos_store::refusal::{
     DiscardNo, EnlistNo, FetchNo, FreezeNo, LaterNo, PrepareNo, ReopenNo, Stopped,
 };
 use vos_store::store::{Fuse, Store};
-
-// The greater of the opening's floor and a stored one.
-fn later_floor(floor: Epoch, why: FloorWhy, row: ContRow) -> (Epoch, FloorWhy)
-    ensures { result ≡ later_floor (floor, why) row }
-{
-    if floor.0 < row.floor.0 {
-        (row.floor, row.why)
-    } else {
-        (floor, why)
-    }
-}
 
 impl Store for PlainStore {
     ghost durable = { λ s. Some (plain_durable s) };
@@ -117,7 +104,7 @@ impl Store for PlainStore {
         if self.stops.stopped {
             return Err(FreezeNo::Stopped);
         }
-        if let Err(refusal) = self.contents.can_freeze(cont, s) {
+        if let Err(refusal) = self.contents.kept.can_freeze(cont, s) {
             return Err(refusal);
         }
         match self.stops.next_change() {
@@ -188,7 +175,7 @@ impl Store for PlainStore {
         if self.stops.stopped {
             return Err(DiscardNo::Stopped);
         }
-        if let Err(refusal) = self.contents.can_discard(cont, lo, hi) {
+        if let Err(refusal) = self.contents.kept.can_discard(cont, lo, hi) {
             return Err(refusal);
         }
         match self.stops.next_change() {
@@ -220,7 +207,7 @@ impl Store for PlainStore {
         if self.stops.stopped {
             return Err(LaterNo::Stopped);
         }
-        match self.contents.later_write(path, above, upto) {
+        match self.contents.kept.later_write(path, above, upto) {
             Ok(shown) => Ok(shown),
             Err(_) => Err(LaterNo::Memory),
         }
@@ -230,7 +217,7 @@ impl Store for PlainStore {
         if self.stops.stopped {
             return Err(LaterNo::Stopped);
         }
-        match self.contents.entries() {
+        match self.contents.kept.entries() {
             Ok(entries) => Ok(entries),
             Err(_) => Err(LaterNo::Memory),
         }
@@ -240,43 +227,43 @@ impl Store for PlainStore {
         if self.stops.stopped {
             return Err(LaterNo::Stopped);
         }
-        match self.contents.objects(cont) {
+        match self.contents.kept.objects(cont) {
             Ok(objects) => Ok(objects),
             Err(_) => Err(LaterNo::Memory),
         }
     }
 
     fn conts(&self) -> Result<ContIds, Memory> {
-        self.contents.enlisted()
+        self.contents.kept.enlisted()
     }
 
     fn floor(&self, cont: ContId) -> (Epoch, FloorWhy) {
-        later_floor(self.floor, self.why, self.contents.row(cont))
+        self.contents.kept.floor((self.floor, self.why), cont)
     }
 
     fn aggregated(&self, cont: ContId) -> Epoch {
-        self.contents.row(cont).aggregated
+        self.contents.kept.row(cont).aggregated
     }
 
     fn open_below(&self, cont: ContId, upto: Epoch) -> Option<Epoch> {
-        self.contents.open_below(cont, upto)
+        self.contents.kept.open_below(cont, upto)
     }
 
     fn snaps(&self) -> Result<Snaps, Memory> {
-        self.contents.snaps()
+        self.contents.kept.snaps()
     }
 
     fn lease(&self) -> u64 {
-        self.contents.lease
+        self.contents.kept.lease
     }
 
     fn incarnation(&self) -> u64 {
-        self.contents.incarnation
+        self.contents.kept.incarnation
     }
 
     fn reopen(&mut self, number: u32) -> Result<(), ReopenNo> {
         self.contents.open();
-        self.floor = self.contents.restart_floor();
+        self.floor = self.contents.kept.restart_floor();
         self.why = FloorWhy::Restart(number);
         self.stops.stopped = false;
         Ok(())
@@ -294,13 +281,13 @@ impl Store for PlainStore {
         self.stops.burns
     }
 
-    ghost steady = { λ s d x runs is m. plain_steady d x (contents_of s.contents) is m };
+    ghost steady = { λ s d x runs is m. plain_steady d x (kept_by s.contents) is m };
 
     ghost findable = { λ s tells. (plain_durable s, refl) };
 
     ghost alike = { λ s t tells. refl };
 
-    ghost formed = { λ s runs d is. plain_formed (contents_of s.contents) d s.contents.formed is };
+    ghost formed = { λ s runs d is. plain_formed (kept_by s.contents) d s.contents.kept.formed is };
 }
 
 impl Fuse for PlainStore {
@@ -321,7 +308,7 @@ impl PlainStore {
         ensures state { IfOk result (λ s. plain_state s ≡ record (new_state (size_mib * 4096 - 1264)) { may_fail = has_some plan.now }) }
     {
         Ok(PlainStore {
-            contents: Contents::new(alloc, u32::from(size_mib) * 4096 - 1264)?,
+            contents: Counted::new(alloc, u32::from(size_mib) * 4096 - 1264)?,
             stops: StopPlan::new(copied(alloc, plan)?),
             floor: Epoch(0),
             why: FloorWhy::Opening,

@@ -1,7 +1,7 @@
 // A store over lists.
 ghost use Rattle.std.specs.Prelude.{◌+◌, ◌*◌, ◌≤◌};
 
-use crate::contents::Contents;
+use crate::counted::Counted;
 use crate::stop_plan::StopPlan;
 use base_types::epoch::Epoch;
 use base_types::outcome::FloorWhy;
@@ -10,9 +10,9 @@ use base_types::outcome::FloorWhy;
 /// says.
 #[derive(Drop)]
 pub struct PlainStore {
-    pub(crate) contents: Contents,
+    pub(crate) contents: Counted,
     pub(crate) stops: StopPlan,
     pub(crate) floor: Epoch,
     pub(crate) why: FloorWhy,
-    ghost covered: { floor.0 ≤ contents.lease * 256 + 255 },
+    ghost covered: { floor.0 ≤ contents.kept.lease * 256 + 255 },
 }

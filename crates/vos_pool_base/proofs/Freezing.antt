@@ -14,9 +14,8 @@ use Rattle.vos_places.specs.Tables.{Table}
 use Rattle.vos_pool_base.specs.Pool.{ChangesTo, HasStood, kept_by}
 use Rattle.vos_standing.proofs.Committed.{closed_it_is_kept}
 use Rattle.vos_store.specs.Calls.{Makes}
-use Rattle.vos_store.specs.declared.refusal.FreezeNo.TheVariants as freeze
 use Rattle.vos_store.specs.declared.refusal.Stopped.{Stopped}
-use Rattle.vos_store.specs.Refusals.{always_stop, freeze_stop}
+use Rattle.vos_store.specs.Refusals.{always_stop, refuses}
 use Rattle.vos_tables.specs.Kept.{MakesWhere, kept_with}
 
 -- what a pool keeps has the rows of its table
@@ -38,19 +37,20 @@ kept_with_of false size f t d h closed is = absurd (nothing is)
     nothing : None ≡ Some d → ⊥
     nothing e = cc
 
-pub made_at_ok : (stopped : Bool) (change : Durable → Durable) (r : Result (Unit {0}) Stopped) (x : Unit {0}) (old new : Option Durable) (may may' : Durable → Type 0) → Makes stopped always_stop change r old new may may' → r ≡ Ok x → Makes stopped freeze_stop change (Ok (tt {0})) old new may may'
-made_at_ok stopped change r x old new may may' m is = subst (λ q. Makes stopped always_stop change q old new may may' → Makes stopped freeze_stop change (Ok (tt {0})) old new may may') (sym is) (λ k. record {
+-- a call of another kind of refusal makes what its commit makes
+pub made_at_ok : {E : Type 0} (stop : E → Bool) (stopped : Bool) (change : Durable → Durable) (r : Result (Unit {0}) Stopped) (x : Unit {0}) (old new : Option Durable) (may may' : Durable → Type 0) → Makes stopped always_stop change r old new may may' → r ≡ Ok x → Makes {T = Unit {0}} {E = E} stopped stop change (Ok (tt {0})) old new may may'
+made_at_ok {E = E} stop stopped change r x old new may may' m is = subst (λ q. Makes stopped always_stop change q old new may may' → Makes {T = Unit {0}} {E = E} stopped stop change (Ok (tt {0})) old new may may') (sym is) (λ k. record {
   told = k.told;
   done = k.done;
   refused = λ bad. absurd (clash false bad refl);
   left = k.left;
 }) m
 
-pub made_at_err : (stopped : Bool) (change : Durable → Durable) (r : Result (Unit {0}) Stopped) (old new : Option Durable) (may may' : Durable → Type 0) → Makes stopped always_stop change r old new may may' → Makes {T = Unit {0}} stopped freeze_stop change (Err freeze.Stopped) old new may may'
-made_at_err stopped change r old new may may' m = record {
+pub made_at_err : {E : Type 0} (stop : E → Bool) (e : E) → refuses {T = Unit {0}} stop (Err e) ≡ false → (stopped : Bool) (change : Durable → Durable) (r : Result (Unit {0}) Stopped) (old new : Option Durable) (may may' : Durable → Type 0) → Makes stopped always_stop change r old new may may' → Makes {T = Unit {0}} stopped stop change (Err e) old new may may'
+made_at_err stop e not_refused stopped change r old new may may' m = record {
   told = m.told;
   done = tt;
-  refused = λ bad. absurd (clash false bad refl);
+  refused = λ bad. absurd (clash (refuses {T = Unit {0}} stop (Err e)) bad not_refused);
   left = m.left;
 }
 

@@ -3,3 +3,4 @@ pub mod Staging
 pub mod Commits
 pub mod Writing
 pub mod Freezing
+pub mod Leaving

@@ -12,7 +12,7 @@ use vos_store::refusal::Stopped;
 /// # Errors
 ///
 /// `Stopped` comes only where a count of the region rose in this call, or it had stopped before.
-pub(crate) fn commit<R: Region>(blocks: &mut Blocks<R>) -> Result<(), Stopped>
+pub fn commit<R: Region>(blocks: &mut Blocks<R>) -> Result<(), Stopped>
     ensures committed { IsTrue R.tells → blocks.old.undo.stopped ≡ false
         → IsCommit (R.extent blocks.old.undo.region) blocks.old.undo.staged (is_ok result) (R.image blocks.old.undo.region) (R.image blocks.new.undo.region)
         (R.may_leave blocks.old.undo.region) (R.may_leave blocks.new.undo.region) }

@@ -6,6 +6,7 @@ ghost use Rattle.daos_model.specs.Changes.{leased};
 ghost use Rattle.pmem_pages.specs.Blocks.{Stops};
 ghost use Rattle.vos_places.specs.Laws.{counted};
 ghost use Rattle.vos_pool_base.specs.Pool.{ChangesTo, HasRoots, IfRunning, kept_of, may_of};
+ghost use Rattle.vos_pool_base.specs.Tidy.{IfTidy, LeavesBut};
 ghost use Rattle.vos_store.specs.Calls.{Makes};
 ghost use Rattle.vos_store.specs.Refusals.{always_stop};
 ghost use Rattle.vos_tables.specs.Tables.{AreNext};
@@ -30,6 +31,8 @@ impl<R: Region> Opened<R> {
         ensures kept { OnErr result (self.new.table ≡ self.old.table) }
         ensures size { R.extent self.new.blocks.undo.region ≡ R.extent self.old.blocks.undo.region }
         ensures free { self.new.blocks.map ≡ self.old.blocks.map }
+        ensures left { LeavesBut R.tells R.extent R.may_leave 0 self.old self.new }
+        ensures tidy { OnOk result (IfTidy R.tells R.extent R.image self.old → IfTidy R.tells R.extent R.image self.new) }
         ensures stops { Stops self.old.blocks.undo.stopped self.new.blocks.undo.stopped (R.count self.old.blocks.undo.region) (R.count self.new.blocks.undo.region)
             (R.burns self.old.blocks.undo.region) (R.burns self.new.blocks.undo.region) result }
         ensures makes { (change : Durable → Durable)
@@ -55,6 +58,8 @@ impl<R: Region> Opened<R> {
         requires on { IfRunning self.old (ForSome (kept_of R.tells R.extent R.image self.old) (λ d. d.lease ≤ ticks)) }
         ensures size { R.extent self.new.blocks.undo.region ≡ R.extent self.old.blocks.undo.region }
         ensures free { self.new.blocks.map ≡ self.old.blocks.map }
+        ensures left { LeavesBut R.tells R.extent R.may_leave 0 self.old self.new }
+        ensures tidy { OnOk result (IfTidy R.tells R.extent R.image self.old → IfTidy R.tells R.extent R.image self.new) }
         ensures stops { Stops self.old.blocks.undo.stopped self.new.blocks.undo.stopped (R.count self.old.blocks.undo.region) (R.count self.new.blocks.undo.region)
             (R.burns self.old.blocks.undo.region) (R.burns self.new.blocks.undo.region) result }
         ensures kept { Makes self.old.blocks.undo.stopped always_stop (leased ticks) result (kept_of R.tells R.extent R.image self.old) (kept_of R.tells R.extent R.image self.new)

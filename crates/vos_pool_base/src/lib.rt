@@ -1,7 +1,8 @@
 // A pool that is open: its region's blocks, and its fixed places as it remembers them.
 #![tactic(auto)]
 
-mod committing;
+pub mod committing;
 pub mod counting;
+pub mod enlisting;
 pub mod opened;
 pub mod snapshots;

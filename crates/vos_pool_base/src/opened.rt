@@ -3,6 +3,7 @@ ghost use Rattle.std.specs.Prelude.{◌≡◌, ◌≤◌, [], length, OnOk, OnEr
 ghost use Rattle.daos_model.specs.declared.durable.Durable.{Durable};
 ghost use Rattle.pmem_pages.specs.Blocks.{Stops};
 ghost use Rattle.vos_pool_base.specs.Pool.{ChangesTo, IfRunning, kept_of, may_of, most_changes, ranges_of};
+ghost use Rattle.vos_pool_base.specs.Tidy.{IfTidy, LeavesBut};
 ghost use Rattle.vos_store.specs.Calls.{Makes};
 ghost use Rattle.vos_store.specs.Refusals.{always_stop};
 ghost use Rattle.vos_tables.specs.Changes.{AllFit, all_changed};
@@ -18,8 +19,8 @@ use vos_tables::table::Tables;
 /// A region that is open as a pool: its blocks, and its fixed places.
 #[derive(Drop)]
 pub struct Opened<R: Region> {
-    pub(crate) blocks: Blocks<R>,
-    pub(crate) tables: Tables,
+    pub blocks: Blocks<R>,
+    pub tables: Tables,
 }
 
 impl<R: Region> Model for Opened<R> {
@@ -59,6 +60,8 @@ impl<R: Region> Opened<R> {
         ensures kept { OnErr result (self.new.table ≡ self.old.table) }
         ensures size { R.extent self.new.blocks.undo.region ≡ R.extent self.old.blocks.undo.region }
         ensures free { self.new.blocks.map ≡ self.old.blocks.map }
+        ensures left { LeavesBut R.tells R.extent R.may_leave 0 self.old self.new }
+        ensures tidy { OnOk result (IfTidy R.tells R.extent R.image self.old → IfTidy R.tells R.extent R.image self.new) }
         ensures stops { Stops self.old.blocks.undo.stopped self.new.blocks.undo.stopped (R.count self.old.blocks.undo.region) (R.count self.new.blocks.undo.region)
             (R.burns self.old.blocks.undo.region) (R.burns self.new.blocks.undo.region) result }
         ensures makes { (change : Durable → Durable)

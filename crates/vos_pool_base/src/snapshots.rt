@@ -1,10 +1,11 @@
 // Snapshots of an open pool.
-ghost use Rattle.std.specs.Prelude.{◌≡◌, [], false, true, unwrap_or};
+ghost use Rattle.std.specs.Prelude.{◌≡◌, [], false, true, OnOk, unwrap_or};
 ghost use Rattle.std.specs.Option.{ForSome};
 ghost use Rattle.daos_model.specs.declared.durable.Durable.{Durable};
 ghost use Rattle.daos_model.specs.Changes.{created, frozen, thawed};
 ghost use Rattle.pmem_pages.specs.Blocks.{Stops};
 ghost use Rattle.vos_pool_base.specs.Pool.{ChangesTo, IfRunning, StopsBy, kept_of, may_of};
+ghost use Rattle.vos_pool_base.specs.Tidy.{IfTidy, LeavesBut};
 ghost use Rattle.vos_store.specs.Answers.{freezes};
 ghost use Rattle.vos_store.specs.Calls.{Answers, Makes};
 ghost use Rattle.vos_store.specs.Conditions.{CanFreeze};
@@ -24,6 +25,8 @@ impl<R: Region> Opened<R> {
         requires { AllFit self.old.table (unwrap_or plan []) }
         ensures size { R.extent self.new.blocks.undo.region ≡ R.extent self.old.blocks.undo.region }
         ensures free { self.new.blocks.map ≡ self.old.blocks.map }
+        ensures left { LeavesBut R.tells R.extent R.may_leave 0 self.old self.new }
+        ensures tidy { OnOk result (IfTidy R.tells R.extent R.image self.old → IfTidy R.tells R.extent R.image self.new) }
         ensures stops { Stops self.old.blocks.undo.stopped self.new.blocks.undo.stopped (R.count self.old.blocks.undo.region) (R.count self.new.blocks.undo.region)
             (R.burns self.old.blocks.undo.region) (R.burns self.new.blocks.undo.region) result }
         ensures makes { (change : Durable → Durable)
@@ -50,6 +53,8 @@ impl<R: Region> Opened<R> {
         ensures size { R.extent self.new.blocks.undo.region ≡ R.extent self.old.blocks.undo.region }
         ensures free { self.new.blocks.map ≡ self.old.blocks.map }
         ensures answer { Answers freeze_stop result (freezes cont s) (kept_of R.tells R.extent R.image self.old) }
+        ensures left { LeavesBut R.tells R.extent R.may_leave 0 self.old self.new }
+        ensures tidy { OnOk result (IfTidy R.tells R.extent R.image self.old → IfTidy R.tells R.extent R.image self.new) }
         ensures stops { StopsBy (says freeze_stop result) self.old.blocks.undo.stopped self.new.blocks.undo.stopped (R.count self.old.blocks.undo.region) (R.count self.new.blocks.undo.region)
             (R.burns self.old.blocks.undo.region) (R.burns self.new.blocks.undo.region) }
         ensures kept { Makes self.old.blocks.undo.stopped freeze_stop (frozen cont s) result (kept_of R.tells R.extent R.image self.old) (kept_of R.tells R.extent R.image self.new)
@@ -74,6 +79,8 @@ impl<R: Region> Opened<R> {
     pub fn create(&mut self, cont: ContId, s: Epoch) -> Result<(), Stopped>
         ensures size { R.extent self.new.blocks.undo.region ≡ R.extent self.old.blocks.undo.region }
         ensures free { self.new.blocks.map ≡ self.old.blocks.map }
+        ensures left { LeavesBut R.tells R.extent R.may_leave 0 self.old self.new }
+        ensures tidy { OnOk result (IfTidy R.tells R.extent R.image self.old → IfTidy R.tells R.extent R.image self.new) }
         ensures stops { Stops self.old.blocks.undo.stopped self.new.blocks.undo.stopped (R.count self.old.blocks.undo.region) (R.count self.new.blocks.undo.region)
             (R.burns self.old.blocks.undo.region) (R.burns self.new.blocks.undo.region) result }
         ensures kept { Makes self.old.blocks.undo.stopped always_stop (created cont s) result (kept_of R.tells R.extent R.image self.old) (kept_of R.tells R.extent R.image self.new)
@@ -93,6 +100,8 @@ impl<R: Region> Opened<R> {
     pub fn thaw(&mut self, cont: ContId, s: Epoch) -> Result<(), Stopped>
         ensures size { R.extent self.new.blocks.undo.region ≡ R.extent self.old.blocks.undo.region }
         ensures free { self.new.blocks.map ≡ self.old.blocks.map }
+        ensures left { LeavesBut R.tells R.extent R.may_leave 0 self.old self.new }
+        ensures tidy { OnOk result (IfTidy R.tells R.extent R.image self.old → IfTidy R.tells R.extent R.image self.new) }
         ensures stops { Stops self.old.blocks.undo.stopped self.new.blocks.undo.stopped (R.count self.old.blocks.undo.region) (R.count self.new.blocks.undo.region)
             (R.burns self.old.blocks.undo.region) (R.burns self.new.blocks.undo.region) result }
         ensures kept { Makes self.old.blocks.undo.stopped always_stop (thawed cont s) result (kept_of R.tells R.extent R.image self.old) (kept_of R.tells R.extent R.image self.new)

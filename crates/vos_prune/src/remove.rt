@@ -8,7 +8,8 @@ ghost use Rattle.pmem_tree_base.specs.declared.refusal.TreeNo.{TreeNo};
 ghost use Rattle.vos_levels.specs.Calls.{HasThing, OfThing};
 ghost use Rattle.vos_levels.specs.Levels.{hung_root};
 ghost use Rattle.vos_path.specs.Objects.{objects_owner, objects_versions};
-ghost use Rattle.vos_path.specs.Writes.{NamesAreKeys, ObjectsAreSmall};
+ghost use Rattle.vos_path.specs.Small.{PathIsSmall};
+ghost use Rattle.vos_path.specs.Writes.{NamesAreKeys};
 ghost use Rattle.vos_settle.specs.Costs.{Lacks, Spends, for_one, objects_cost};
 ghost use Rattle.vos_settle.specs.Versions.{fits_kind};
 ghost use Rattle.vos_prune.specs.Removals.{Removed, done_blocks, removed_freed};
@@ -92,9 +93,9 @@ pub fn remove_write<P: Pages, L: Ledger>(
     ensures kind { objects.new.kind ≡ 1 }
     ensures root { objects.new.root ≡ objects.old.root }
     ensures no_block { IsErrOf result TreeNo.NoBlock → ⊥ }
-    ensures too_much { IsErrOf result TreeNo.TooMuch → OfThing P.tells objects_owner hung_root (P.blocks pages.old) objects.old.root (λ g. (d : ℕ) → ObjectsAreSmall d g → Lacks (objects_cost kind path.now.dkey path.now.akey (for_one d) 1) d (P.budget pages.old)) }
-    ensures few_left { IsErrOf result TreeNo.TooMuch → OfThing P.tells objects_owner hung_root (P.blocks pages.old) objects.old.root (λ g. (d : ℕ) → ObjectsAreSmall d g → IsShort d (P.budget pages.new)) }
-    ensures staged { OnOk result (OfThing P.tells objects_owner hung_root (P.blocks pages.old) objects.old.root (λ g. (d : ℕ) → ObjectsAreSmall d g → Spends (objects_cost kind path.now.dkey path.now.akey (for_one d) 1) (P.budget pages.old) (P.budget pages.new))) }
+    ensures too_much { IsErrOf result TreeNo.TooMuch → OfThing P.tells objects_owner hung_root (P.blocks pages.old) objects.old.root (λ g. (d : ℕ) → PathIsSmall d path.now g → Lacks (objects_cost kind path.now.dkey path.now.akey (for_one d) 1) d (P.budget pages.old)) }
+    ensures few_left { IsErrOf result TreeNo.TooMuch → OfThing P.tells objects_owner hung_root (P.blocks pages.old) objects.old.root (λ g. (d : ℕ) → PathIsSmall d path.now g → IsShort d (P.budget pages.new)) }
+    ensures staged { OnOk result (OfThing P.tells objects_owner hung_root (P.blocks pages.old) objects.old.root (λ g. (d : ℕ) → PathIsSmall d path.now g → Spends (objects_cost kind path.now.dkey path.now.akey (for_one d) 1) (P.budget pages.old) (P.budget pages.new))) }
     ensures free { OnOk result (OfThing P.tells objects_owner hung_root (P.blocks pages.old) objects.old.root (λ g. (P.budget pages.new).free ≡ (P.budget pages.old).free + removed_freed (writer_of path.now kind at (objects_versions g)) kind at path.now g)) }
     ensures gives { OnOk result (OfThing P.tells objects_owner hung_root (P.blocks pages.old) objects.old.root (λ g. (P.budget pages.old).free + done_blocks path.now kind at (objects_versions g) ≤ (P.budget pages.new).free)) }
     ensures goes { Goes P.stopped P.count P.burns pages.old pages.new }

@@ -54,6 +54,15 @@ pub mapped_none : {A B : Type 0} (f : A → B) (x : Option A) (z : Option B) →
 mapped_none f None z h e = refl
 mapped_none f (Some a) z h e = absurd (let n : ⊥ = cc in n)
 
+-- what holds of those that pass a test holds of the one that is found
+pub passing_one : {A : Type 0} (Q : A → Type 0) (test : A → Bool) (xs : List A) (a : A) → All (λ x. test x ≡ true → Q x) xs → find test xs ≡ Some a → Q a
+passing_one Q test [] a h e = absurd (let n : ⊥ = cc in n)
+passing_one {A = A} Q test (x ∷ xs) a h e = by (test x) refl e (passing_one Q test xs a (All-tail (λ z. test z ≡ true → Q z) x xs h))
+  where
+    by : (t : Bool) → test x ≡ t → (if t then Some x else find test xs) ≡ Some a → (find test xs ≡ Some a → Q a) → Q a
+    by true p e r = let same : x ≡ a = cc in subst Q same (All-head (λ z. test z ≡ true → Q z) x xs h p)
+    by false p e r = r e
+
 -- what holds of all holds of the one that is found
 pub all_one : {A : Type 0} (Q : A → Type 0) (test : A → Bool) (xs : List A) (a : A) → All Q xs → find test xs ≡ Some a → Q a
 all_one Q test [] a h e = absurd (let n : ⊥ = cc in n)

@@ -1,12 +1,15 @@
 -- No tree has more pairs where a write was settled or pruned.
-use Rattle.std.proofs.Common.{◌≡◌, ℕ, ◌≤◌, Bool, true, false, List, [], ◌∷◌, ◌++◌, length, Option, Some, None, sym, ap, subst, arith, inl, inr, length-append}
+use Rattle.std.proofs.Common.{◌≡◌, ℕ, ◌≤◌, Bool, true, false, List, [], ◌∷◌, ◌++◌, length, Option, Some, None, sym, ap, ◌∙◌, subst, arith, inl, inr, length-append}
 use Rattle.std.proofs.lemmas.List.{length-map}
 use Rattle.std.specs.Prelude.{All, if◌then◌else◌}
 use Rattle.std.proofs.lemmas.List.Elements.{All-append, All-cons, All-head, All-nil, All-tail}
 use Rattle.base_types.specs.declared.path.Path.{Path}
 use Rattle.pmem_pages.specs.Blocks.{Blocks}
 use Rattle.pmem_pages.specs.Owners.{Holds, Owner, each}
-use Rattle.pmem_pages.specs.Shape.{entries}
+use Rattle.pmem_pages.specs.Node.{key_cmp}
+use Rattle.pmem_pages.specs.Shape.{chosen, entries}
+use Rattle.pmem_pages.specs.declared.node.TreeKey.{TreeKey}
+use Rattle.vos_values.specs.Keys.{name_key, object_key}
 use Rattle.vos_levels.specs.Changes.{changed_by, keeps}
 use Rattle.vos_levels.specs.Levels.{Hung, Level, hung, in_part, map_those, things, without_those}
 use Rattle.vos_levels.proofs.Changing.{holds_each, holds_spot}
@@ -18,6 +21,7 @@ use Rattle.vos_single.specs.Singles as single
 use Rattle.vos_extent.specs.declared.extent.ExtentVersion.{ExtentVersion}
 use Rattle.vos_extent.specs.Extents as extent
 use Rattle.vos_path.specs.Objects.{Akey, Below, Dkey, Objects, Values, akey_level, below_owner, dkey_level, held_below, held_values, object_level, objects_owner, values_owner}
+use Rattle.vos_path.specs.Small.{AkeysOnPathAreSmall, BelowDkeyOnPathIsSmall, BelowObjectOnPathIsSmall, DkeysOnPathAreSmall, NamedAkeyIsSmall, NamedDkeyIsSmall, NamedObjectIsSmall, PathIsSmall}
 use Rattle.vos_path.specs.Writes.{AkeyIsSmall, AkeysAreSmall, BelowDkeyIsSmall, BelowObjectIsSmall, DkeyIsSmall, DkeysAreSmall, IsSmall, ObjectIsSmall, ObjectsAreSmall, ValuesAreSmall}
 use Rattle.vos_path.proofs.Written.{holds_extent, holds_first, holds_log, holds_second, holds_single}
 use Rattle.vos_values.specs.declared.keys.Moment.{Moment}
@@ -120,6 +124,10 @@ module _ {A : Type 0} (L : Level A) (Small : A → Type 0) (test : A → Bool) (
       )
   one_small (inr o) s = (no_larger L m n g h d x y (let e = ap length o.same in omega (arith, e)) s.0, subst (All Small) (sym o.same) s.1)
 
+-- a key is another one's
+abbrev is_level_of : TreeKey → TreeKey → Bool
+is_level_of k key = chosen (key_cmp k key) false true false
+
 -- ---- down the levels
 
 part_holds : {A B : Type 0} (f : A → B) (O : Owner B) (m : Blocks) (a : A) → Holds (in_part f O) m a → Holds O m (f a)
@@ -153,3 +161,42 @@ below_object_small t (Some name) akey m n a b d x y w s = (
 
 pub objects_small : (t : Task) (name : ObjectKey) (p : Path) (m n : Blocks) (g h : Objects) (d : ℕ) → Holds objects_owner m g → Holds objects_owner n h → OneObjectTurn t name p g h → ObjectsAreSmall d g → ObjectsAreSmall d h
 objects_small t name p m n g h d x y w s = one_small object_level (ObjectIsSmall d) _ (BranchTurn (ObjectTurn t p.dkey p.akey)) m n (λ a b u v r z. below_object_small t p.dkey p.akey m n a.holds b.holds d (part_holds held_below (below_owner dkey_level) m a u) (part_holds held_below (below_owner dkey_level) n b v) r.holds z) g h d x y w s
+
+-- ---- the trees on a path, whichever was changed
+
+akeys_path_small : (t : Task) (name : List ℕ) (akey : Option (List ℕ)) (m n : Blocks) (g h : Hung Akey) (d : ℕ) → Holds (hung akey_level) m g → Holds (hung akey_level) n h → AkeysTurn t name g h → AkeysOnPathAreSmall d akey g → AkeysOnPathAreSmall d akey h
+akeys_path_small t name None m n g h d x y w s = tt
+akeys_path_small t name (Some akey) m n g h d x y w s =
+    one_small akey_level (NamedAkeyIsSmall d akey) _ (AkeyTurn t) m n
+    (λ a b p q r z level. values_small t m n a.holds b.holds d (part_holds held_values values_owner m a p) (part_holds held_values values_owner n b q) r.holds (z (ap (λ k. is_level_of (name_key akey) (name_key k)) (sym r.name) ∙ level))) g h d x y w s
+
+below_dkey_path_small : (t : Task) (changed akey : Option (List ℕ)) (m n : Blocks) (a b : Below Akey) (d : ℕ) → Holds (below_owner akey_level) m a → Holds (below_owner akey_level) n b → DkeyTurn t changed a b → BelowDkeyOnPathIsSmall d akey a → BelowDkeyOnPathIsSmall d akey b
+below_dkey_path_small t None akey m n a b d x y w s = (
+  log_small m n a.0 b.0 d (holds_first log_owner (hung akey_level) m a x) (holds_first log_owner (hung akey_level) n b y) _ w.log (log_length Punch t.change t.at (things a.0)) s.0,
+  subst (AkeysOnPathAreSmall d akey) (sym w.tree) s.1,
+)
+below_dkey_path_small t (Some name) akey m n a b d x y w s = (
+  log_small m n a.0 b.0 d (holds_first log_owner (hung akey_level) m a x) (holds_first log_owner (hung akey_level) n b y) _ w.log (noted_length t (things a.0)) s.0,
+  akeys_path_small t name akey m n a.1 b.1 d (holds_second log_owner (hung akey_level) m a x) (holds_second log_owner (hung akey_level) n b y) w.tree s.1,
+)
+
+dkeys_path_small : (t : Task) (name : List ℕ) (changed dkey akey : Option (List ℕ)) (m n : Blocks) (g h : Hung Dkey) (d : ℕ) → Holds (hung dkey_level) m g → Holds (hung dkey_level) n h → DkeysTurn t name changed g h → DkeysOnPathAreSmall d dkey akey g → DkeysOnPathAreSmall d dkey akey h
+dkeys_path_small t name changed None akey m n g h d x y w s = tt
+dkeys_path_small t name changed (Some dkey) akey m n g h d x y w s =
+    one_small dkey_level (NamedDkeyIsSmall d dkey akey) _ (BranchTurn (DkeyTurn t changed)) m n
+    (λ a b p q r z level. below_dkey_path_small t changed akey m n a.holds b.holds d (part_holds held_below (below_owner akey_level) m a p) (part_holds held_below (below_owner akey_level) n b q) r.holds (z (ap (λ k. is_level_of (name_key dkey) (name_key k)) (sym r.name) ∙ level))) g h d x y w s
+
+below_object_path_small : (t : Task) (one two dkey akey : Option (List ℕ)) (m n : Blocks) (a b : Below Dkey) (d : ℕ) → Holds (below_owner dkey_level) m a → Holds (below_owner dkey_level) n b → ObjectTurn t one two a b → BelowObjectOnPathIsSmall d dkey akey a → BelowObjectOnPathIsSmall d dkey akey b
+below_object_path_small t None two dkey akey m n a b d x y w s = (
+  log_small m n a.0 b.0 d (holds_first log_owner (hung dkey_level) m a x) (holds_first log_owner (hung dkey_level) n b y) _ w.log (log_length Punch t.change t.at (things a.0)) s.0,
+  subst (DkeysOnPathAreSmall d dkey akey) (sym w.tree) s.1,
+)
+below_object_path_small t (Some name) two dkey akey m n a b d x y w s = (
+  log_small m n a.0 b.0 d (holds_first log_owner (hung dkey_level) m a x) (holds_first log_owner (hung dkey_level) n b y) _ w.log (noted_length t (things a.0)) s.0,
+  dkeys_path_small t name two dkey akey m n a.1 b.1 d (holds_second log_owner (hung dkey_level) m a x) (holds_second log_owner (hung dkey_level) n b y) w.tree s.1,
+)
+
+pub path_stays_small : (t : Task) (name : ObjectKey) (p q : Path) (m n : Blocks) (g h : Objects) (d : ℕ) → Holds objects_owner m g → Holds objects_owner n h → OneObjectTurn t name p g h → PathIsSmall d q g → PathIsSmall d q h
+path_stays_small t name p q m n g h d x y w s object at =
+    one_small object_level (NamedObjectIsSmall d object q.dkey q.akey) _ (BranchTurn (ObjectTurn t p.dkey p.akey)) m n
+    (λ a b u v r z level. below_object_path_small t p.dkey p.akey q.dkey q.akey m n a.holds b.holds d (part_holds held_below (below_owner dkey_level) m a u) (part_holds held_below (below_owner dkey_level) n b v) r.holds (z (ap (λ k. is_level_of (object_key object) (object_key k)) (sym r.name) ∙ level))) g h d x y w (s object at)

@@ -8,7 +8,8 @@ ghost use Rattle.vos_levels.specs.Calls.{HasThing, OfThing};
 ghost use Rattle.vos_levels.specs.Changes.{keeps};
 ghost use Rattle.vos_levels.specs.Levels.{hung, hung_root};
 ghost use Rattle.vos_path.specs.Objects.{akey_level};
-ghost use Rattle.vos_path.specs.Writes.{AkeysAreSmall};
+ghost use Rattle.std.specs.Prelude.{Some as some_name};
+ghost use Rattle.vos_path.specs.Small.{AkeysOnPathAreSmall};
 ghost use Rattle.vos_settle.specs.Nodes.{AkeysTurn, Turned, akeys_freed};
 ghost use Rattle.vos_settle.specs.Costs.{Lacks, Spends, akeys_cost, for_one};
 
@@ -45,11 +46,11 @@ pub fn change_akeys<P: Pages, L: Ledger>(
     ensures changed { OnOk result (OfThing P.tells (hung akey_level) hung_root (P.blocks pages.old) akeys.old.root (λ g. Turned (hung akey_level) hung_root (P.blocks pages.old) g (P.blocks pages.new) akeys.new.root (AkeysTurn task name.now))) }
     ensures kind { akeys.new.kind ≡ 3 }
     ensures no_block { IsErrOf result TreeNo.NoBlock → ⊥ }
-    ensures too_much { IsErrOf result TreeNo.TooMuch → OfThing P.tells (hung akey_level) hung_root (P.blocks pages.old) akeys.old.root (λ g. (d : ℕ) → AkeysAreSmall d g → Lacks (akeys_cost task.kind (for_one d) 1) d (P.budget pages.old)) }
-    ensures few_left { IsErrOf result TreeNo.TooMuch → OfThing P.tells (hung akey_level) hung_root (P.blocks pages.old) akeys.old.root (λ g. (d : ℕ) → AkeysAreSmall d g → IsShort d (P.budget pages.new)) }
-    ensures staged { OnOk result (OfThing P.tells (hung akey_level) hung_root (P.blocks pages.old) akeys.old.root (λ g. (d : ℕ) → AkeysAreSmall d g → Spends (akeys_cost task.kind (for_one d) 1) (P.budget pages.old) (P.budget pages.new))) }
+    ensures too_much { IsErrOf result TreeNo.TooMuch → OfThing P.tells (hung akey_level) hung_root (P.blocks pages.old) akeys.old.root (λ g. (d : ℕ) → AkeysOnPathAreSmall d (some_name name.now) g → Lacks (akeys_cost task.kind (for_one d) 1) d (P.budget pages.old)) }
+    ensures few_left { IsErrOf result TreeNo.TooMuch → OfThing P.tells (hung akey_level) hung_root (P.blocks pages.old) akeys.old.root (λ g. (d : ℕ) → AkeysOnPathAreSmall d (some_name name.now) g → IsShort d (P.budget pages.new)) }
+    ensures staged { OnOk result (OfThing P.tells (hung akey_level) hung_root (P.blocks pages.old) akeys.old.root (λ g. (d : ℕ) → AkeysOnPathAreSmall d (some_name name.now) g → Spends (akeys_cost task.kind (for_one d) 1) (P.budget pages.old) (P.budget pages.new))) }
     ensures root { akeys.new.root ≡ akeys.old.root }
-    ensures committed { keeps task.change ≡ true → OnOk result (Spends (akeys_cost task.kind 1 0) (P.budget pages.old) (P.budget pages.new)) }
+    ensures committed { keeps task.change ≡ true → Spends (akeys_cost task.kind 1 0) (P.budget pages.old) (P.budget pages.new) }
     ensures free { OnOk result (OfThing P.tells (hung akey_level) hung_root (P.blocks pages.old) akeys.old.root (λ g. (P.budget pages.new).free ≡ (P.budget pages.old).free + akeys_freed task name.now g)) }
     ensures goes { Goes P.stopped P.count P.burns pages.old pages.new }
     ensures stopped { IsErrOf result TreeNo.Stopped → P.stopped pages.new ≡ true }

@@ -9,7 +9,7 @@ ghost use Rattle.vos_levels.specs.Changes.{keeps};
 ghost use Rattle.vos_levels.specs.Levels.{hung, hung_root};
 ghost use Rattle.vos_path.specs.Calls.{HasAt, OfAt};
 ghost use Rattle.vos_path.specs.Objects.{akey_level, below_owner, below_roots, dkey_level};
-ghost use Rattle.vos_path.specs.Writes.{BelowDkeyIsSmall, DkeysAreSmall};
+ghost use Rattle.vos_path.specs.Small.{BelowDkeyOnPathIsSmall, DkeysOnPathAreSmall};
 ghost use Rattle.vos_settle.specs.Nodes.{DkeyTurn, DkeysTurn, Turned, below_dkey_freed, dkeys_freed};
 ghost use Rattle.vos_settle.specs.Costs.{Lacks, Spends, below_dkey_cost, dkeys_cost, for_one};
 ghost use Rattle.std.specs.Prelude.{Some as some_name, None as no_name};
@@ -39,11 +39,11 @@ fn change_punch<P: Pages, L: Ledger>(
     requires here { HasAt P.tells (below_owner akey_level) below_roots (P.blocks pages.old) roots (λ g. ⊤) }
     ensures changed { IfOk result (λ now. OfAt P.tells (below_owner akey_level) below_roots (P.blocks pages.old) roots (λ g. Turned (below_owner akey_level) below_roots (P.blocks pages.old) g (P.blocks pages.new) now (DkeyTurn task no_name))) }
     ensures no_block { IsErrOf result TreeNo.NoBlock → ⊥ }
-    ensures too_much { IsErrOf result TreeNo.TooMuch → OfAt P.tells (below_owner akey_level) below_roots (P.blocks pages.old) roots (λ g. (d : ℕ) → BelowDkeyIsSmall d g → Lacks (below_dkey_cost task.kind no_name (for_one d) 1) d (P.budget pages.old)) }
-    ensures few_left { IsErrOf result TreeNo.TooMuch → OfAt P.tells (below_owner akey_level) below_roots (P.blocks pages.old) roots (λ g. (d : ℕ) → BelowDkeyIsSmall d g → IsShort d (P.budget pages.new)) }
-    ensures staged { OnOk result (OfAt P.tells (below_owner akey_level) below_roots (P.blocks pages.old) roots (λ g. (d : ℕ) → BelowDkeyIsSmall d g → Spends (below_dkey_cost task.kind no_name (for_one d) 1) (P.budget pages.old) (P.budget pages.new))) }
+    ensures too_much { IsErrOf result TreeNo.TooMuch → OfAt P.tells (below_owner akey_level) below_roots (P.blocks pages.old) roots (λ g. (d : ℕ) → BelowDkeyOnPathIsSmall d no_name g → Lacks (below_dkey_cost task.kind no_name (for_one d) 1) d (P.budget pages.old)) }
+    ensures few_left { IsErrOf result TreeNo.TooMuch → OfAt P.tells (below_owner akey_level) below_roots (P.blocks pages.old) roots (λ g. (d : ℕ) → BelowDkeyOnPathIsSmall d no_name g → IsShort d (P.budget pages.new)) }
+    ensures staged { OnOk result (OfAt P.tells (below_owner akey_level) below_roots (P.blocks pages.old) roots (λ g. (d : ℕ) → BelowDkeyOnPathIsSmall d no_name g → Spends (below_dkey_cost task.kind no_name (for_one d) 1) (P.budget pages.old) (P.budget pages.new))) }
     ensures root { keeps task.change ≡ true → IfOk result (λ now. now ≡ roots) }
-    ensures committed { keeps task.change ≡ true → OnOk result (Spends (below_dkey_cost task.kind no_name 1 0) (P.budget pages.old) (P.budget pages.new)) }
+    ensures committed { keeps task.change ≡ true → Spends (below_dkey_cost task.kind no_name 1 0) (P.budget pages.old) (P.budget pages.new) }
     ensures free { OnOk result (OfAt P.tells (below_owner akey_level) below_roots (P.blocks pages.old) roots (λ g. (P.budget pages.new).free ≡ (P.budget pages.old).free + below_dkey_freed task no_name g)) }
     ensures goes { Goes P.stopped P.count P.burns pages.old pages.new }
     ensures stopped { IsErrOf result TreeNo.Stopped → P.stopped pages.new ≡ true }
@@ -69,11 +69,11 @@ fn change_below<P: Pages, L: Ledger>(
     requires here { HasAt P.tells (below_owner akey_level) below_roots (P.blocks pages.old) roots (λ g. ⊤) }
     ensures changed { IfOk result (λ now. OfAt P.tells (below_owner akey_level) below_roots (P.blocks pages.old) roots (λ g. Turned (below_owner akey_level) below_roots (P.blocks pages.old) g (P.blocks pages.new) now (DkeyTurn task (some_name akey.now)))) }
     ensures no_block { IsErrOf result TreeNo.NoBlock → ⊥ }
-    ensures too_much { IsErrOf result TreeNo.TooMuch → OfAt P.tells (below_owner akey_level) below_roots (P.blocks pages.old) roots (λ g. (d : ℕ) → BelowDkeyIsSmall d g → Lacks (below_dkey_cost task.kind (some_name akey.now) (for_one d) 1) d (P.budget pages.old)) }
-    ensures few_left { IsErrOf result TreeNo.TooMuch → OfAt P.tells (below_owner akey_level) below_roots (P.blocks pages.old) roots (λ g. (d : ℕ) → BelowDkeyIsSmall d g → IsShort d (P.budget pages.new)) }
-    ensures staged { OnOk result (OfAt P.tells (below_owner akey_level) below_roots (P.blocks pages.old) roots (λ g. (d : ℕ) → BelowDkeyIsSmall d g → Spends (below_dkey_cost task.kind (some_name akey.now) (for_one d) 1) (P.budget pages.old) (P.budget pages.new))) }
+    ensures too_much { IsErrOf result TreeNo.TooMuch → OfAt P.tells (below_owner akey_level) below_roots (P.blocks pages.old) roots (λ g. (d : ℕ) → BelowDkeyOnPathIsSmall d (some_name akey.now) g → Lacks (below_dkey_cost task.kind (some_name akey.now) (for_one d) 1) d (P.budget pages.old)) }
+    ensures few_left { IsErrOf result TreeNo.TooMuch → OfAt P.tells (below_owner akey_level) below_roots (P.blocks pages.old) roots (λ g. (d : ℕ) → BelowDkeyOnPathIsSmall d (some_name akey.now) g → IsShort d (P.budget pages.new)) }
+    ensures staged { OnOk result (OfAt P.tells (below_owner akey_level) below_roots (P.blocks pages.old) roots (λ g. (d : ℕ) → BelowDkeyOnPathIsSmall d (some_name akey.now) g → Spends (below_dkey_cost task.kind (some_name akey.now) (for_one d) 1) (P.budget pages.old) (P.budget pages.new))) }
     ensures root { keeps task.change ≡ true → IfOk result (λ now. now ≡ roots) }
-    ensures committed { keeps task.change ≡ true → OnOk result (Spends (below_dkey_cost task.kind (some_name akey.now) 1 0) (P.budget pages.old) (P.budget pages.new)) }
+    ensures committed { keeps task.change ≡ true → Spends (below_dkey_cost task.kind (some_name akey.now) 1 0) (P.budget pages.old) (P.budget pages.new) }
     ensures free { OnOk result (OfAt P.tells (below_owner akey_level) below_roots (P.blocks pages.old) roots (λ g. (P.budget pages.new).free ≡ (P.budget pages.old).free + below_dkey_freed task (some_name akey.now) g)) }
     ensures goes { Goes P.stopped P.count P.burns pages.old pages.new }
     ensures stopped { IsErrOf result TreeNo.Stopped → P.stopped pages.new ≡ true }
@@ -104,11 +104,11 @@ fn change_dkey<P: Pages, L: Ledger>(
     requires here { HasAt P.tells (below_owner akey_level) below_roots (P.blocks pages.old) roots (λ g. ⊤) }
     ensures changed { IfOk result (λ now. OfAt P.tells (below_owner akey_level) below_roots (P.blocks pages.old) roots (λ g. Turned (below_owner akey_level) below_roots (P.blocks pages.old) g (P.blocks pages.new) now (DkeyTurn task akey.now))) }
     ensures no_block { IsErrOf result TreeNo.NoBlock → ⊥ }
-    ensures too_much { IsErrOf result TreeNo.TooMuch → OfAt P.tells (below_owner akey_level) below_roots (P.blocks pages.old) roots (λ g. (d : ℕ) → BelowDkeyIsSmall d g → Lacks (below_dkey_cost task.kind akey.now (for_one d) 1) d (P.budget pages.old)) }
-    ensures few_left { IsErrOf result TreeNo.TooMuch → OfAt P.tells (below_owner akey_level) below_roots (P.blocks pages.old) roots (λ g. (d : ℕ) → BelowDkeyIsSmall d g → IsShort d (P.budget pages.new)) }
-    ensures staged { OnOk result (OfAt P.tells (below_owner akey_level) below_roots (P.blocks pages.old) roots (λ g. (d : ℕ) → BelowDkeyIsSmall d g → Spends (below_dkey_cost task.kind akey.now (for_one d) 1) (P.budget pages.old) (P.budget pages.new))) }
+    ensures too_much { IsErrOf result TreeNo.TooMuch → OfAt P.tells (below_owner akey_level) below_roots (P.blocks pages.old) roots (λ g. (d : ℕ) → BelowDkeyOnPathIsSmall d akey.now g → Lacks (below_dkey_cost task.kind akey.now (for_one d) 1) d (P.budget pages.old)) }
+    ensures few_left { IsErrOf result TreeNo.TooMuch → OfAt P.tells (below_owner akey_level) below_roots (P.blocks pages.old) roots (λ g. (d : ℕ) → BelowDkeyOnPathIsSmall d akey.now g → IsShort d (P.budget pages.new)) }
+    ensures staged { OnOk result (OfAt P.tells (below_owner akey_level) below_roots (P.blocks pages.old) roots (λ g. (d : ℕ) → BelowDkeyOnPathIsSmall d akey.now g → Spends (below_dkey_cost task.kind akey.now (for_one d) 1) (P.budget pages.old) (P.budget pages.new))) }
     ensures root { keeps task.change ≡ true → IfOk result (λ now. now ≡ roots) }
-    ensures committed { keeps task.change ≡ true → OnOk result (Spends (below_dkey_cost task.kind akey.now 1 0) (P.budget pages.old) (P.budget pages.new)) }
+    ensures committed { keeps task.change ≡ true → Spends (below_dkey_cost task.kind akey.now 1 0) (P.budget pages.old) (P.budget pages.new) }
     ensures free { OnOk result (OfAt P.tells (below_owner akey_level) below_roots (P.blocks pages.old) roots (λ g. (P.budget pages.new).free ≡ (P.budget pages.old).free + below_dkey_freed task akey.now g)) }
     ensures goes { Goes P.stopped P.count P.burns pages.old pages.new }
     ensures stopped { IsErrOf result TreeNo.Stopped → P.stopped pages.new ≡ true }
@@ -142,11 +142,11 @@ pub fn change_dkeys<P: Pages, L: Ledger>(
     ensures changed { OnOk result (OfThing P.tells (hung dkey_level) hung_root (P.blocks pages.old) dkeys.old.root (λ g. Turned (hung dkey_level) hung_root (P.blocks pages.old) g (P.blocks pages.new) dkeys.new.root (DkeysTurn task name.now akey.now))) }
     ensures kind { dkeys.new.kind ≡ 2 }
     ensures no_block { IsErrOf result TreeNo.NoBlock → ⊥ }
-    ensures too_much { IsErrOf result TreeNo.TooMuch → OfThing P.tells (hung dkey_level) hung_root (P.blocks pages.old) dkeys.old.root (λ g. (d : ℕ) → DkeysAreSmall d g → Lacks (dkeys_cost task.kind akey.now (for_one d) 1) d (P.budget pages.old)) }
-    ensures few_left { IsErrOf result TreeNo.TooMuch → OfThing P.tells (hung dkey_level) hung_root (P.blocks pages.old) dkeys.old.root (λ g. (d : ℕ) → DkeysAreSmall d g → IsShort d (P.budget pages.new)) }
-    ensures staged { OnOk result (OfThing P.tells (hung dkey_level) hung_root (P.blocks pages.old) dkeys.old.root (λ g. (d : ℕ) → DkeysAreSmall d g → Spends (dkeys_cost task.kind akey.now (for_one d) 1) (P.budget pages.old) (P.budget pages.new))) }
+    ensures too_much { IsErrOf result TreeNo.TooMuch → OfThing P.tells (hung dkey_level) hung_root (P.blocks pages.old) dkeys.old.root (λ g. (d : ℕ) → DkeysOnPathAreSmall d (some_name name.now) akey.now g → Lacks (dkeys_cost task.kind akey.now (for_one d) 1) d (P.budget pages.old)) }
+    ensures few_left { IsErrOf result TreeNo.TooMuch → OfThing P.tells (hung dkey_level) hung_root (P.blocks pages.old) dkeys.old.root (λ g. (d : ℕ) → DkeysOnPathAreSmall d (some_name name.now) akey.now g → IsShort d (P.budget pages.new)) }
+    ensures staged { OnOk result (OfThing P.tells (hung dkey_level) hung_root (P.blocks pages.old) dkeys.old.root (λ g. (d : ℕ) → DkeysOnPathAreSmall d (some_name name.now) akey.now g → Spends (dkeys_cost task.kind akey.now (for_one d) 1) (P.budget pages.old) (P.budget pages.new))) }
     ensures root { dkeys.new.root ≡ dkeys.old.root }
-    ensures committed { keeps task.change ≡ true → OnOk result (Spends (dkeys_cost task.kind akey.now 1 0) (P.budget pages.old) (P.budget pages.new)) }
+    ensures committed { keeps task.change ≡ true → Spends (dkeys_cost task.kind akey.now 1 0) (P.budget pages.old) (P.budget pages.new) }
     ensures free { OnOk result (OfThing P.tells (hung dkey_level) hung_root (P.blocks pages.old) dkeys.old.root (λ g. (P.budget pages.new).free ≡ (P.budget pages.old).free + dkeys_freed task name.now akey.now g)) }
     ensures goes { Goes P.stopped P.count P.burns pages.old pages.new }
     ensures stopped { IsErrOf result TreeNo.Stopped → P.stopped pages.new ≡ true }

@@ -11,7 +11,8 @@ ghost use Rattle.vos_levels.specs.Changes.{keeps};
 ghost use Rattle.vos_levels.specs.Levels.{hung_root};
 ghost use Rattle.vos_path.specs.Calls.{HasAt, OfAt};
 ghost use Rattle.vos_path.specs.Objects.{below_owner, below_roots, dkey_level, objects_owner};
-ghost use Rattle.vos_path.specs.Writes.{BelowObjectIsSmall, NamesAreKeys, ObjectsAreSmall};
+ghost use Rattle.vos_path.specs.Small.{BelowObjectOnPathIsSmall, ObjectsOnPathAreSmall};
+ghost use Rattle.vos_path.specs.Writes.{IsSmall, NamesAreKeys};
 ghost use Rattle.vos_settle.specs.Nodes.{ObjectTurn, OneObjectTurn, Turned, below_object_freed, one_object_freed};
 ghost use Rattle.vos_settle.specs.Costs.{Lacks, Spends, below_object_cost, for_one, objects_cost};
 
@@ -42,11 +43,11 @@ fn change_punch<P: Pages, L: Ledger>(
     requires here { HasAt P.tells (below_owner dkey_level) below_roots (P.blocks pages.old) roots (λ g. ⊤) }
     ensures changed { IfOk result (λ now. OfAt P.tells (below_owner dkey_level) below_roots (P.blocks pages.old) roots (λ g. Turned (below_owner dkey_level) below_roots (P.blocks pages.old) g (P.blocks pages.new) now (ObjectTurn task no_name no_name))) }
     ensures no_block { IsErrOf result TreeNo.NoBlock → ⊥ }
-    ensures too_much { IsErrOf result TreeNo.TooMuch → OfAt P.tells (below_owner dkey_level) below_roots (P.blocks pages.old) roots (λ g. (d : ℕ) → BelowObjectIsSmall d g → Lacks (for_one d) d (P.budget pages.old)) }
-    ensures few_left { IsErrOf result TreeNo.TooMuch → OfAt P.tells (below_owner dkey_level) below_roots (P.blocks pages.old) roots (λ g. (d : ℕ) → BelowObjectIsSmall d g → IsShort d (P.budget pages.new)) }
-    ensures staged { OnOk result (OfAt P.tells (below_owner dkey_level) below_roots (P.blocks pages.old) roots (λ g. (d : ℕ) → BelowObjectIsSmall d g → Spends (for_one d) (P.budget pages.old) (P.budget pages.new))) }
+    ensures too_much { IsErrOf result TreeNo.TooMuch → OfAt P.tells (below_owner dkey_level) below_roots (P.blocks pages.old) roots (λ g. (d : ℕ) → IsSmall d g.0 → Lacks (for_one d) d (P.budget pages.old)) }
+    ensures few_left { IsErrOf result TreeNo.TooMuch → OfAt P.tells (below_owner dkey_level) below_roots (P.blocks pages.old) roots (λ g. (d : ℕ) → IsSmall d g.0 → IsShort d (P.budget pages.new)) }
+    ensures staged { OnOk result (OfAt P.tells (below_owner dkey_level) below_roots (P.blocks pages.old) roots (λ g. (d : ℕ) → IsSmall d g.0 → Spends (for_one d) (P.budget pages.old) (P.budget pages.new))) }
     ensures root { keeps task.change ≡ true → IfOk result (λ now. now ≡ roots) }
-    ensures committed { keeps task.change ≡ true → OnOk result (Spends 1 (P.budget pages.old) (P.budget pages.new)) }
+    ensures committed { keeps task.change ≡ true → Spends 1 (P.budget pages.old) (P.budget pages.new) }
     ensures free { OnOk result (OfAt P.tells (below_owner dkey_level) below_roots (P.blocks pages.old) roots (λ g. (P.budget pages.new).free ≡ (P.budget pages.old).free + below_object_freed task no_name no_name g)) }
     ensures goes { Goes P.stopped P.count P.burns pages.old pages.new }
     ensures stopped { IsErrOf result TreeNo.Stopped → P.stopped pages.new ≡ true }
@@ -74,11 +75,11 @@ fn change_below<P: Pages, L: Ledger>(
     requires here { HasAt P.tells (below_owner dkey_level) below_roots (P.blocks pages.old) roots (λ g. ⊤) }
     ensures changed { IfOk result (λ now. OfAt P.tells (below_owner dkey_level) below_roots (P.blocks pages.old) roots (λ g. Turned (below_owner dkey_level) below_roots (P.blocks pages.old) g (P.blocks pages.new) now (ObjectTurn task (some_name dkey.now) akey.now))) }
     ensures no_block { IsErrOf result TreeNo.NoBlock → ⊥ }
-    ensures too_much { IsErrOf result TreeNo.TooMuch → OfAt P.tells (below_owner dkey_level) below_roots (P.blocks pages.old) roots (λ g. (d : ℕ) → BelowObjectIsSmall d g → Lacks (below_object_cost task.kind (some_name dkey.now) akey.now (for_one d) 1) d (P.budget pages.old)) }
-    ensures few_left { IsErrOf result TreeNo.TooMuch → OfAt P.tells (below_owner dkey_level) below_roots (P.blocks pages.old) roots (λ g. (d : ℕ) → BelowObjectIsSmall d g → IsShort d (P.budget pages.new)) }
-    ensures staged { OnOk result (OfAt P.tells (below_owner dkey_level) below_roots (P.blocks pages.old) roots (λ g. (d : ℕ) → BelowObjectIsSmall d g → Spends (below_object_cost task.kind (some_name dkey.now) akey.now (for_one d) 1) (P.budget pages.old) (P.budget pages.new))) }
+    ensures too_much { IsErrOf result TreeNo.TooMuch → OfAt P.tells (below_owner dkey_level) below_roots (P.blocks pages.old) roots (λ g. (d : ℕ) → BelowObjectOnPathIsSmall d (some_name dkey.now) akey.now g → Lacks (below_object_cost task.kind (some_name dkey.now) akey.now (for_one d) 1) d (P.budget pages.old)) }
+    ensures few_left { IsErrOf result TreeNo.TooMuch → OfAt P.tells (below_owner dkey_level) below_roots (P.blocks pages.old) roots (λ g. (d : ℕ) → BelowObjectOnPathIsSmall d (some_name dkey.now) akey.now g → IsShort d (P.budget pages.new)) }
+    ensures staged { OnOk result (OfAt P.tells (below_owner dkey_level) below_roots (P.blocks pages.old) roots (λ g. (d : ℕ) → BelowObjectOnPathIsSmall d (some_name dkey.now) akey.now g → Spends (below_object_cost task.kind (some_name dkey.now) akey.now (for_one d) 1) (P.budget pages.old) (P.budget pages.new))) }
     ensures root { keeps task.change ≡ true → IfOk result (λ now. now ≡ roots) }
-    ensures committed { keeps task.change ≡ true → OnOk result (Spends (below_object_cost task.kind (some_name dkey.now) akey.now 1 0) (P.budget pages.old) (P.budget pages.new)) }
+    ensures committed { keeps task.change ≡ true → Spends (below_object_cost task.kind (some_name dkey.now) akey.now 1 0) (P.budget pages.old) (P.budget pages.new) }
     ensures free { OnOk result (OfAt P.tells (below_owner dkey_level) below_roots (P.blocks pages.old) roots (λ g. (P.budget pages.new).free ≡ (P.budget pages.old).free + below_object_freed task (some_name dkey.now) akey.now g)) }
     ensures goes { Goes P.stopped P.count P.burns pages.old pages.new }
     ensures stopped { IsErrOf result TreeNo.Stopped → P.stopped pages.new ≡ true }
@@ -109,11 +110,11 @@ fn change_object<P: Pages, L: Ledger>(
     requires here { HasAt P.tells (below_owner dkey_level) below_roots (P.blocks pages.old) roots (λ g. ⊤) }
     ensures changed { IfOk result (λ now. OfAt P.tells (below_owner dkey_level) below_roots (P.blocks pages.old) roots (λ g. Turned (below_owner dkey_level) below_roots (P.blocks pages.old) g (P.blocks pages.new) now (ObjectTurn task path.now.dkey path.now.akey))) }
     ensures no_block { IsErrOf result TreeNo.NoBlock → ⊥ }
-    ensures too_much { IsErrOf result TreeNo.TooMuch → OfAt P.tells (below_owner dkey_level) below_roots (P.blocks pages.old) roots (λ g. (d : ℕ) → BelowObjectIsSmall d g → Lacks (below_object_cost task.kind path.now.dkey path.now.akey (for_one d) 1) d (P.budget pages.old)) }
-    ensures few_left { IsErrOf result TreeNo.TooMuch → OfAt P.tells (below_owner dkey_level) below_roots (P.blocks pages.old) roots (λ g. (d : ℕ) → BelowObjectIsSmall d g → IsShort d (P.budget pages.new)) }
-    ensures staged { OnOk result (OfAt P.tells (below_owner dkey_level) below_roots (P.blocks pages.old) roots (λ g. (d : ℕ) → BelowObjectIsSmall d g → Spends (below_object_cost task.kind path.now.dkey path.now.akey (for_one d) 1) (P.budget pages.old) (P.budget pages.new))) }
+    ensures too_much { IsErrOf result TreeNo.TooMuch → OfAt P.tells (below_owner dkey_level) below_roots (P.blocks pages.old) roots (λ g. (d : ℕ) → BelowObjectOnPathIsSmall d path.now.dkey path.now.akey g → Lacks (below_object_cost task.kind path.now.dkey path.now.akey (for_one d) 1) d (P.budget pages.old)) }
+    ensures few_left { IsErrOf result TreeNo.TooMuch → OfAt P.tells (below_owner dkey_level) below_roots (P.blocks pages.old) roots (λ g. (d : ℕ) → BelowObjectOnPathIsSmall d path.now.dkey path.now.akey g → IsShort d (P.budget pages.new)) }
+    ensures staged { OnOk result (OfAt P.tells (below_owner dkey_level) below_roots (P.blocks pages.old) roots (λ g. (d : ℕ) → BelowObjectOnPathIsSmall d path.now.dkey path.now.akey g → Spends (below_object_cost task.kind path.now.dkey path.now.akey (for_one d) 1) (P.budget pages.old) (P.budget pages.new))) }
     ensures root { keeps task.change ≡ true → IfOk result (λ now. now ≡ roots) }
-    ensures committed { keeps task.change ≡ true → OnOk result (Spends (below_object_cost task.kind path.now.dkey path.now.akey 1 0) (P.budget pages.old) (P.budget pages.new)) }
+    ensures committed { keeps task.change ≡ true → Spends (below_object_cost task.kind path.now.dkey path.now.akey 1 0) (P.budget pages.old) (P.budget pages.new) }
     ensures free { OnOk result (OfAt P.tells (below_owner dkey_level) below_roots (P.blocks pages.old) roots (λ g. (P.budget pages.new).free ≡ (P.budget pages.old).free + below_object_freed task path.now.dkey path.now.akey g)) }
     ensures goes { Goes P.stopped P.count P.burns pages.old pages.new }
     ensures stopped { IsErrOf result TreeNo.Stopped → P.stopped pages.new ≡ true }
@@ -148,11 +149,11 @@ pub fn change_objects<P: Pages, L: Ledger>(
     ensures object { IsObjectKey Two object }
     ensures kind { objects.new.kind ≡ 1 }
     ensures no_block { IsErrOf result TreeNo.NoBlock → ⊥ }
-    ensures too_much { IsErrOf result TreeNo.TooMuch → OfThing P.tells objects_owner hung_root (P.blocks pages.old) objects.old.root (λ g. (d : ℕ) → ObjectsAreSmall d g → Lacks (objects_cost task.kind path.now.dkey path.now.akey (for_one d) 1) d (P.budget pages.old)) }
-    ensures few_left { IsErrOf result TreeNo.TooMuch → OfThing P.tells objects_owner hung_root (P.blocks pages.old) objects.old.root (λ g. (d : ℕ) → ObjectsAreSmall d g → IsShort d (P.budget pages.new)) }
-    ensures staged { OnOk result (OfThing P.tells objects_owner hung_root (P.blocks pages.old) objects.old.root (λ g. (d : ℕ) → ObjectsAreSmall d g → Spends (objects_cost task.kind path.now.dkey path.now.akey (for_one d) 1) (P.budget pages.old) (P.budget pages.new))) }
+    ensures too_much { IsErrOf result TreeNo.TooMuch → OfThing P.tells objects_owner hung_root (P.blocks pages.old) objects.old.root (λ g. (d : ℕ) → ObjectsOnPathAreSmall d object path.now.dkey path.now.akey g → Lacks (objects_cost task.kind path.now.dkey path.now.akey (for_one d) 1) d (P.budget pages.old)) }
+    ensures few_left { IsErrOf result TreeNo.TooMuch → OfThing P.tells objects_owner hung_root (P.blocks pages.old) objects.old.root (λ g. (d : ℕ) → ObjectsOnPathAreSmall d object path.now.dkey path.now.akey g → IsShort d (P.budget pages.new)) }
+    ensures staged { OnOk result (OfThing P.tells objects_owner hung_root (P.blocks pages.old) objects.old.root (λ g. (d : ℕ) → ObjectsOnPathAreSmall d object path.now.dkey path.now.akey g → Spends (objects_cost task.kind path.now.dkey path.now.akey (for_one d) 1) (P.budget pages.old) (P.budget pages.new))) }
     ensures root { objects.new.root ≡ objects.old.root }
-    ensures committed { keeps task.change ≡ true → OnOk result (Spends (objects_cost task.kind path.now.dkey path.now.akey 1 0) (P.budget pages.old) (P.budget pages.new)) }
+    ensures committed { keeps task.change ≡ true → Spends (objects_cost task.kind path.now.dkey path.now.akey 1 0) (P.budget pages.old) (P.budget pages.new) }
     ensures free { OnOk result (OfThing P.tells objects_owner hung_root (P.blocks pages.old) objects.old.root (λ g. (P.budget pages.new).free ≡ (P.budget pages.old).free + one_object_freed task object path.now g)) }
     ensures goes { Goes P.stopped P.count P.burns pages.old pages.new }
     ensures stopped { IsErrOf result TreeNo.Stopped → P.stopped pages.new ≡ true }

@@ -39,7 +39,7 @@ fn change_single<P: Pages, L: Ledger>(
     ensures few_left { IsErrOf result TreeNo.TooMuch → OfAt P.tells values_owner values_roots (P.blocks pages.old) roots (λ g. (d : ℕ) → ValuesAreSmall d g → IsShort d (P.budget pages.new)) }
     ensures staged { OnOk result (OfAt P.tells values_owner values_roots (P.blocks pages.old) roots (λ g. (d : ℕ) → ValuesAreSmall d g → Spends (values_cost task.kind (for_one d)) (P.budget pages.old) (P.budget pages.new))) }
     ensures root { keeps task.change ≡ true → IfOk result (λ now. now ≡ roots) }
-    ensures committed { keeps task.change ≡ true → OnOk result (Spends (values_cost task.kind 1) (P.budget pages.old) (P.budget pages.new)) }
+    ensures committed { keeps task.change ≡ true → Spends (values_cost task.kind 1) (P.budget pages.old) (P.budget pages.new) }
     ensures free { OnOk result (OfAt P.tells values_owner values_roots (P.blocks pages.old) roots (λ g. (P.budget pages.new).free ≡ (P.budget pages.old).free + values_freed task g)) }
     ensures goes { Goes P.stopped P.count P.burns pages.old pages.new }
     ensures stopped { IsErrOf result TreeNo.Stopped → P.stopped pages.new ≡ true }
@@ -78,7 +78,7 @@ fn change_extent<P: Pages, L: Ledger>(
     ensures few_left { IsErrOf result TreeNo.TooMuch → OfAt P.tells values_owner values_roots (P.blocks pages.old) roots (λ g. (d : ℕ) → ValuesAreSmall d g → IsShort d (P.budget pages.new)) }
     ensures staged { OnOk result (OfAt P.tells values_owner values_roots (P.blocks pages.old) roots (λ g. (d : ℕ) → ValuesAreSmall d g → Spends (values_cost task.kind (for_one d)) (P.budget pages.old) (P.budget pages.new))) }
     ensures root { keeps task.change ≡ true → IfOk result (λ now. now ≡ roots) }
-    ensures committed { keeps task.change ≡ true → OnOk result (Spends (values_cost task.kind 1) (P.budget pages.old) (P.budget pages.new)) }
+    ensures committed { keeps task.change ≡ true → Spends (values_cost task.kind 1) (P.budget pages.old) (P.budget pages.new) }
     ensures free { OnOk result (OfAt P.tells values_owner values_roots (P.blocks pages.old) roots (λ g. (P.budget pages.new).free ≡ (P.budget pages.old).free + values_freed task g)) }
     ensures goes { Goes P.stopped P.count P.burns pages.old pages.new }
     ensures stopped { IsErrOf result TreeNo.Stopped → P.stopped pages.new ≡ true }
@@ -121,7 +121,7 @@ fn change_punch<P: Pages, L: Ledger>(
     ensures few_left { IsErrOf result TreeNo.TooMuch → OfAt P.tells values_owner values_roots (P.blocks pages.old) roots (λ g. (d : ℕ) → ValuesAreSmall d g → IsShort d (P.budget pages.new)) }
     ensures staged { OnOk result (OfAt P.tells values_owner values_roots (P.blocks pages.old) roots (λ g. (d : ℕ) → ValuesAreSmall d g → Spends (values_cost task.kind (for_one d)) (P.budget pages.old) (P.budget pages.new))) }
     ensures root { keeps task.change ≡ true → IfOk result (λ now. now ≡ roots) }
-    ensures committed { keeps task.change ≡ true → OnOk result (Spends (values_cost task.kind 1) (P.budget pages.old) (P.budget pages.new)) }
+    ensures committed { keeps task.change ≡ true → Spends (values_cost task.kind 1) (P.budget pages.old) (P.budget pages.new) }
     ensures free { OnOk result (OfAt P.tells values_owner values_roots (P.blocks pages.old) roots (λ g. (P.budget pages.new).free ≡ (P.budget pages.old).free + values_freed task g)) }
     ensures goes { Goes P.stopped P.count P.burns pages.old pages.new }
     ensures stopped { IsErrOf result TreeNo.Stopped → P.stopped pages.new ≡ true }
@@ -158,7 +158,7 @@ pub fn change_values<P: Pages, L: Ledger>(
     ensures few_left { IsErrOf result TreeNo.TooMuch → OfAt P.tells values_owner values_roots (P.blocks pages.old) roots (λ g. (d : ℕ) → ValuesAreSmall d g → IsShort d (P.budget pages.new)) }
     ensures staged { OnOk result (OfAt P.tells values_owner values_roots (P.blocks pages.old) roots (λ g. (d : ℕ) → ValuesAreSmall d g → Spends (values_cost task.kind (for_one d)) (P.budget pages.old) (P.budget pages.new))) }
     ensures root { keeps task.change ≡ true → IfOk result (λ now. now ≡ roots) }
-    ensures committed { keeps task.change ≡ true → OnOk result (Spends (values_cost task.kind 1) (P.budget pages.old) (P.budget pages.new)) }
+    ensures committed { keeps task.change ≡ true → Spends (values_cost task.kind 1) (P.budget pages.old) (P.budget pages.new) }
     ensures free { OnOk result (OfAt P.tells values_owner values_roots (P.blocks pages.old) roots (λ g. (P.budget pages.new).free ≡ (P.budget pages.old).free + values_freed task g)) }
     ensures goes { Goes P.stopped P.count P.burns pages.old pages.new }
     ensures stopped { IsErrOf result TreeNo.Stopped → P.stopped pages.new ≡ true }

@@ -9,7 +9,8 @@ ghost use Rattle.vos_levels.specs.Calls.{HasThing, OfThing};
 ghost use Rattle.vos_levels.specs.Changes.{keeps};
 ghost use Rattle.vos_levels.specs.Levels.{hung_root};
 ghost use Rattle.vos_path.specs.Objects.{objects_owner, objects_versions};
-ghost use Rattle.vos_path.specs.Writes.{NamesAreKeys, ObjectsAreSmall};
+ghost use Rattle.vos_path.specs.Small.{PathIsSmall};
+ghost use Rattle.vos_path.specs.Writes.{NamesAreKeys};
 ghost use Rattle.vos_settle.specs.Costs.{Lacks, Spends, for_one, objects_cost};
 ghost use Rattle.vos_settle.specs.Versions.{WriteTurn, fits_kind, versions_freed, write_freed};
 
@@ -49,10 +50,10 @@ pub fn change_write<P: Pages, L: Ledger>(
     ensures kind { objects.new.kind ≡ 1 }
     ensures root { objects.new.root ≡ objects.old.root }
     ensures no_block { IsErrOf result TreeNo.NoBlock → ⊥ }
-    ensures too_much { IsErrOf result TreeNo.TooMuch → OfThing P.tells objects_owner hung_root (P.blocks pages.old) objects.old.root (λ g. (d : ℕ) → ObjectsAreSmall d g → Lacks (objects_cost task.kind path.now.dkey path.now.akey (for_one d) 1) d (P.budget pages.old)) }
-    ensures few_left { IsErrOf result TreeNo.TooMuch → OfThing P.tells objects_owner hung_root (P.blocks pages.old) objects.old.root (λ g. (d : ℕ) → ObjectsAreSmall d g → IsShort d (P.budget pages.new)) }
-    ensures staged { OnOk result (OfThing P.tells objects_owner hung_root (P.blocks pages.old) objects.old.root (λ g. (d : ℕ) → ObjectsAreSmall d g → Spends (objects_cost task.kind path.now.dkey path.now.akey (for_one d) 1) (P.budget pages.old) (P.budget pages.new))) }
-    ensures committed { keeps task.change ≡ true → OnOk result (Spends (objects_cost task.kind path.now.dkey path.now.akey 1 0) (P.budget pages.old) (P.budget pages.new)) }
+    ensures too_much { IsErrOf result TreeNo.TooMuch → OfThing P.tells objects_owner hung_root (P.blocks pages.old) objects.old.root (λ g. (d : ℕ) → PathIsSmall d path.now g → Lacks (objects_cost task.kind path.now.dkey path.now.akey (for_one d) 1) d (P.budget pages.old)) }
+    ensures few_left { IsErrOf result TreeNo.TooMuch → OfThing P.tells objects_owner hung_root (P.blocks pages.old) objects.old.root (λ g. (d : ℕ) → PathIsSmall d path.now g → IsShort d (P.budget pages.new)) }
+    ensures staged { OnOk result (OfThing P.tells objects_owner hung_root (P.blocks pages.old) objects.old.root (λ g. (d : ℕ) → PathIsSmall d path.now g → Spends (objects_cost task.kind path.now.dkey path.now.akey (for_one d) 1) (P.budget pages.old) (P.budget pages.new))) }
+    ensures committed { keeps task.change ≡ true → Spends (objects_cost task.kind path.now.dkey path.now.akey 1 0) (P.budget pages.old) (P.budget pages.new) }
     ensures free { OnOk result (OfThing P.tells objects_owner hung_root (P.blocks pages.old) objects.old.root (λ g. (P.budget pages.new).free ≡ (P.budget pages.old).free + write_freed task path.now g)) }
     ensures gives { OnOk result (OfThing P.tells objects_owner hung_root (P.blocks pages.old) objects.old.root (λ g. (P.budget pages.old).free + versions_freed task path.now (objects_versions g) ≤ (P.budget pages.new).free)) }
     ensures goes { Goes P.stopped P.count P.burns pages.old pages.new }

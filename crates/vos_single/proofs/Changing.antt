@@ -19,11 +19,11 @@ use Rattle.vos_versions.proofs.Levels.{HasMade, Versions, has_bytes, taken_of, v
 use Rattle.vos_single.specs.Singles.{IsChangedAt, IsStored, Singles, Stored, blocks_of_version, chain_of, done_stored, done_version, freed_at, has_version_at, is_at, is_taken, key_of_stored, mark_of, new_version, single_level, single_owner, version_of, versions}
 use Rattle.vos_single.proofs.Reading.{tells_at}
 
-done_good : (s : Stored) → IsStored s → IsStored (done_stored s)
+pub done_good : (s : Stored) → IsStored s → IsStored (done_stored s)
 done_good s h = record { moment = h.moment; mark = record { by = h.mark.by; length = h.mark.length; chain = h.mark.chain } }
 
 -- how versions of a single value stand in their tree
-abbrev single_versions : Versions Stored
+abbrev pub single_versions : Versions Stored
 single_versions = record {
   kind = 5;
   key = key_of_stored;

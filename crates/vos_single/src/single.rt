@@ -15,6 +15,7 @@ ghost use Rattle.vos_levels.specs.Levels.{HasMore, find_last, hung_root, things}
 ghost use Rattle.vos_chain.specs.Made.{chain_blocks};
 ghost use Rattle.vos_chain.specs.declared.refusal.PiecesNo.TheVariants.{Stopped as stopped_no};
 ghost use Rattle.vos_versions.specs.Marks.{StagesFor, StagesLess, TooFewFor};
+ghost use Rattle.vos_single.specs.Reading.{blocks_read};
 ghost use Rattle.vos_single.specs.Singles.{IsChangedAt, freed_at, has_version_at, is_under, new_version, placed_in_pair, placed_of, single_owner, start_of, version_of, versions};
 
 use base_types::epoch::Epoch;
@@ -147,7 +148,9 @@ impl Single {
         Ok(placed_in(self.tree.last_below(pages, &key, steps)?))
     }
 
-    /// The version with the greatest epoch and number below an epoch.
+    /// The version with the greatest epoch and number below an epoch. Looking for it reads at most two nodes for each
+    /// binary digit of the number of versions. Beside these the blocks of its bytes are read, at most five, and of no
+    /// other version any.
     ///
     /// # Errors
     ///
@@ -163,6 +166,7 @@ impl Single {
         requires here { HasThing P.tells single_owner hung_root (P.blocks pages.old) self.now.tree.root (λ g. ⊤) }
         ensures found { IfOk result (λ v. OfThing P.tells single_owner hung_root (P.blocks pages.old) self.now.tree.root (λ g. v ≡ option_map version_of (find_last (is_under (start_of below)) (things g)))) }
         ensures steps { OfThing P.tells single_owner hung_root (P.blocks pages.old) self.now.tree.root (λ g. StepsAtMost 2 5 g.0 steps.old steps.new) }
+        ensures reads { IfOk result (λ v. OfThing P.tells single_owner hung_root (P.blocks pages.old) self.now.tree.root (λ g. StepsAtMost 2 (blocks_read v) g.0 steps.old steps.new)) }
         ensures kept { IsTrue P.tells → P.blocks pages.new ≡ P.blocks pages.old }
         ensures budget { P.budget pages.new ≡ P.budget pages.old }
         ensures goes { Goes P.stopped P.count P.burns pages.old pages.new }

@@ -15,7 +15,8 @@ use Rattle.byteorder.specs.Endian.{big_number}
 use Rattle.vos_image.proofs.Standing.{taken_low}
 use Rattle.vos_image.proofs.Whole.{stands_kept}
 use Rattle.vos_levels.specs.Levels.{hung_root}
-use Rattle.vos_places.specs.Codec.{with_counters}
+use Rattle.vos_places.specs.declared.codec.Counters.{Counters}
+use Rattle.vos_places.specs.Codec.{AreCounters, with_counters}
 use Rattle.vos_places.specs.Laws.{IsRightBeyond, IsWritten, Keeps, cont_range, counted, counter_range, snap_range, unused_range, with_cont, with_snap}
 use Rattle.vos_places.specs.Tables.{AreRoots, Table, places_of}
 use Rattle.vos_image.specs.Places.{Header}
@@ -162,6 +163,26 @@ stands_after_counters target size f t x c s good lease objects entries = record 
           covered = omega (arith, old, new, lease);
           targets = same 13 (omega arith);
         }
+
+-- blocks changed, and the counters were written: the content says the same of its layout and its targets, and its lease covers no less
+module _ (target size : ℕ) (f g : Image) (m n : MapState) (t : Table) (x y : Stored) (c : Counters) where
+  pub allows_after_blocks : Stand target size f t x → IsReadOf size f m → IsReadOf size g n → StaysBeside m f n g → Holds stored_owner (shown (content size g)) y → AreCounters c → t.header.lease ≤ c.lease
+      → c.objects ≡ hung_root y.0 → c.entries ≡ hung_root y.1 → AllowsMore (content size f) (content size (over (counter_range c) g))
+  allows_after_blocks s k l stays holds good lease objects entries =
+      let r = counter_range c in
+      let low : r.place + length r.bytes ≤ 32768 = let long = length_counters c in omega (arith, long) in
+      let table : Keeps target size (bytes_of (over r g)) (counted c t) =
+      counters_written target size (bytes_of f) (bytes_of (over r g)) t c s.table good lease (over_below r f g low (λ i within. stays.bytes i (omega arith)))
+      (right_over size r g (with_counters c t.header) low (right_after target size f g m n t x y (with_counters c t.header) s k l stays holds objects entries)) in
+      let same = λ (i : ℕ) (before : i < 24). let off : lies_in i r ≡ false = grind (arith, nat_tests) in
+      byte_below (over r g) i (omega arith) ∙ (over_outside r g i off ∙ (stays.bytes i (omega arith) ∙ sym (byte_below f i (omega arith)))) in
+      let old : number (bytes_of f) 32 8 ≡ t.header.lease = lease_read target (content size f) t.header _ s.table.header in
+      let new : number (bytes_of (over r g)) 32 8 ≡ c.lease = lease_read target (content size (over r g)) (counted c t).header _ table.header in
+      record {
+        layout = ap layout_of (number_before (bytes_of f) (bytes_of (over r g)) 8 4 (λ i from below. same i (omega arith)));
+        covered = omega (arith, old, new, lease);
+        targets = same 13 (omega arith);
+      }
 
 -- a place from 4096 to the gate byte was written: what the content says of itself stays
 allows_over : (size : ℕ) (r : Range) (f : Image) → 4096 ≤ r.place → r.place + length r.bytes ≤ 32768 → AllowsMore (content size f) (content size (over r f))

@@ -95,6 +95,17 @@ seat_within t os xs at s unused =
     by true e some = let more : 256 < length os = grind (arith, nat_tests) in absurd (omega (arith, s.full more))
     by false e some = let few : length os ≤ 256 = grind (arith, nat_tests) in omega (arith, s.many)
 
+length_pushed : {T : Type 0} (os : List T) (o : T) → length (os ++ o ∷ []) ≡ length os + 1
+length_pushed [] o = refl
+length_pushed (x ∷ os) o = omega (arith, length_pushed os o)
+
+seat_longer : {T : Type 0} (os : List (Option T)) (at : ℕ) (r : T) → at < length os → get_or os at None ≡ None → length (those (set os at (Some r))) ≡ length (those os) + 1
+seat_longer [] at r low is = absurd (omega (arith, low))
+seat_longer (None ∷ os) zero r low is = omega arith
+seat_longer (Some x ∷ os) zero r low is = let no : ⊥ = cc in absurd no
+seat_longer (None ∷ os) (suc at) r low is = seat_longer os at r (omega (arith, low)) is
+seat_longer (Some x ∷ os) (suc at) r low is = let h = seat_longer os at r (omega (arith, low)) is in omega (arith, h)
+
 pub seated_one : RowsCome → (t : Table) (c : ContId) (os : List (Option ContRow)) (xs : List Change) (at : ℕ) → AreSeated t os xs → FindsCont c os None → FindsUnused os (Some at) → IsContUnder (covered_by t.header) (new_row c)
     → AreSeated t (set os at (Some (new_row c))) (xs ++ Cont at (new_row c) ∷ [])
 seated_one come t c os xs at s none unused small =
@@ -111,16 +122,13 @@ seated_one come t c os xs at s none unused small =
       full = λ more. absurd (omega (arith, long, within.0));
       fit = λ _. one_fits t xs (Cont at (new_row c)) fit (subst (λ u. Fits u (Cont at (new_row c))) (sym made) fits);
       made = λ _. one_more t xs (Cont at (new_row c)) ∙ ap (changed (Cont at (new_row c))) made;
+      few = let longer = seat_longer os at (new_row c) unused.0 unused.1 in let pushed = length_pushed xs (Cont at (new_row c)) in omega (arith, longer, pushed, s.few);
     }
 
 length_more : {T : Type 0} (os : List (Option T)) (r : T) → length (those (os ++ Some r ∷ [])) ≡ length (those os) + 1
 length_more [] r = refl
 length_more (None ∷ os) r = length_more os r
 length_more (Some x ∷ os) r = omega (arith, length_more os r)
-
-length_pushed : {T : Type 0} (os : List T) (o : T) → length (os ++ o ∷ []) ≡ length os + 1
-length_pushed [] o = refl
-length_pushed (x ∷ os) o = omega (arith, length_pushed os o)
 
 pub seated_more : (t : Table) (c : ContId) (os : List (Option ContRow)) (xs : List Change) → AreSeated t os xs → FindsUnused os None → AreSeated t (os ++ Some (new_row c) ∷ []) xs
 seated_more t c os xs s full =
@@ -131,6 +139,7 @@ seated_more t c os xs s full =
       full = λ more. omega (arith, long, length_more os (new_row c), full);
       fit = λ exact. absurd (omega (arith, long, s.many));
       made = λ exact. absurd (omega (arith, long, s.many));
+      few = omega (arith, length_more os (new_row c), s.few);
     }
 
 -- ---- all that come
@@ -162,3 +171,7 @@ enlist_makes t cs os xs s is few vs es =
 
 pub enlist_fits : (t : Table) (os : List (Option ContRow)) (xs : List Change) → AreSeated t os xs → length os ≤ 256 → AllFit t xs
 enlist_fits t os xs s few = let exact : length os ≡ 256 = omega (arith, s.many) in s.fit exact
+
+-- so they change few places
+pub enlist_small : (t : Table) (os : List (Option ContRow)) (xs : List Change) → AreSeated t os xs → length os ≤ 256 → length xs ≤ 256
+enlist_small t os xs s few = omega (arith, s.few, fewer_used os, few)

@@ -39,6 +39,7 @@ pub record AreSeated (t : Table) (seats : List (Option ContRow)) (changes : List
   pub full : 256 < length seats → length (those seats) ≡ length seats
   pub fit : length seats ≡ 256 → AllFit t changes
   pub made : length seats ≡ 256 → all_changed changes t ≡ record t { conts = seats }
+  pub few : length changes ≤ length (those seats)
 
 -- containers are in the order of their uuids
 abbrev pub id_key : ContId → List ℕ

@@ -104,13 +104,14 @@ impl Tables {
         Ok(seating)
     }
 
-    /// What adds the containers that aren't there.
+    /// What adds the containers that aren't there, by at most 256 changes.
     ///
     /// # Errors
     ///
     /// `TooMany` exactly where the containers together are more than 256, with their number.
     pub fn plan_enlist(&self, alloc: Global, conts: &[ContId]) -> Result<Vec<Change>, EnlistNo>
         ensures fits { IfOk result (λ changes. AllFit self.now changes.items) }
+        ensures few { IfOk result (λ changes. length changes.items ≤ 256) }
         ensures answer { OfKept self.now (λ d.
             says enlist_open result ≡ false → answer_of result ≡ enlists conts.now d) }
         ensures many { IfErr result IsManyShown }

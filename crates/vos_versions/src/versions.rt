@@ -87,8 +87,12 @@ pub fn add<P: Pages, L: Ledger>(
     tree.insert(pages, key, &value, steps)
 }
 
-// What the version at a key says, if there is one.
-fn find_mark<P: Pages, L: Ledger>(
+/// What the version at a key says, if there is one.
+///
+/// # Errors
+///
+/// `Stopped` comes only where the pages answered it.
+pub fn find_mark<P: Pages, L: Ledger>(
     tree: Tree,
     pages: &mut P,
     key: &TreeKey,

@@ -6,6 +6,7 @@ use Rattle.vos_check_base.specs.Sets.{open_of}
 use Rattle.vos_check_base.proofs.Faults.{moved}
 use Rattle.vos_check_trees.specs.Found.{Gathers}
 use Rattle.vos_check_trees.proofs.Below.{below_off, below_on, entry_at, left_off, right_goes, thing_off}
+use Rattle.vos_check_base.proofs.Looking.{read_none, read_then}
 use Rattle.vos_check_trees.proofs.tree.+below.Goals as goal
 
 pub returns-in_err-found-clause-read : goal.returns-in_err-found-clause-read
@@ -68,3 +69,24 @@ returns-clause-read g t c told led marks =
     right_goes g.K.Level.rows K d (c.args.most - 1) low high v.links.left v.links.right v.key (g.K.Level.named v.name) v.value (entry_at c.args.block x.value.node) x.gives.led l.gives.led a.gives.led l.value a.value (read_below K d c.args.most c.args.block low high led)
     c.args.out.now.items c.below.new.out.items c.thing.new.out.items c.below-2.new.out.items (open_of c.below-2.new.fresh) c.below-2.result
     goes l.gives.is a.gives.is l.shows a.shows (right a.gives.led a.gives.marks)
+
+pub returns-then-block-eq0-clause-stops : goal.returns-then-block-eq0-clause-stops
+returns-then-block-eq0-clause-stops g t c = read_none _ _ g.S.Source.looked_none _
+
+pub returns-in_err-found-clause-stops : goal.returns-in_err-found-clause-stops
+returns-in_err-found-clause-stops g t c =
+    let p = err_from_is_err_and c.from_residual.result c.from_residual.ensures.1 in
+    rw (p.1, p.2) (c.in_err-found.ensures.stops)
+
+pub returns-in_err-below-clause-stops : goal.returns-in_err-below-clause-stops
+returns-in_err-below-clause-stops g t c =
+    let p = err_from_is_err_and c.from_residual-in_err-below.result c.from_residual-in_err-below.ensures.1 in
+    rw (p.1, p.2) ((read_then _ _ g.S.Source.looked_on _ _ _ _ c.in_ok-found.ensures.stops c.in_err-below.ensures.stops))
+
+pub returns-in_err-thing-clause-stops : goal.returns-in_err-thing-clause-stops
+returns-in_err-thing-clause-stops g t c =
+    let p = err_from_is_err_and c.from_residual-in_err-thing.result c.from_residual-in_err-thing.ensures.1 in
+    rw (p.1, p.2) ((read_then _ _ g.S.Source.looked_on _ _ _ _ c.in_ok-found.ensures.stops (read_then _ _ g.S.Source.looked_on _ _ _ _ c.in_ok-below.ensures.stops c.in_err-thing.ensures.stops)))
+
+pub returns-clause-stops : goal.returns-clause-stops
+returns-clause-stops g t c = (read_then _ _ g.S.Source.looked_on _ _ _ _ c.in_ok-found.ensures.stops (read_then _ _ g.S.Source.looked_on _ _ _ _ c.in_ok-below.ensures.stops (read_then _ _ g.S.Source.looked_on _ _ _ _ c.in_ok-thing.ensures.stops c.below-2.ensures.stops)))

@@ -12,6 +12,7 @@ use Rattle.vos_path.specs.Calls.{LacksFor, SpendsAtMost, Turns, for_pair}
 use Rattle.pmem_tree.specs.Changes.{PutAt}
 use Rattle.vos_path.specs.Nodes.{ValuesNoted}
 use Rattle.vos_path.specs.Objects.{akey_level, values_or_none, values_owner, values_roots, values_versions}
+use Rattle.vos_path.specs.Small.{AkeysOnPathAreSmall}
 use Rattle.vos_path.specs.Writes.{data_blocks, fresh, values_pairs}
 use Rattle.vos_path.proofs.AkeyWrites.{akey_at, akey_holds, akey_new, akey_roots_are, akey_small, akeys_still, akeys_written, put_lacks, put_spends}
 use Rattle.vos_path.proofs.Naming.{named}
@@ -47,7 +48,7 @@ returns-in_err-roots-clause-too_much g c refused told x held at new d small =
     let tree = tree_of akey_level m c.args.akeys.now.kind c.args.akeys.now.root x c.requires.kind held at in
     let roots = akey_roots_are m x held c.in-Some.name c.key_of-key.result c.key_of-key.ensures.key c.in_ok-found.found (c.in_ok-found.ensures.found told x.0 tree) c.akey_or_zero.result c.akey_or_zero.ensures in
     let stands = subst (λ b. Holds values_owner b (values_or_none (akey_at c.in-Some.name x))) (sym e) (akey_holds m x c.in-Some.name held) in
-    subst (LacksFor (data_blocks c.args.write.now) (values_pairs c.args.write.now (for_pair d)) d) c.find_akey.ensures.budget (c.in_err-roots.ensures.too_much (err_other c.in_err-roots.field-0.0 TooMuch (subst (λ z. IsErrOf z TooMuch) is refused)) told (values_or_none (akey_at c.in-Some.name x)) stands roots (akey_new c.args.stamp x c.in-Some.name new) d (akey_small d x c.in-Some.name small))
+    subst (LacksFor (data_blocks c.args.write.now) (values_pairs c.args.write.now (for_pair d)) d) c.find_akey.ensures.budget (c.in_err-roots.ensures.too_much (err_other c.in_err-roots.field-0.0 TooMuch (subst (λ z. IsErrOf z TooMuch) is refused)) told (values_or_none (akey_at c.in-Some.name x)) stands roots (akey_new c.args.stamp x c.in-Some.name new) d (akey_small d x c.in-Some.name (subst (λ z. AkeysOnPathAreSmall d z x) (ap (λ p. p.akey) (sym c.path.ensures) ∙ c.in-Some.is) small)))
 
 pub returns-in_err-roots-clause-few_left : goal.returns-in_err-roots-clause-few_left
 returns-in_err-roots-clause-few_left g c refused told x held at new d small =
@@ -57,7 +58,7 @@ returns-in_err-roots-clause-few_left g c refused told x held at new d small =
     let tree = tree_of akey_level m c.args.akeys.now.kind c.args.akeys.now.root x c.requires.kind held at in
     let roots = akey_roots_are m x held c.in-Some.name c.key_of-key.result c.key_of-key.ensures.key c.in_ok-found.found (c.in_ok-found.ensures.found told x.0 tree) c.akey_or_zero.result c.akey_or_zero.ensures in
     let stands = subst (λ b. Holds values_owner b (values_or_none (akey_at c.in-Some.name x))) (sym e) (akey_holds m x c.in-Some.name held) in
-    c.in_err-roots.ensures.few_left (err_other c.in_err-roots.field-0.0 TooMuch (subst (λ z. IsErrOf z TooMuch) is refused)) told (values_or_none (akey_at c.in-Some.name x)) stands roots (akey_new c.args.stamp x c.in-Some.name new) d (akey_small d x c.in-Some.name small)
+    c.in_err-roots.ensures.few_left (err_other c.in_err-roots.field-0.0 TooMuch (subst (λ z. IsErrOf z TooMuch) is refused)) told (values_or_none (akey_at c.in-Some.name x)) stands roots (akey_new c.args.stamp x c.in-Some.name new) d (akey_small d x c.in-Some.name (subst (λ z. AkeysOnPathAreSmall d z x) (ap (λ p. p.akey) (sym c.path.ensures) ∙ c.in-Some.is) small))
 
 pub set-requires-clause-tree : goal.set-requires-clause-tree
 set-requires-clause-tree g c told =
@@ -103,8 +104,8 @@ returns-clause-too_much g c refused told x held at new d small =
     let stands = subst (λ b. Holds values_owner b (values_or_none (akey_at c.in-Some.name x))) (sym e) (akey_holds m x c.in-Some.name held) in
     let t = subst (λ b. Turns values_owner values_roots (values_versions (write_path c.args.write.now)) b (values_or_none (akey_at c.in-Some.name x)) (g.P.Pages.blocks c.write_values.new.pages) c.in_ok-roots.roots (HasMore (fresh c.args.stamp c.args.write.now)) (ValuesNoted c.args.stamp c.args.write.now)) e (c.in_ok-roots.ensures.written told (values_or_none (akey_at c.in-Some.name x)) stands roots (akey_new c.args.stamp x c.in-Some.name new)) in
     let still = akeys_still m (g.P.Pages.blocks c.write_values.new.pages) x held c.args.stamp c.args.write.now c.in-Some.name is_name c.in_ok-roots.roots t c.args.akeys.now.root at in
-    let spent = c.in_ok-roots.ensures.staged told (values_or_none (akey_at c.in-Some.name x)) stands roots (akey_new c.args.stamp x c.in-Some.name new) d (akey_small d x c.in-Some.name small) in
-    put_lacks (data_blocks c.args.write.now) (values_pairs c.args.write.now (for_pair d)) d x (g.P.Pages.budget c.args.pages.now) (g.P.Pages.budget c.write_values.new.pages) small.0 (subst (λ b. SpendsAtMost (data_blocks c.args.write.now) (values_pairs c.args.write.now (for_pair d)) b (g.P.Pages.budget c.write_values.new.pages)) c.find_akey.ensures.budget spent)
+    let spent = c.in_ok-roots.ensures.staged told (values_or_none (akey_at c.in-Some.name x)) stands roots (akey_new c.args.stamp x c.in-Some.name new) d (akey_small d x c.in-Some.name (subst (λ z. AkeysOnPathAreSmall d z x) (ap (λ p. p.akey) (sym c.path.ensures) ∙ c.in-Some.is) small)) in
+    put_lacks (data_blocks c.args.write.now) (values_pairs c.args.write.now (for_pair d)) d x (g.P.Pages.budget c.args.pages.now) (g.P.Pages.budget c.write_values.new.pages) (subst (λ z. AkeysOnPathAreSmall d z x) (ap (λ p. p.akey) (sym c.path.ensures) ∙ c.in-Some.is) small).0 (subst (λ b. SpendsAtMost (data_blocks c.args.write.now) (values_pairs c.args.write.now (for_pair d)) b (g.P.Pages.budget c.write_values.new.pages)) c.find_akey.ensures.budget spent)
     (c.set.ensures.too_much refused told x.0 (subst (λ z. IsTree (g.P.Pages.blocks c.write_values.new.pages) z c.args.akeys.now.root x.0) (sym c.requires.kind) still))
 
 pub returns-clause-few_left : goal.returns-clause-few_left
@@ -118,7 +119,7 @@ returns-clause-few_left g c refused told x held at new d small =
     let stands = subst (λ b. Holds values_owner b (values_or_none (akey_at c.in-Some.name x))) (sym e) (akey_holds m x c.in-Some.name held) in
     let t = subst (λ b. Turns values_owner values_roots (values_versions (write_path c.args.write.now)) b (values_or_none (akey_at c.in-Some.name x)) (g.P.Pages.blocks c.write_values.new.pages) c.in_ok-roots.roots (HasMore (fresh c.args.stamp c.args.write.now)) (ValuesNoted c.args.stamp c.args.write.now)) e (c.in_ok-roots.ensures.written told (values_or_none (akey_at c.in-Some.name x)) stands roots (akey_new c.args.stamp x c.in-Some.name new)) in
     let still = akeys_still m (g.P.Pages.blocks c.write_values.new.pages) x held c.args.stamp c.args.write.now c.in-Some.name is_name c.in_ok-roots.roots t c.args.akeys.now.root at in
-    c.set.ensures.few_left refused told x.0 (subst (λ z. IsTree (g.P.Pages.blocks c.write_values.new.pages) z c.args.akeys.now.root x.0) (sym c.requires.kind) still) d small.0
+    c.set.ensures.few_left refused told x.0 (subst (λ z. IsTree (g.P.Pages.blocks c.write_values.new.pages) z c.args.akeys.now.root x.0) (sym c.requires.kind) still) d (subst (λ z. AkeysOnPathAreSmall d z x) (ap (λ p. p.akey) (sym c.path.ensures) ∙ c.in-Some.is) small).0
 
 pub returns-clause-staged : goal.returns-clause-staged
 returns-clause-staged g c = on_ok_then c.set.result (λ h told x held at new d small.
@@ -131,6 +132,6 @@ returns-clause-staged g c = on_ok_then c.set.result (λ h told x held at new d s
     let stands = subst (λ b. Holds values_owner b (values_or_none (akey_at c.in-Some.name x))) (sym e) (akey_holds m x c.in-Some.name held) in
     let t = subst (λ b. Turns values_owner values_roots (values_versions (write_path c.args.write.now)) b (values_or_none (akey_at c.in-Some.name x)) (g.P.Pages.blocks c.write_values.new.pages) c.in_ok-roots.roots (HasMore (fresh c.args.stamp c.args.write.now)) (ValuesNoted c.args.stamp c.args.write.now)) e (c.in_ok-roots.ensures.written told (values_or_none (akey_at c.in-Some.name x)) stands roots (akey_new c.args.stamp x c.in-Some.name new)) in
     let still = akeys_still m (g.P.Pages.blocks c.write_values.new.pages) x held c.args.stamp c.args.write.now c.in-Some.name is_name c.in_ok-roots.roots t c.args.akeys.now.root at in
-    let spent = c.in_ok-roots.ensures.staged told (values_or_none (akey_at c.in-Some.name x)) stands roots (akey_new c.args.stamp x c.in-Some.name new) d (akey_small d x c.in-Some.name small) in
-    put_spends (data_blocks c.args.write.now) (values_pairs c.args.write.now (for_pair d)) d x (g.P.Pages.budget c.args.pages.now) (g.P.Pages.budget c.write_values.new.pages) (g.P.Pages.budget c.set.new.pages) small.0 (subst (λ b. SpendsAtMost (data_blocks c.args.write.now) (values_pairs c.args.write.now (for_pair d)) b (g.P.Pages.budget c.write_values.new.pages)) c.find_akey.ensures.budget spent)
+    let spent = c.in_ok-roots.ensures.staged told (values_or_none (akey_at c.in-Some.name x)) stands roots (akey_new c.args.stamp x c.in-Some.name new) d (akey_small d x c.in-Some.name (subst (λ z. AkeysOnPathAreSmall d z x) (ap (λ p. p.akey) (sym c.path.ensures) ∙ c.in-Some.is) small)) in
+    put_spends (data_blocks c.args.write.now) (values_pairs c.args.write.now (for_pair d)) d x (g.P.Pages.budget c.args.pages.now) (g.P.Pages.budget c.write_values.new.pages) (g.P.Pages.budget c.set.new.pages) (subst (λ z. AkeysOnPathAreSmall d z x) (ap (λ p. p.akey) (sym c.path.ensures) ∙ c.in-Some.is) small).0 (subst (λ b. SpendsAtMost (data_blocks c.args.write.now) (values_pairs c.args.write.now (for_pair d)) b (g.P.Pages.budget c.write_values.new.pages)) c.find_akey.ensures.budget spent)
     (h told x.0 (subst (λ z. IsTree (g.P.Pages.blocks c.write_values.new.pages) z c.args.akeys.now.root x.0) (sym c.requires.kind) still))) c.set.ensures.staged

@@ -17,12 +17,12 @@ note-requires-clause-log g c told =
 pub returns-in_err-log-clause-too_much : goal.returns-in_err-log-clause-too_much
 returns-in_err-log-clause-too_much g c refused told x held at new d small =
     let is : c.from_residual.result ≡ Err c.in_err-log.field-0.0 = search rules in
-    fewer_left x.0 d (g.P.Pages.budget c.args.pages.now) small.0 (c.in_err-log.ensures.too_much (err_other c.in_err-log.field-0.0 TooMuch (subst (λ z. IsErrOf z TooMuch) is refused)) told x.0 (holds_first log_owner (hung akey_level) (g.P.Pages.blocks c.args.pages.now) x held) (ap (λ r. r.log) at))
+    fewer_left x.0 d (g.P.Pages.budget c.args.pages.now) small (c.in_err-log.ensures.too_much (err_other c.in_err-log.field-0.0 TooMuch (subst (λ z. IsErrOf z TooMuch) is refused)) told x.0 (holds_first log_owner (hung akey_level) (g.P.Pages.blocks c.args.pages.now) x held) (ap (λ r. r.log) at))
 
 pub returns-in_err-log-clause-few_left : goal.returns-in_err-log-clause-few_left
 returns-in_err-log-clause-few_left g c refused told x held at new d small =
     let is : c.from_residual.result ≡ Err c.in_err-log.field-0.0 = search rules in
-    c.in_err-log.ensures.few_left (err_other c.in_err-log.field-0.0 TooMuch (subst (λ z. IsErrOf z TooMuch) is refused)) told x.0 (holds_first log_owner (hung akey_level) (g.P.Pages.blocks c.args.pages.now) x held) (ap (λ r. r.log) at) d small.0
+    c.in_err-log.ensures.few_left (err_other c.in_err-log.field-0.0 TooMuch (subst (λ z. IsErrOf z TooMuch) is refused)) told x.0 (holds_first log_owner (hung akey_level) (g.P.Pages.blocks c.args.pages.now) x held) (ap (λ r. r.log) at) d small
 
 pub returns-clause-written : goal.returns-clause-written
 returns-clause-written g c told x held at new ob e =
@@ -30,4 +30,4 @@ returns-clause-written g c told x held at new ob e =
 
 pub returns-clause-staged : goal.returns-clause-staged
 returns-clause-staged g c told x held at new d small =
-    spent_for x.0 d (g.P.Pages.budget c.args.pages.now) (g.P.Pages.budget c.note.new.pages) small.0 (c.in_ok-log.ensures.staged told x.0 (holds_first log_owner (hung akey_level) (g.P.Pages.blocks c.args.pages.now) x held) (ap (λ r. r.log) at))
+    spent_for x.0 d (g.P.Pages.budget c.args.pages.now) (g.P.Pages.budget c.note.new.pages) small (c.in_ok-log.ensures.staged told x.0 (holds_first log_owner (hung akey_level) (g.P.Pages.blocks c.args.pages.now) x held) (ap (λ r. r.log) at))

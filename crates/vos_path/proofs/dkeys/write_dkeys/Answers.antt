@@ -12,6 +12,7 @@ use Rattle.vos_path.specs.Calls.{LacksFor, SpendsAtMost, Turns, for_pair}
 use Rattle.pmem_tree.specs.Changes.{PutAt}
 use Rattle.vos_path.specs.Nodes.{DkeyNoted, DkeysNoted}
 use Rattle.vos_path.specs.Objects.{akey_level, below_dkey_versions, below_or_none, below_owner, below_roots, dkey_level, dkeys_versions}
+use Rattle.vos_path.specs.Small.{DkeysOnPathAreSmall}
 use Rattle.vos_path.specs.Writes.{IsAtDkey, data_blocks, fresh, below_dkey_pairs}
 use Rattle.vos_path.proofs.AkeyWrites.{put_lacks, put_spends}
 use Rattle.vos_path.proofs.DkeyWrites.{dkey_at, dkey_holds, dkey_roots_are, dkey_small, dkeys_still, dkeys_written, dkey_new}
@@ -63,7 +64,7 @@ returns-in_err-roots-clause-too_much g c refused told x held at new d small =
     let tree = tree_of dkey_level m c.args.dkeys.now.kind c.args.dkeys.now.root x c.requires.kind held at in
     let roots = dkey_roots_are m x held c.in-Some.name c.key_of-key.result c.key_of-key.ensures.key c.in_ok-found.found (c.in_ok-found.ensures.found told x.0 tree) c.roots_or_zero.result c.roots_or_zero.ensures in
     let stands = subst (λ b. Holds (below_owner akey_level) b (below_or_none (dkey_at c.in-Some.name x))) (sym e) (dkey_holds m x c.in-Some.name held) in
-    subst (LacksFor (data_blocks c.args.write.now) (below_dkey_pairs c.args.write.now (for_pair d)) d) c.find_roots.ensures.budget (c.in_err-roots.ensures.too_much (err_other c.in_err-roots.field-0.0 TooMuch (subst (λ z. IsErrOf z TooMuch) is refused)) told (below_or_none (dkey_at c.in-Some.name x)) stands roots (dkey_new c.args.stamp x c.in-Some.name new) d (dkey_small d x c.in-Some.name small))
+    subst (LacksFor (data_blocks c.args.write.now) (below_dkey_pairs c.args.write.now (for_pair d)) d) c.find_roots.ensures.budget (c.in_err-roots.ensures.too_much (err_other c.in_err-roots.field-0.0 TooMuch (subst (λ z. IsErrOf z TooMuch) is refused)) told (below_or_none (dkey_at c.in-Some.name x)) stands roots (dkey_new c.args.stamp x c.in-Some.name new) d (dkey_small d x c.in-Some.name (write_path c.args.write.now).akey (subst (λ z. DkeysOnPathAreSmall d z (write_path c.args.write.now).akey x) (ap (λ p. p.dkey) (sym c.path.ensures) ∙ c.in-Some.is) small)))
 
 pub returns-in_err-roots-clause-few_left : goal.returns-in_err-roots-clause-few_left
 returns-in_err-roots-clause-few_left g c refused told x held at new d small =
@@ -73,7 +74,7 @@ returns-in_err-roots-clause-few_left g c refused told x held at new d small =
     let tree = tree_of dkey_level m c.args.dkeys.now.kind c.args.dkeys.now.root x c.requires.kind held at in
     let roots = dkey_roots_are m x held c.in-Some.name c.key_of-key.result c.key_of-key.ensures.key c.in_ok-found.found (c.in_ok-found.ensures.found told x.0 tree) c.roots_or_zero.result c.roots_or_zero.ensures in
     let stands = subst (λ b. Holds (below_owner akey_level) b (below_or_none (dkey_at c.in-Some.name x))) (sym e) (dkey_holds m x c.in-Some.name held) in
-    c.in_err-roots.ensures.few_left (err_other c.in_err-roots.field-0.0 TooMuch (subst (λ z. IsErrOf z TooMuch) is refused)) told (below_or_none (dkey_at c.in-Some.name x)) stands roots (dkey_new c.args.stamp x c.in-Some.name new) d (dkey_small d x c.in-Some.name small)
+    c.in_err-roots.ensures.few_left (err_other c.in_err-roots.field-0.0 TooMuch (subst (λ z. IsErrOf z TooMuch) is refused)) told (below_or_none (dkey_at c.in-Some.name x)) stands roots (dkey_new c.args.stamp x c.in-Some.name new) d (dkey_small d x c.in-Some.name (write_path c.args.write.now).akey (subst (λ z. DkeysOnPathAreSmall d z (write_path c.args.write.now).akey x) (ap (λ p. p.dkey) (sym c.path.ensures) ∙ c.in-Some.is) small))
 
 pub set-requires-clause-tree : goal.set-requires-clause-tree
 set-requires-clause-tree g c told =
@@ -132,8 +133,8 @@ returns-clause-too_much g c refused told x held at new d small =
     let t = subst (λ b. Turns (below_owner akey_level) below_roots (below_dkey_versions ob c.in-Some.name) b (below_or_none (dkey_at c.in-Some.name x)) (g.P.Pages.blocks c.write_dkey.new.pages) c.in_ok-roots.roots (HasMore (fresh c.args.stamp c.args.write.now)) (DkeyNoted c.args.stamp c.args.write.now (write_path c.args.write.now).akey)) e (c.in_ok-roots.ensures.written told (below_or_none (dkey_at c.in-Some.name x)) stands roots (dkey_new c.args.stamp x c.in-Some.name new) ob c.in-Some.name at_dkey) in
     let still = dkeys_still m (g.P.Pages.blocks c.write_dkey.new.pages) x held ob c.in-Some.name is_name (fresh c.args.stamp c.args.write.now) (DkeyNoted c.args.stamp c.args.write.now (write_path c.args.write.now).akey) c.in_ok-roots.roots t c.args.dkeys.now.root at in
     let tree2 = subst (λ z. IsTree (g.P.Pages.blocks c.write_dkey.new.pages) z c.args.dkeys.now.root x.0) (sym c.requires.kind) still in
-    let spent = subst (λ b. SpendsAtMost (data_blocks c.args.write.now) (below_dkey_pairs c.args.write.now (for_pair d)) b (g.P.Pages.budget c.write_dkey.new.pages)) c.find_roots.ensures.budget (c.in_ok-roots.ensures.staged told (below_or_none (dkey_at c.in-Some.name x)) stands roots (dkey_new c.args.stamp x c.in-Some.name new) d (dkey_small d x c.in-Some.name small)) in
-    put_lacks (data_blocks c.args.write.now) (below_dkey_pairs c.args.write.now (for_pair d)) d x (g.P.Pages.budget c.args.pages.now) (g.P.Pages.budget c.write_dkey.new.pages) small.0 spent (c.set.ensures.too_much refused told x.0 tree2)
+    let spent = subst (λ b. SpendsAtMost (data_blocks c.args.write.now) (below_dkey_pairs c.args.write.now (for_pair d)) b (g.P.Pages.budget c.write_dkey.new.pages)) c.find_roots.ensures.budget (c.in_ok-roots.ensures.staged told (below_or_none (dkey_at c.in-Some.name x)) stands roots (dkey_new c.args.stamp x c.in-Some.name new) d (dkey_small d x c.in-Some.name (write_path c.args.write.now).akey (subst (λ z. DkeysOnPathAreSmall d z (write_path c.args.write.now).akey x) (ap (λ p. p.dkey) (sym c.path.ensures) ∙ c.in-Some.is) small))) in
+    put_lacks (data_blocks c.args.write.now) (below_dkey_pairs c.args.write.now (for_pair d)) d x (g.P.Pages.budget c.args.pages.now) (g.P.Pages.budget c.write_dkey.new.pages) (subst (λ z. DkeysOnPathAreSmall d z (write_path c.args.write.now).akey x) (ap (λ p. p.dkey) (sym c.path.ensures) ∙ c.in-Some.is) small).0 spent (c.set.ensures.too_much refused told x.0 tree2)
 
 pub returns-clause-few_left : goal.returns-clause-few_left
 returns-clause-few_left g c refused told x held at new d small =
@@ -150,7 +151,7 @@ returns-clause-few_left g c refused told x held at new d small =
     let t = subst (λ b. Turns (below_owner akey_level) below_roots (below_dkey_versions ob c.in-Some.name) b (below_or_none (dkey_at c.in-Some.name x)) (g.P.Pages.blocks c.write_dkey.new.pages) c.in_ok-roots.roots (HasMore (fresh c.args.stamp c.args.write.now)) (DkeyNoted c.args.stamp c.args.write.now (write_path c.args.write.now).akey)) e (c.in_ok-roots.ensures.written told (below_or_none (dkey_at c.in-Some.name x)) stands roots (dkey_new c.args.stamp x c.in-Some.name new) ob c.in-Some.name at_dkey) in
     let still = dkeys_still m (g.P.Pages.blocks c.write_dkey.new.pages) x held ob c.in-Some.name is_name (fresh c.args.stamp c.args.write.now) (DkeyNoted c.args.stamp c.args.write.now (write_path c.args.write.now).akey) c.in_ok-roots.roots t c.args.dkeys.now.root at in
     let tree2 = subst (λ z. IsTree (g.P.Pages.blocks c.write_dkey.new.pages) z c.args.dkeys.now.root x.0) (sym c.requires.kind) still in
-    c.set.ensures.few_left refused told x.0 tree2 d small.0
+    c.set.ensures.few_left refused told x.0 tree2 d (subst (λ z. DkeysOnPathAreSmall d z (write_path c.args.write.now).akey x) (ap (λ p. p.dkey) (sym c.path.ensures) ∙ c.in-Some.is) small).0
 
 pub returns-clause-staged : goal.returns-clause-staged
 returns-clause-staged g c = on_ok_then c.set.result (λ h told x held at new d small.
@@ -167,5 +168,5 @@ returns-clause-staged g c = on_ok_then c.set.result (λ h told x held at new d s
     let t = subst (λ b. Turns (below_owner akey_level) below_roots (below_dkey_versions ob c.in-Some.name) b (below_or_none (dkey_at c.in-Some.name x)) (g.P.Pages.blocks c.write_dkey.new.pages) c.in_ok-roots.roots (HasMore (fresh c.args.stamp c.args.write.now)) (DkeyNoted c.args.stamp c.args.write.now (write_path c.args.write.now).akey)) e (c.in_ok-roots.ensures.written told (below_or_none (dkey_at c.in-Some.name x)) stands roots (dkey_new c.args.stamp x c.in-Some.name new) ob c.in-Some.name at_dkey) in
     let still = dkeys_still m (g.P.Pages.blocks c.write_dkey.new.pages) x held ob c.in-Some.name is_name (fresh c.args.stamp c.args.write.now) (DkeyNoted c.args.stamp c.args.write.now (write_path c.args.write.now).akey) c.in_ok-roots.roots t c.args.dkeys.now.root at in
     let tree2 = subst (λ z. IsTree (g.P.Pages.blocks c.write_dkey.new.pages) z c.args.dkeys.now.root x.0) (sym c.requires.kind) still in
-    let spent = subst (λ b. SpendsAtMost (data_blocks c.args.write.now) (below_dkey_pairs c.args.write.now (for_pair d)) b (g.P.Pages.budget c.write_dkey.new.pages)) c.find_roots.ensures.budget (c.in_ok-roots.ensures.staged told (below_or_none (dkey_at c.in-Some.name x)) stands roots (dkey_new c.args.stamp x c.in-Some.name new) d (dkey_small d x c.in-Some.name small)) in
-    put_spends (data_blocks c.args.write.now) (below_dkey_pairs c.args.write.now (for_pair d)) d x (g.P.Pages.budget c.args.pages.now) (g.P.Pages.budget c.write_dkey.new.pages) (g.P.Pages.budget c.set.new.pages) small.0 spent (h told x.0 tree2)) c.set.ensures.staged
+    let spent = subst (λ b. SpendsAtMost (data_blocks c.args.write.now) (below_dkey_pairs c.args.write.now (for_pair d)) b (g.P.Pages.budget c.write_dkey.new.pages)) c.find_roots.ensures.budget (c.in_ok-roots.ensures.staged told (below_or_none (dkey_at c.in-Some.name x)) stands roots (dkey_new c.args.stamp x c.in-Some.name new) d (dkey_small d x c.in-Some.name (write_path c.args.write.now).akey (subst (λ z. DkeysOnPathAreSmall d z (write_path c.args.write.now).akey x) (ap (λ p. p.dkey) (sym c.path.ensures) ∙ c.in-Some.is) small))) in
+    put_spends (data_blocks c.args.write.now) (below_dkey_pairs c.args.write.now (for_pair d)) d x (g.P.Pages.budget c.args.pages.now) (g.P.Pages.budget c.write_dkey.new.pages) (g.P.Pages.budget c.set.new.pages) (subst (λ z. DkeysOnPathAreSmall d z (write_path c.args.write.now).akey x) (ap (λ p. p.dkey) (sym c.path.ensures) ∙ c.in-Some.is) small).0 spent (h told x.0 tree2)) c.set.ensures.staged

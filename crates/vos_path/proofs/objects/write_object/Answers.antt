@@ -32,11 +32,11 @@ returns-else-goes_below_object-clause-written g c = if_ok_then c.punch_log.resul
     subst (λ z. Turns (below_owner dkey_level) below_roots (below_object_versions ob) (g.P.Pages.blocks c.args.pages.now) x (g.P.Pages.blocks c.punch_log.new.pages) now (HasMore (fresh c.args.stamp z)) (ObjectNoted c.args.stamp z (write_path z).dkey (write_path z).akey)) (sym is) (h told x held at new ob)) c.punch_log.ensures.written
 
 pub returns-else-goes_below_object-clause-too_much : goal.returns-else-goes_below_object-clause-too_much
-returns-else-goes_below_object-clause-too_much g c refused told x held at new d small = lacks_any (data_blocks c.args.write.now) (below_object_pairs c.args.write.now (for_pair d)) d (g.P.Pages.budget c.args.pages.now) (c.punch_log.ensures.too_much refused told x held at new d small)
+returns-else-goes_below_object-clause-too_much g c refused told x held at new d small = lacks_any (data_blocks c.args.write.now) (below_object_pairs c.args.write.now (for_pair d)) d (g.P.Pages.budget c.args.pages.now) (c.punch_log.ensures.too_much refused told x held at new d small.0)
 
 pub returns-else-goes_below_object-clause-few_left : goal.returns-else-goes_below_object-clause-few_left
-returns-else-goes_below_object-clause-few_left g c refused told x held at new d small = c.punch_log.ensures.few_left refused told x held at new d small
+returns-else-goes_below_object-clause-few_left g c refused told x held at new d small = c.punch_log.ensures.few_left refused told x held at new d small.0
 
 pub returns-else-goes_below_object-clause-staged : goal.returns-else-goes_below_object-clause-staged
 returns-else-goes_below_object-clause-staged g c = on_ok_then c.punch_log.result (λ h told x held at new d small.
-    spends_any (data_blocks c.args.write.now) (below_object_pairs c.args.write.now (for_pair d)) (for_pair d) (g.P.Pages.budget c.args.pages.now) (g.P.Pages.budget c.punch_log.new.pages) (below_object_else c.args.write.now (for_pair d) (sym c.goes_below_object.ensures ∙ c.if-goes_below_object.false)) (h told x held at new d small)) c.punch_log.ensures.staged
+    spends_any (data_blocks c.args.write.now) (below_object_pairs c.args.write.now (for_pair d)) (for_pair d) (g.P.Pages.budget c.args.pages.now) (g.P.Pages.budget c.punch_log.new.pages) (below_object_else c.args.write.now (for_pair d) (sym c.goes_below_object.ensures ∙ c.if-goes_below_object.false)) (h told x held at new d small.0)) c.punch_log.ensures.staged

@@ -60,7 +60,7 @@ returns-in_err-roots-clause-too_much g c refused told x held at new d small =
     let tree = tree_of object_level m c.args.objects.now.kind c.args.objects.now.root x c.requires.kind held at in
     let roots = object_roots_are m x held ob c.key_of_object-key.result c.key_of_object-key.ensures.key c.in_ok-found.found (c.in_ok-found.ensures.found told x.0 tree) c.roots_or_zero.result c.roots_or_zero.ensures in
     let stands = subst (λ b. Holds (below_owner dkey_level) b (below_or_none (object_at ob x))) (sym e) (object_holds m x ob held) in
-    subst (LacksFor (data_blocks c.args.write.now) (below_object_pairs c.args.write.now (for_pair d)) d) c.find_roots.ensures.budget (c.in_err-roots.ensures.too_much (err_other c.in_err-roots.field-0.0 TooMuch (subst (λ z. IsErrOf z TooMuch) is refused)) told (below_or_none (object_at ob x)) stands roots (object_new c.args.stamp c.args.write.now m x ob held is_name is_at new) d (object_small d x ob small))
+    subst (LacksFor (data_blocks c.args.write.now) (below_object_pairs c.args.write.now (for_pair d)) d) c.find_roots.ensures.budget (c.in_err-roots.ensures.too_much (err_other c.in_err-roots.field-0.0 TooMuch (subst (λ z. IsErrOf z TooMuch) is refused)) told (below_or_none (object_at ob x)) stands roots (object_new c.args.stamp c.args.write.now m x ob held is_name is_at new) d (object_small d x ob (write_path c.args.write.now) is_at small))
 
 pub returns-in_err-roots-clause-few_left : goal.returns-in_err-roots-clause-few_left
 returns-in_err-roots-clause-few_left g c refused told x held at new d small =
@@ -73,7 +73,7 @@ returns-in_err-roots-clause-few_left g c refused told x held at new d small =
     let tree = tree_of object_level m c.args.objects.now.kind c.args.objects.now.root x c.requires.kind held at in
     let roots = object_roots_are m x held ob c.key_of_object-key.result c.key_of_object-key.ensures.key c.in_ok-found.found (c.in_ok-found.ensures.found told x.0 tree) c.roots_or_zero.result c.roots_or_zero.ensures in
     let stands = subst (λ b. Holds (below_owner dkey_level) b (below_or_none (object_at ob x))) (sym e) (object_holds m x ob held) in
-    c.in_err-roots.ensures.few_left (err_other c.in_err-roots.field-0.0 TooMuch (subst (λ z. IsErrOf z TooMuch) is refused)) told (below_or_none (object_at ob x)) stands roots (object_new c.args.stamp c.args.write.now m x ob held is_name is_at new) d (object_small d x ob small)
+    c.in_err-roots.ensures.few_left (err_other c.in_err-roots.field-0.0 TooMuch (subst (λ z. IsErrOf z TooMuch) is refused)) told (below_or_none (object_at ob x)) stands roots (object_new c.args.stamp c.args.write.now m x ob held is_name is_at new) d (object_small d x ob (write_path c.args.write.now) is_at small)
 
 pub set-requires-clause-tree : goal.set-requires-clause-tree
 set-requires-clause-tree g c told =
@@ -127,8 +127,8 @@ returns-clause-too_much g c refused told x held at new d small =
     let t = subst (λ b. Turns (below_owner dkey_level) below_roots (below_object_versions ob) b (below_or_none (object_at ob x)) (g.P.Pages.blocks c.write_object.new.pages) c.in_ok-roots.roots (HasMore (fresh c.args.stamp c.args.write.now)) (ObjectNoted c.args.stamp c.args.write.now (write_path c.args.write.now).dkey (write_path c.args.write.now).akey)) e (c.in_ok-roots.ensures.written told (below_or_none (object_at ob x)) stands roots (object_new c.args.stamp c.args.write.now m x ob held is_name is_at new) ob is_at) in
     let still = objects_still m (g.P.Pages.blocks c.write_object.new.pages) x held ob is_name (fresh c.args.stamp c.args.write.now) (ObjectNoted c.args.stamp c.args.write.now (write_path c.args.write.now).dkey (write_path c.args.write.now).akey) c.in_ok-roots.roots t c.args.objects.now.root at in
     let tree2 = subst (λ z. IsTree (g.P.Pages.blocks c.write_object.new.pages) z c.args.objects.now.root x.0) (sym c.requires.kind) still in
-    let spent = subst (λ b. SpendsAtMost (data_blocks c.args.write.now) (below_object_pairs c.args.write.now (for_pair d)) b (g.P.Pages.budget c.write_object.new.pages)) c.find_roots.ensures.budget (c.in_ok-roots.ensures.staged told (below_or_none (object_at ob x)) stands roots (object_new c.args.stamp c.args.write.now m x ob held is_name is_at new) d (object_small d x ob small)) in
-    put_lacks (data_blocks c.args.write.now) (below_object_pairs c.args.write.now (for_pair d)) d x (g.P.Pages.budget c.args.pages.now) (g.P.Pages.budget c.write_object.new.pages) small.0 spent (c.set.ensures.too_much refused told x.0 tree2)
+    let spent = subst (λ b. SpendsAtMost (data_blocks c.args.write.now) (below_object_pairs c.args.write.now (for_pair d)) b (g.P.Pages.budget c.write_object.new.pages)) c.find_roots.ensures.budget (c.in_ok-roots.ensures.staged told (below_or_none (object_at ob x)) stands roots (object_new c.args.stamp c.args.write.now m x ob held is_name is_at new) d (object_small d x ob (write_path c.args.write.now) is_at small)) in
+    put_lacks (data_blocks c.args.write.now) (below_object_pairs c.args.write.now (for_pair d)) d x (g.P.Pages.budget c.args.pages.now) (g.P.Pages.budget c.write_object.new.pages) (small ob is_at).0 spent (c.set.ensures.too_much refused told x.0 tree2)
 
 pub returns-clause-few_left : goal.returns-clause-few_left
 returns-clause-few_left g c refused told x held at new d small =
@@ -143,7 +143,7 @@ returns-clause-few_left g c refused told x held at new d small =
     let t = subst (λ b. Turns (below_owner dkey_level) below_roots (below_object_versions ob) b (below_or_none (object_at ob x)) (g.P.Pages.blocks c.write_object.new.pages) c.in_ok-roots.roots (HasMore (fresh c.args.stamp c.args.write.now)) (ObjectNoted c.args.stamp c.args.write.now (write_path c.args.write.now).dkey (write_path c.args.write.now).akey)) e (c.in_ok-roots.ensures.written told (below_or_none (object_at ob x)) stands roots (object_new c.args.stamp c.args.write.now m x ob held is_name is_at new) ob is_at) in
     let still = objects_still m (g.P.Pages.blocks c.write_object.new.pages) x held ob is_name (fresh c.args.stamp c.args.write.now) (ObjectNoted c.args.stamp c.args.write.now (write_path c.args.write.now).dkey (write_path c.args.write.now).akey) c.in_ok-roots.roots t c.args.objects.now.root at in
     let tree2 = subst (λ z. IsTree (g.P.Pages.blocks c.write_object.new.pages) z c.args.objects.now.root x.0) (sym c.requires.kind) still in
-    c.set.ensures.few_left refused told x.0 tree2 d small.0
+    c.set.ensures.few_left refused told x.0 tree2 d (small ob is_at).0
 
 pub returns-clause-staged : goal.returns-clause-staged
 returns-clause-staged g c = on_ok_then c.set.result (λ h told x held at new d small.
@@ -158,5 +158,5 @@ returns-clause-staged g c = on_ok_then c.set.result (λ h told x held at new d s
     let t = subst (λ b. Turns (below_owner dkey_level) below_roots (below_object_versions ob) b (below_or_none (object_at ob x)) (g.P.Pages.blocks c.write_object.new.pages) c.in_ok-roots.roots (HasMore (fresh c.args.stamp c.args.write.now)) (ObjectNoted c.args.stamp c.args.write.now (write_path c.args.write.now).dkey (write_path c.args.write.now).akey)) e (c.in_ok-roots.ensures.written told (below_or_none (object_at ob x)) stands roots (object_new c.args.stamp c.args.write.now m x ob held is_name is_at new) ob is_at) in
     let still = objects_still m (g.P.Pages.blocks c.write_object.new.pages) x held ob is_name (fresh c.args.stamp c.args.write.now) (ObjectNoted c.args.stamp c.args.write.now (write_path c.args.write.now).dkey (write_path c.args.write.now).akey) c.in_ok-roots.roots t c.args.objects.now.root at in
     let tree2 = subst (λ z. IsTree (g.P.Pages.blocks c.write_object.new.pages) z c.args.objects.now.root x.0) (sym c.requires.kind) still in
-    let spent = subst (λ b. SpendsAtMost (data_blocks c.args.write.now) (below_object_pairs c.args.write.now (for_pair d)) b (g.P.Pages.budget c.write_object.new.pages)) c.find_roots.ensures.budget (c.in_ok-roots.ensures.staged told (below_or_none (object_at ob x)) stands roots (object_new c.args.stamp c.args.write.now m x ob held is_name is_at new) d (object_small d x ob small)) in
-    put_spends (data_blocks c.args.write.now) (below_object_pairs c.args.write.now (for_pair d)) d x (g.P.Pages.budget c.args.pages.now) (g.P.Pages.budget c.write_object.new.pages) (g.P.Pages.budget c.set.new.pages) small.0 spent (h told x.0 tree2)) c.set.ensures.staged
+    let spent = subst (λ b. SpendsAtMost (data_blocks c.args.write.now) (below_object_pairs c.args.write.now (for_pair d)) b (g.P.Pages.budget c.write_object.new.pages)) c.find_roots.ensures.budget (c.in_ok-roots.ensures.staged told (below_or_none (object_at ob x)) stands roots (object_new c.args.stamp c.args.write.now m x ob held is_name is_at new) d (object_small d x ob (write_path c.args.write.now) is_at small)) in
+    put_spends (data_blocks c.args.write.now) (below_object_pairs c.args.write.now (for_pair d)) d x (g.P.Pages.budget c.args.pages.now) (g.P.Pages.budget c.write_object.new.pages) (g.P.Pages.budget c.set.new.pages) (small ob is_at).0 spent (h told x.0 tree2)) c.set.ensures.staged

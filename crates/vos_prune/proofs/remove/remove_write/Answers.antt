@@ -32,3 +32,7 @@ pub returns-clause-gives : goal.returns-clause-gives
 returns-clause-gives g c = on_ok_then c.change_write.result (λ h told x held at.
     let gave = h told x (subst (λ b. Holds objects_owner b x) (sym (c.find_writer.ensures.kept told)) held) at in
     omega (arith, gave, ap (λ b. b.free) c.find_writer.ensures.budget)) c.change_write.ensures.gives
+
+pub returns-clause-few_left : goal.returns-clause-few_left
+returns-clause-few_left g c few told x held at d small =
+    c.change_write.ensures.few_left few told x (subst (λ b. Holds objects_owner b x) (sym (c.find_writer.ensures.kept told)) held) at d small

@@ -13,7 +13,7 @@ use Rattle.vos_path.specs.Writes.{AkeyIsSmall}
 use Rattle.vos_path.proofs.Putting.{tree_of}
 use Rattle.vos_settle.specs.Costs.{Lacks, Spends, akeys_cost, values_cost, for_one}
 use Rattle.vos_settle.specs.Nodes.{ValuesTurn, akey_freed, is_akey, Turned}
-use Rattle.vos_settle.proofs.Lists.{all_one}
+use Rattle.vos_settle.proofs.Lists.{passing_one}
 use Rattle.vos_settle.proofs.NodeTurns.{akey_entry, akey_holds, akey_is, akey_is_none, akeys_stay, akeys_still, akeys_turned}
 use Rattle.vos_settle.proofs.Puts.{akey_roots_are, akey_roots_same}
 use Rattle.vos_settle.proofs.Sums.{lacks_more, lacks_put, spends_most, spends_then}
@@ -58,7 +58,7 @@ returns-in_err-now-clause-too_much g c refused told x held at d small =
     let tree = tree_of akey_level m c.args.akeys.now.kind c.args.akeys.now.root x c.requires.kind held at in
     let k = akey_is m x held c.args.name.now c.key_of-key.result c.key_of-key.ensures.key c.in_ok-was.field-0 (c.in_ok-was.ensures.found told x.0 tree) c.in-Some.was c.in-Some.is in
     let stands = subst (λ b. Holds (values_owner) b k.thing.holds) (sym e) (akey_holds m x held c.args.name.now k.thing k.found) in
-    let lacks = c.in_err-now.ensures.too_much (err_other c.in_err-now.field-0.0 TooMuch (subst (λ z. IsErrOf z TooMuch) is refused)) told k.thing.holds stands k.is d (all_one (AkeyIsSmall d) (is_akey c.args.name.now) (things x) k.thing small.1 k.found) in
+    let lacks = c.in_err-now.ensures.too_much (err_other c.in_err-now.field-0.0 TooMuch (subst (λ z. IsErrOf z TooMuch) is refused)) told k.thing.holds stands k.is d (passing_one (AkeyIsSmall d) (is_akey c.args.name.now) (things x) k.thing small.1 k.found) in
     lacks_more (values_cost c.args.task.kind (for_one d)) (akeys_cost c.args.task.kind (for_one d) 1) d (g.P.Pages.budget c.args.pages.now) (omega arith) (subst (Lacks (values_cost c.args.task.kind (for_one d)) d) c.find_akey.ensures.budget lacks)
 
 pub returns-in_err-now-clause-few_left : goal.returns-in_err-now-clause-few_left
@@ -69,7 +69,7 @@ returns-in_err-now-clause-few_left g c refused told x held at d small =
     let tree = tree_of akey_level m c.args.akeys.now.kind c.args.akeys.now.root x c.requires.kind held at in
     let k = akey_is m x held c.args.name.now c.key_of-key.result c.key_of-key.ensures.key c.in_ok-was.field-0 (c.in_ok-was.ensures.found told x.0 tree) c.in-Some.was c.in-Some.is in
     let stands = subst (λ b. Holds (values_owner) b k.thing.holds) (sym e) (akey_holds m x held c.args.name.now k.thing k.found) in
-    c.in_err-now.ensures.few_left (err_other c.in_err-now.field-0.0 TooMuch (subst (λ z. IsErrOf z TooMuch) is refused)) told k.thing.holds stands k.is d (all_one (AkeyIsSmall d) (is_akey c.args.name.now) (things x) k.thing small.1 k.found)
+    c.in_err-now.ensures.few_left (err_other c.in_err-now.field-0.0 TooMuch (subst (λ z. IsErrOf z TooMuch) is refused)) told k.thing.holds stands k.is d (passing_one (AkeyIsSmall d) (is_akey c.args.name.now) (things x) k.thing small.1 k.found)
 
 pub put_unless-requires-clause-tree : goal.put_unless-requires-clause-tree
 put_unless-requires-clause-tree g c told =
@@ -116,7 +116,7 @@ returns-clause-too_much g c refused told x held at d small =
     let still = akeys_still m x held c.args.name.now k.thing k.found c.args.task n c.in_ok-now.now v c.args.akeys.now.root at in
     let tree2 = subst (λ z. IsTree n z c.args.akeys.now.root x.0) (sym c.requires.kind) still in
     let entry = akey_entry m x held c.args.name.now k.thing k.found c.key_of-key.result c.key_of-key.ensures.key in
-    let spent = subst (λ b. Spends (values_cost c.args.task.kind (for_one d)) b (g.P.Pages.budget c.change_values.new.pages)) c.find_akey.ensures.budget (c.in_ok-now.ensures.staged told k.thing.holds stands k.is d (all_one (AkeyIsSmall d) (is_akey c.args.name.now) (things x) k.thing small.1 k.found)) in
+    let spent = subst (λ b. Spends (values_cost c.args.task.kind (for_one d)) b (g.P.Pages.budget c.change_values.new.pages)) c.find_akey.ensures.budget (c.in_ok-now.ensures.staged told k.thing.holds stands k.is d (passing_one (AkeyIsSmall d) (is_akey c.args.name.now) (things x) k.thing small.1 k.found)) in
     lacks_put (values_cost c.args.task.kind (for_one d)) d (g.P.Pages.budget c.args.pages.now) (g.P.Pages.budget c.change_values.new.pages) spent (c.put_unless.ensures.too_much refused)
 
 pub returns-clause-few_left : goal.returns-clause-few_left
@@ -135,16 +135,16 @@ returns-clause-staged g c = on_ok_then c.put_unless.result (λ h told x held at 
     let still = akeys_still m x held c.args.name.now k.thing k.found c.args.task n c.in_ok-now.now v c.args.akeys.now.root at in
     let tree2 = subst (λ z. IsTree n z c.args.akeys.now.root x.0) (sym c.requires.kind) still in
     let entry = akey_entry m x held c.args.name.now k.thing k.found c.key_of-key.result c.key_of-key.ensures.key in
-    let spent = subst (λ b. Spends (values_cost c.args.task.kind (for_one d)) b (g.P.Pages.budget c.change_values.new.pages)) c.find_akey.ensures.budget (c.in_ok-now.ensures.staged told k.thing.holds stands k.is d (all_one (AkeyIsSmall d) (is_akey c.args.name.now) (things x) k.thing small.1 k.found)) in
+    let spent = subst (λ b. Spends (values_cost c.args.task.kind (for_one d)) b (g.P.Pages.budget c.change_values.new.pages)) c.find_akey.ensures.budget (c.in_ok-now.ensures.staged told k.thing.holds stands k.is d (passing_one (AkeyIsSmall d) (is_akey c.args.name.now) (things x) k.thing small.1 k.found)) in
     spends_then (values_cost c.args.task.kind (for_one d)) 1 (g.P.Pages.budget c.args.pages.now) (g.P.Pages.budget c.change_values.new.pages) (g.P.Pages.budget c.put_unless.new.pages) spent c.put_unless.ensures.staged) c.put_unless.ensures.went_on
 
 pub returns-clause-committed : goal.returns-clause-committed
-returns-clause-committed g c kept = on_ok_then c.put_unless.result (λ h.
+returns-clause-committed g c kept =
     let had = c.are_akey_roots-had.ensures ∙ akey_roots_are c.in-Some.was c.in_ok-now.now (c.in_ok-now.ensures.root kept) in
     let b0 = g.P.Pages.budget c.args.pages.now in
     let spent = subst (λ b. Spends (values_cost c.args.task.kind 1) b (g.P.Pages.budget c.change_values.new.pages)) c.find_akey.ensures.budget (c.in_ok-now.ensures.committed kept) in
     let still = subst (λ b. Spends (values_cost c.args.task.kind 1) b0 b) (sym (c.put_unless.ensures.had had)) spent in
-    spends_most (values_cost c.args.task.kind 1) (akeys_cost c.args.task.kind 1 0) b0 (g.P.Pages.budget c.put_unless.new.pages) (omega arith) still) c.put_unless.ensures.went_on
+    spends_most (values_cost c.args.task.kind 1) (akeys_cost c.args.task.kind 1 0) b0 (g.P.Pages.budget c.put_unless.new.pages) (omega arith) still
 
 pub returns-clause-free : goal.returns-clause-free
 returns-clause-free g c = on_ok_then c.put_unless.result (λ h told x held at.

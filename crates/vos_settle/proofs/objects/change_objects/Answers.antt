@@ -10,11 +10,11 @@ use Rattle.vos_levels.specs.Levels.{things}
 use Rattle.vos_levels.proofs.Calls.{on_ok_then}
 use Rattle.vos_versions.proofs.Marks.{err_other, short_any}
 use Rattle.vos_path.specs.Objects.{below_owner, below_roots, dkey_level, object_level, or_none}
-use Rattle.vos_path.specs.Writes.{ObjectIsSmall}
+use Rattle.vos_path.specs.Small.{BelowObjectOnPathIsSmall}
 use Rattle.vos_path.proofs.Putting.{tree_of}
 use Rattle.vos_settle.specs.Costs.{Lacks, Spends, below_object_cost, objects_cost, for_one}
 use Rattle.vos_settle.specs.Nodes.{ObjectTurn, is_object, object_freed, Turned}
-use Rattle.vos_settle.proofs.Lists.{all_one}
+use Rattle.vos_settle.proofs.Lists.{passing_one}
 use Rattle.vos_settle.proofs.NodeTurns.{branch_entry, branch_holds, branch_is, branch_is_none, branches_stay, branches_still, branches_turned}
 use Rattle.vos_settle.proofs.Puts.{roots_are_so, roots_same}
 use Rattle.vos_settle.proofs.Sums.{lacks_more, lacks_put, spends_most, spends_then}
@@ -59,7 +59,7 @@ returns-in_err-now-clause-too_much g c refused told x held at d small =
     let tree = tree_of object_level m c.args.objects.now.kind c.args.objects.now.root x c.requires.kind held at in
     let k = branch_is 1 object_key (IsObjectKey Two) dkey_level (object_key c.args.object) m x held c.key_of_object-key.result c.key_of_object-key.ensures.key c.in_ok-was.field-0 (c.in_ok-was.ensures.found told x.0 tree) c.in-Some.was c.in-Some.is in
     let stands = subst (λ b. Holds (below_owner dkey_level) b k.thing.holds) (sym e) (branch_holds 1 object_key (IsObjectKey Two) dkey_level (object_key c.args.object) m x held k.thing k.found) in
-    let lacks = c.in_err-now.ensures.too_much (err_other c.in_err-now.field-0.0 TooMuch (subst (λ z. IsErrOf z TooMuch) is refused)) told k.thing.holds stands k.is d (all_one (ObjectIsSmall d) (is_object c.args.object) (things x) k.thing small.1 k.found) in
+    let lacks = c.in_err-now.ensures.too_much (err_other c.in_err-now.field-0.0 TooMuch (subst (λ z. IsErrOf z TooMuch) is refused)) told k.thing.holds stands k.is d (passing_one (λ o. BelowObjectOnPathIsSmall d c.args.path.now.dkey c.args.path.now.akey o.holds) (is_object c.args.object) (things x) k.thing small.1 k.found) in
     lacks_more (below_object_cost c.args.task.kind c.args.path.now.dkey c.args.path.now.akey (for_one d) 1) (objects_cost c.args.task.kind c.args.path.now.dkey c.args.path.now.akey (for_one d) 1) d (g.P.Pages.budget c.args.pages.now) (omega arith) (subst (Lacks (below_object_cost c.args.task.kind c.args.path.now.dkey c.args.path.now.akey (for_one d) 1) d) c.find_roots.ensures.budget lacks)
 
 pub returns-in_err-now-clause-few_left : goal.returns-in_err-now-clause-few_left
@@ -70,7 +70,7 @@ returns-in_err-now-clause-few_left g c refused told x held at d small =
     let tree = tree_of object_level m c.args.objects.now.kind c.args.objects.now.root x c.requires.kind held at in
     let k = branch_is 1 object_key (IsObjectKey Two) dkey_level (object_key c.args.object) m x held c.key_of_object-key.result c.key_of_object-key.ensures.key c.in_ok-was.field-0 (c.in_ok-was.ensures.found told x.0 tree) c.in-Some.was c.in-Some.is in
     let stands = subst (λ b. Holds (below_owner dkey_level) b k.thing.holds) (sym e) (branch_holds 1 object_key (IsObjectKey Two) dkey_level (object_key c.args.object) m x held k.thing k.found) in
-    c.in_err-now.ensures.few_left (err_other c.in_err-now.field-0.0 TooMuch (subst (λ z. IsErrOf z TooMuch) is refused)) told k.thing.holds stands k.is d (all_one (ObjectIsSmall d) (is_object c.args.object) (things x) k.thing small.1 k.found)
+    c.in_err-now.ensures.few_left (err_other c.in_err-now.field-0.0 TooMuch (subst (λ z. IsErrOf z TooMuch) is refused)) told k.thing.holds stands k.is d (passing_one (λ o. BelowObjectOnPathIsSmall d c.args.path.now.dkey c.args.path.now.akey o.holds) (is_object c.args.object) (things x) k.thing small.1 k.found)
 
 pub put_unless-requires-clause-tree : goal.put_unless-requires-clause-tree
 put_unless-requires-clause-tree g c told =
@@ -117,7 +117,7 @@ returns-clause-too_much g c refused told x held at d small =
     let still = branches_still 1 object_key (IsObjectKey Two) dkey_level (object_key c.args.object) m x held k.thing k.found (ObjectTurn c.args.task c.args.path.now.dkey c.args.path.now.akey) n c.in_ok-now.now v c.args.objects.now.root at in
     let tree2 = subst (λ z. IsTree n z c.args.objects.now.root x.0) (sym c.requires.kind) still in
     let entry = branch_entry 1 object_key (IsObjectKey Two) dkey_level (object_key c.args.object) m x held k.thing k.found c.key_of_object-key.result c.key_of_object-key.ensures.key in
-    let spent = subst (λ b. Spends (below_object_cost c.args.task.kind c.args.path.now.dkey c.args.path.now.akey (for_one d) 1) b (g.P.Pages.budget c.change_object.new.pages)) c.find_roots.ensures.budget (c.in_ok-now.ensures.staged told k.thing.holds stands k.is d (all_one (ObjectIsSmall d) (is_object c.args.object) (things x) k.thing small.1 k.found)) in
+    let spent = subst (λ b. Spends (below_object_cost c.args.task.kind c.args.path.now.dkey c.args.path.now.akey (for_one d) 1) b (g.P.Pages.budget c.change_object.new.pages)) c.find_roots.ensures.budget (c.in_ok-now.ensures.staged told k.thing.holds stands k.is d (passing_one (λ o. BelowObjectOnPathIsSmall d c.args.path.now.dkey c.args.path.now.akey o.holds) (is_object c.args.object) (things x) k.thing small.1 k.found)) in
     lacks_put (below_object_cost c.args.task.kind c.args.path.now.dkey c.args.path.now.akey (for_one d) 1) d (g.P.Pages.budget c.args.pages.now) (g.P.Pages.budget c.change_object.new.pages) spent (c.put_unless.ensures.too_much refused)
 
 pub returns-clause-few_left : goal.returns-clause-few_left
@@ -136,16 +136,16 @@ returns-clause-staged g c = on_ok_then c.put_unless.result (λ h told x held at 
     let still = branches_still 1 object_key (IsObjectKey Two) dkey_level (object_key c.args.object) m x held k.thing k.found (ObjectTurn c.args.task c.args.path.now.dkey c.args.path.now.akey) n c.in_ok-now.now v c.args.objects.now.root at in
     let tree2 = subst (λ z. IsTree n z c.args.objects.now.root x.0) (sym c.requires.kind) still in
     let entry = branch_entry 1 object_key (IsObjectKey Two) dkey_level (object_key c.args.object) m x held k.thing k.found c.key_of_object-key.result c.key_of_object-key.ensures.key in
-    let spent = subst (λ b. Spends (below_object_cost c.args.task.kind c.args.path.now.dkey c.args.path.now.akey (for_one d) 1) b (g.P.Pages.budget c.change_object.new.pages)) c.find_roots.ensures.budget (c.in_ok-now.ensures.staged told k.thing.holds stands k.is d (all_one (ObjectIsSmall d) (is_object c.args.object) (things x) k.thing small.1 k.found)) in
+    let spent = subst (λ b. Spends (below_object_cost c.args.task.kind c.args.path.now.dkey c.args.path.now.akey (for_one d) 1) b (g.P.Pages.budget c.change_object.new.pages)) c.find_roots.ensures.budget (c.in_ok-now.ensures.staged told k.thing.holds stands k.is d (passing_one (λ o. BelowObjectOnPathIsSmall d c.args.path.now.dkey c.args.path.now.akey o.holds) (is_object c.args.object) (things x) k.thing small.1 k.found)) in
     spends_then (below_object_cost c.args.task.kind c.args.path.now.dkey c.args.path.now.akey (for_one d) 1) 1 (g.P.Pages.budget c.args.pages.now) (g.P.Pages.budget c.change_object.new.pages) (g.P.Pages.budget c.put_unless.new.pages) spent c.put_unless.ensures.staged) c.put_unless.ensures.went_on
 
 pub returns-clause-committed : goal.returns-clause-committed
-returns-clause-committed g c kept = on_ok_then c.put_unless.result (λ h.
+returns-clause-committed g c kept =
     let had = c.are_roots-had.ensures ∙ roots_are_so c.in-Some.was c.in_ok-now.now (c.in_ok-now.ensures.root kept) in
     let b0 = g.P.Pages.budget c.args.pages.now in
     let spent = subst (λ b. Spends (below_object_cost c.args.task.kind c.args.path.now.dkey c.args.path.now.akey 1 0) b (g.P.Pages.budget c.change_object.new.pages)) c.find_roots.ensures.budget (c.in_ok-now.ensures.committed kept) in
     let still = subst (λ b. Spends (below_object_cost c.args.task.kind c.args.path.now.dkey c.args.path.now.akey 1 0) b0 b) (sym (c.put_unless.ensures.had had)) spent in
-    spends_most (below_object_cost c.args.task.kind c.args.path.now.dkey c.args.path.now.akey 1 0) (objects_cost c.args.task.kind c.args.path.now.dkey c.args.path.now.akey 1 0) b0 (g.P.Pages.budget c.put_unless.new.pages) (omega arith) still) c.put_unless.ensures.went_on
+    spends_most (below_object_cost c.args.task.kind c.args.path.now.dkey c.args.path.now.akey 1 0) (objects_cost c.args.task.kind c.args.path.now.dkey c.args.path.now.akey 1 0) b0 (g.P.Pages.budget c.put_unless.new.pages) (omega arith) still
 
 pub returns-clause-free : goal.returns-clause-free
 returns-clause-free g c = on_ok_then c.put_unless.result (λ h told x held at.

@@ -19,12 +19,12 @@ change_entry-requires-clause-log g c told =
 pub returns-in_err-log-clause-too_much : goal.returns-in_err-log-clause-too_much
 returns-in_err-log-clause-too_much g c refused told x held at d small =
     let is : c.from_residual.result ≡ Err c.in_err-log.field-0.0 = search rules in
-    lacks_now x.0 (for_one d) d (g.P.Pages.budget c.args.pages.now) small.0 (c.in_err-log.ensures.too_much (err_other c.in_err-log.field-0.0 TooMuch (subst (λ z. IsErrOf z TooMuch) is refused)) told x.0 (holds_first log_owner (hung dkey_level) (g.P.Pages.blocks c.args.pages.now) x held) (ap (λ r. r.log) at))
+    lacks_now x.0 (for_one d) d (g.P.Pages.budget c.args.pages.now) small (c.in_err-log.ensures.too_much (err_other c.in_err-log.field-0.0 TooMuch (subst (λ z. IsErrOf z TooMuch) is refused)) told x.0 (holds_first log_owner (hung dkey_level) (g.P.Pages.blocks c.args.pages.now) x held) (ap (λ r. r.log) at))
 
 pub returns-in_err-log-clause-few_left : goal.returns-in_err-log-clause-few_left
 returns-in_err-log-clause-few_left g c refused told x held at d small =
     let is : c.from_residual.result ≡ Err c.in_err-log.field-0.0 = search rules in
-    c.in_err-log.ensures.few_left (err_other c.in_err-log.field-0.0 TooMuch (subst (λ z. IsErrOf z TooMuch) is refused)) told x.0 (holds_first log_owner (hung dkey_level) (g.P.Pages.blocks c.args.pages.now) x held) (ap (λ r. r.log) at) d small.0
+    c.in_err-log.ensures.few_left (err_other c.in_err-log.field-0.0 TooMuch (subst (λ z. IsErrOf z TooMuch) is refused)) told x.0 (holds_first log_owner (hung dkey_level) (g.P.Pages.blocks c.args.pages.now) x held) (ap (λ r. r.log) at) d small
 
 pub returns-clause-changed : goal.returns-clause-changed
 returns-clause-changed g c told x held at =
@@ -32,7 +32,7 @@ returns-clause-changed g c told x held at =
 
 pub returns-clause-staged : goal.returns-clause-staged
 returns-clause-staged g c told x held at d small =
-    log_spends x.0 d (g.P.Pages.budget c.args.pages.now) (g.P.Pages.budget c.change_entry.new.pages) small.0 (c.in_ok-log.ensures.staged told x.0 (holds_first log_owner (hung dkey_level) (g.P.Pages.blocks c.args.pages.now) x held) (ap (λ r. r.log) at))
+    log_spends x.0 d (g.P.Pages.budget c.args.pages.now) (g.P.Pages.budget c.change_entry.new.pages) small (c.in_ok-log.ensures.staged told x.0 (holds_first log_owner (hung dkey_level) (g.P.Pages.blocks c.args.pages.now) x held) (ap (λ r. r.log) at))
 
 pub returns-clause-free : goal.returns-clause-free
 returns-clause-free g c told x held at =

@@ -1,4 +1,4 @@
-use Rattle.std.proofs.Common.{arith}
+use Rattle.std.proofs.Common.{refl, arith}
 use Rattle.vos_levels.proofs.Calls.{on_ok_then}
 use Rattle.vos_settle.proofs.FreedVersions.{freed_is, gives_back}
 use Rattle.vos_settle.proofs.VersionTurns.{write_turned}
@@ -15,3 +15,15 @@ returns-clause-free g c = on_ok_then c.change_objects.result (λ h told x held a
 pub returns-clause-gives : goal.returns-clause-gives
 returns-clause-gives g c = on_ok_then c.change_objects.result (λ h told x held at.
     omega (arith, h told x held at, gives_back c.args.task c.args.path.now (g.P.Pages.blocks c.args.pages.now) x c.in-Some.obj held c.in-Some.is c.requires.fits c.requires.names c.change_objects.ensures.object)) c.change_objects.ensures.free
+
+pub returns-clause-too_much : goal.returns-clause-too_much
+returns-clause-too_much g c few told x held at d small =
+    c.change_objects.ensures.too_much few told x held at d (small (record { cont = c.args.path.now.cont; obj = c.in-Some.obj }) (record { cont = refl; obj = c.in-Some.is }))
+
+pub returns-clause-few_left : goal.returns-clause-few_left
+returns-clause-few_left g c few told x held at d small =
+    c.change_objects.ensures.few_left few told x held at d (small (record { cont = c.args.path.now.cont; obj = c.in-Some.obj }) (record { cont = refl; obj = c.in-Some.is }))
+
+pub returns-clause-staged : goal.returns-clause-staged
+returns-clause-staged g c = on_ok_then c.change_objects.result (λ h told x held at d small.
+    h told x held at d (small (record { cont = c.args.path.now.cont; obj = c.in-Some.obj }) (record { cont = refl; obj = c.in-Some.is }))) c.change_objects.ensures.staged

@@ -11,6 +11,7 @@ use Rattle.vos_check_base.proofs.Steps.{off, on}
 use Rattle.vos_check_trees.specs.Found.{Gathers}
 use Rattle.vos_check.proofs.Gathering.{branch_gathers, rows_in}
 use Rattle.vos_check.proofs.Moving.{fault_moved, reads_moved}
+use Rattle.vos_check_base.proofs.Looking.{read_then}
 use Rattle.vos_check.proofs.dkeys.DkeysLevel.thing.Goals as goal
 
 pub returns-in_err-tree-clause-read : goal.returns-in_err-tree-clause-read
@@ -49,3 +50,16 @@ returns-clause-read g c told led marks =
       gives = record { led = x1.gives.led; is = on _ _ led x0.value x0.gives.led _ x0.gives.is (on _ _ x0.gives.led x1.value x1.gives.led _ x1.gives.is refl); marks = x1.gives.marks };
       shows = branch_gathers akey_nodes c.args.out.now.items c.tree.new.out.items c.tree-2.new.out.items x0.value x1.value x0.shows x1.shows;
     }
+
+pub returns-in_err-tree-clause-stops : goal.returns-in_err-tree-clause-stops
+returns-in_err-tree-clause-stops g c =
+    let p = err_from_is_err_and c.from_residual.result c.from_residual.ensures.1 in
+    rw (p.1, p.2) (c.in_err-tree.ensures.stops)
+
+pub returns-in_err-tree-2-clause-stops : goal.returns-in_err-tree-2-clause-stops
+returns-in_err-tree-2-clause-stops g c =
+    let p = err_from_is_err_and c.from_residual-in_err-tree-2.result c.from_residual-in_err-tree-2.ensures.1 in
+    rw (p.1, p.2) ((read_then _ _ g.S.Source.looked_on _ _ _ _ c.in_ok-tree.ensures.stops c.in_err-tree-2.ensures.stops))
+
+pub returns-clause-stops : goal.returns-clause-stops
+returns-clause-stops g c = (read_then _ _ g.S.Source.looked_on _ _ _ _ c.in_ok-tree.ensures.stops c.in_ok-tree-2.ensures.stops)

@@ -22,3 +22,16 @@ returns-clause-read g c told led marks =
       gives = record { led = x.gives.led; is = on _ _ led x.value x.gives.led _ x.gives.is refl; marks = x.gives.marks };
       shows = c.in_ok-push.ensures.items;
     }
+
+pub returns-in_err-chain-clause-stops : goal.returns-in_err-chain-clause-stops
+returns-in_err-chain-clause-stops g c =
+    let p = err_from_is_err_and c.from_residual.result c.from_residual.ensures.1 in
+    rw (p.1, p.2) (c.in_err-chain.ensures.stops)
+
+pub returns-in_err-push-clause-stops : goal.returns-in_err-push-clause-stops
+returns-in_err-push-clause-stops g c =
+    let p = err_from_is_err_and c.from_residual-in_err-push.result c.from_residual-in_err-push.ensures.1 in
+    rw (p.1, p.2) (c.in_ok-chain.ensures.stops)
+
+pub returns-clause-stops : goal.returns-clause-stops
+returns-clause-stops g c = c.in_ok-chain.ensures.stops

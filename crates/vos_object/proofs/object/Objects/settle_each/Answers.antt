@@ -1,12 +1,13 @@
 use Rattle.std.proofs.Common.{Err, ◌≡◌, ◌∙◌, ◌+◌, ap, arith, refl, rules, subst, sym}
 use Rattle.std.specs.Prelude.{take}
 use Rattle.vos_levels.proofs.Calls.{goes_same, goes_then}
+use Rattle.vos_path.specs.Small.{PathIsSmall}
 use Rattle.vos_settle.specs.Costs.{Spends, for_one}
 use Rattle.vos_settle.specs.Names.{IsNamed}
-use Rattle.vos_settle.proofs.Sums.{spends_none, spends_then}
+use Rattle.vos_settle.proofs.Sums.{spends_none, spends_then, spends_most}
 use Rattle.vos_gather.proofs.Listing.{take_next}
 use Rattle.vos_object.specs.Each.{each_cost}
-use Rattle.vos_object.proofs.Turns.{SettledSoFar, cost_more, cost_part, lacks_after, one_cost, settled_first, settled_next}
+use Rattle.vos_object.proofs.Turns.{SettledSoFar, cost_more, cost_part, paths_front, lacks_after, one_cost, settled_first, settled_next}
 use Rattle.vos_object.proofs.object.Objects.settle_each.Goals as goal
 
 pub loop-name-init : goal.loop-name-init
@@ -38,18 +39,18 @@ returns-in_err-settle_write-clause-too_much g c few told x held at d small =
     let n = c.name-item.result in
     let f = i.so_far told x held at in
     let is : c.from_residual.result ≡ Err c.in_err-settle_write.field-0.0 = search rules in
-    let left = c.settle_write.ensures.too_much (c.in_err-settle_write.was ∙ (sym is ∙ few)) told f.turned.now f.turned.changed.holds f.turned.root_is d (f.small d small) in
+    let left = c.settle_write.ensures.too_much (c.in_err-settle_write.was ∙ (sym is ∙ few)) told f.turned.now f.turned.changed.holds f.turned.root_is d (f.small d n.path (subst (λ z. PathIsSmall d z.path x) (sym c.name-item.is) (small c.loop-name.name-index c.name-item.result c.loop-name-test.true))) in
     let part = cost_part ns (c.loop-name.name-index + 1) (for_one d) 1 in
     let more = ap (λ z. each_cost z (for_one d) 1) (take_next ns c.loop-name.name-index n c.loop-name-test.true c.name-item.is) in
     lacks_after (each_cost (take c.loop-name.name-index ns) (for_one d) 1) (one_cost n (for_one d) 1) (each_cost ns (for_one d) 1) d (g.P.Pages.budget c.args.pages.now) (g.P.Pages.budget c.loop-name.pages)
-    (omega (arith, part, more, cost_more (take c.loop-name.name-index ns) n (for_one d) 1)) (f.staged d small) left
+    (omega (arith, part, more, cost_more (take c.loop-name.name-index ns) n (for_one d) 1)) (f.staged d (paths_front d x ns c.loop-name.name-index small)) left
 
 pub returns-in_err-settle_write-clause-few_left : goal.returns-in_err-settle_write-clause-few_left
 returns-in_err-settle_write-clause-few_left g c few told x held at d small =
     let i = c.loop-name.invariant in
     let f = i.so_far told x held at in
     let is : c.from_residual.result ≡ Err c.in_err-settle_write.field-0.0 = search rules in
-    c.settle_write.ensures.few_left (c.in_err-settle_write.was ∙ (sym is ∙ few)) told f.turned.now f.turned.changed.holds f.turned.root_is d (f.small d small)
+    c.settle_write.ensures.few_left (c.in_err-settle_write.was ∙ (sym is ∙ few)) told f.turned.now f.turned.changed.holds f.turned.root_is d (f.small d c.name-item.result.path (subst (λ z. PathIsSmall d z.path x) (sym c.name-item.is) (small c.loop-name.name-index c.name-item.result c.loop-name-test.true)))
 
 pub loop-name-preserved : goal.loop-name-preserved
 loop-name-preserved g c =
@@ -72,3 +73,10 @@ loop-name-preserved g c =
       goes = goes_then g.P.Pages.stopped g.P.Pages.count g.P.Pages.burns c.args.pages.now c.loop-name.pages c.settle_write.new.pages i.goes c.settle_write.ensures.goes;
       went_on = p.went_on ∙ i.went_on;
     }
+
+pub returns-clause-staged : goal.returns-clause-staged
+returns-clause-staged g c told x held at d small =
+    let ns = c.args.names.now in
+    let f = c.loop-name.invariant.so_far told x held at in
+    spends_most (each_cost (take c.loop-name.name-index ns) (for_one d) 1) (each_cost ns (for_one d) 1) (g.P.Pages.budget c.args.pages.now) (g.P.Pages.budget c.loop-name.pages) (cost_part ns c.loop-name.name-index (for_one d) 1)
+    (f.staged d (paths_front d x ns c.loop-name.name-index small))

@@ -1,10 +1,12 @@
-use Rattle.std.specs.Prelude.{◌≡◌, false, Ok, Err, [], IsTrue, unwrap_or}
+use Rattle.std.specs.Prelude.{◌≡◌, false, Ok, Err, [], IsTrue, refl, unwrap_or}
 use Rattle.std.proofs.Common.{◌∙◌, ap, rules, sym, subst}
 use Rattle.daos_model.specs.Changes.{frozen}
 use Rattle.pmem_undo.specs.Layout.{gate}
 use Rattle.vos_pool_base.specs.Pool.{IsOpened, OpenedState}
 use Rattle.vos_pool_base.proofs.Freezing.{changes_where, kept_with_of, made_at_err, made_at_ok}
+use Rattle.vos_store.specs.declared.refusal.FreezeNo.TheVariants as freeze
 use Rattle.vos_store.specs.Answers.{freezes}
+use Rattle.vos_store.specs.Refusals.{freeze_stop}
 use Rattle.vos_store.specs.Conditions.{CanFreeze}
 use Rattle.vos_tables.specs.Changes.{all_changed}
 use Rattle.vos_tables.specs.Kept.{MakesWhere, OfKept}
@@ -35,7 +37,7 @@ returns-in-Ok-clause-answer g c d is free =
 
 pub returns-in-Ok-clause-kept : goal.returns-in-Ok-clause-kept
 returns-in-Ok-clause-kept g c =
-    made_at_ok _ (frozen c.args.cont c.args.s) c.write_planned.result c.in-Ok.field-0 _ _ _ _
+    made_at_ok freeze_stop _ (frozen c.args.cont c.args.s) c.write_planned.result c.in-Ok.field-0 _ _ _ _
     (c.write_planned.ensures.makes (frozen c.args.cont c.args.s) (λ going.
     changes_where (CanFreeze c.args.cont c.args.s) (frozen c.args.cont c.args.s) _ c.args.self.now.table (all_changed (unwrap_or c.in_ok-plan.plan []) c.args.self.now.table) (c.requires going)
     (subst (λ (p : OpenedState _). MakesWhere (CanFreeze c.args.cont c.args.s) (frozen c.args.cont c.args.s) p.table (all_changed (unwrap_or c.in_ok-plan.plan []) p.table)) c.self.view_is c.in_ok-plan.ensures.frozen)))
@@ -43,7 +45,7 @@ returns-in-Ok-clause-kept g c =
 
 pub returns-in-Err-clause-kept : goal.returns-in-Err-clause-kept
 returns-in-Err-clause-kept g c =
-    made_at_err _ (frozen c.args.cont c.args.s) c.write_planned.result _ _ _ _
+    made_at_err freeze_stop freeze.Stopped refl _ (frozen c.args.cont c.args.s) c.write_planned.result _ _ _ _
     (c.write_planned.ensures.makes (frozen c.args.cont c.args.s) (λ going.
     changes_where (CanFreeze c.args.cont c.args.s) (frozen c.args.cont c.args.s) _ c.args.self.now.table (all_changed (unwrap_or c.in_ok-plan.plan []) c.args.self.now.table) (c.requires going)
     (subst (λ (p : OpenedState _). MakesWhere (CanFreeze c.args.cont c.args.s) (frozen c.args.cont c.args.s) p.table (all_changed (unwrap_or c.in_ok-plan.plan []) p.table)) c.self.view_is c.in_ok-plan.ensures.frozen)))

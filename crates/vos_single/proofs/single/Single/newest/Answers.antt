@@ -1,7 +1,7 @@
-use Rattle.std.proofs.Common.{◌≡◌, ◌∙◌, ap, sym, subst, arith, None}
+use Rattle.std.proofs.Common.{◌≡◌, ◌∙◌, ap, length, sym, subst, arith, None}
 use Rattle.std.specs.Option.{option_map}
 use Rattle.vos_levels.specs.Levels.{find_last, things}
-use Rattle.vos_chain.specs.Made.{IsChainAt}
+use Rattle.vos_chain.specs.Made.{IsChainAt, chain_blocks}
 use Rattle.vos_single.specs.Singles.{chain_of, is_under, placed_of, version_of}
 use Rattle.vos_single.proofs.Reading.{found_at, none_found, version_found}
 use Rattle.vos_single.proofs.single.Single.newest.Goals as goal
@@ -38,3 +38,19 @@ returns-in_err-placed-clause-steps g c told x held at d few = let h = c.last_und
 
 pub returns-in_default-clause-steps : goal.returns-in_default-clause-steps
 returns-in_default-clause-steps g c told x held at d few = let h = c.last_under.ensures.steps told x held at d few in omega arith
+
+pub returns-in_default-clause-reads : goal.returns-in_default-clause-reads
+returns-in_default-clause-reads g c told x held at = c.last_under.ensures.steps told x held at
+
+pub returns-clause-reads : goal.returns-clause-reads
+returns-clause-reads g c told x held at d few =
+    let m = g.P.Pages.blocks c.args.pages.now in
+    let e = sym c.in-Some.is ∙ c.in_ok-placed.ensures.found told x held at in
+    let f = found_at m x c.start_of-at.result c.in-Some.placed held e in
+    let chain = subst (λ b. IsChainAt b c.in-Some.placed.mark.chain c.in-Some.placed.mark.length (chain_of f.stored)) (sym (c.last_under.ensures.kept told)) f.chain in
+    let bytes = c.in_ok-bytes.ensures.bytes told (chain_of f.stored) chain in
+    let count : c.in-Some.placed.mark.length ≡ length c.in_ok-bytes.bytes = chain.count_is ∙ ap length (sym bytes) in
+    let search_steps = c.last_under.ensures.steps told x held at d few in
+    let chain_steps = c.read_chain.ensures.steps in
+    let same = ap chain_blocks count in
+    omega (arith, search_steps, chain_steps, same)

@@ -1,0 +1,6 @@
+mod Headers
+mod RootSteps
+mod PieceSteps
+mod Assembling
+mod Stands
+mod HeldParts

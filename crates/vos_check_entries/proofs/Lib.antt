@@ -1,0 +1,4 @@
+mod Names
+mod NumberSteps
+mod Walking
+mod Gathering

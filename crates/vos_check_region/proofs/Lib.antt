@@ -1,0 +1,4 @@
+mod Zeros
+mod RangeSteps
+mod Judging
+mod Faults

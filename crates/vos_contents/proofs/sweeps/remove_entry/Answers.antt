@@ -1,0 +1,15 @@
+use Rattle.std.proofs.Common.{◌≡◌, true, false, arith}
+use Rattle.std.proofs.lemmas.List.Filters.{FiltersInPlace-more_swap, FiltersInPlace-more_no}
+use Rattle.daos_model.specs.Changes.{is_other}
+use Rattle.vos_contents.proofs.sweeps.remove_entry.Goals as goal
+use Rattle.vos_contents.proofs.sweeps.remove_entry.Goals.{then-not-is_entry_of, else-not-is_entry_of}
+
+pub loop-i-preserved : goal.loop-i-preserved
+loop-i-preserved c = elim c.if-not-is_entry_of.branch [
+  | then-not-is_entry_of w ↦
+      let stays : is_other c.args.attempt c.index.result.now ≡ true = cc in
+      rw (w.rows-is, w.kept-is) (FiltersInPlace-more_swap c.loop-i.invariant (omega arith) stays c.index.ensures w.swap.ensures.by_index)
+  | else-not-is_entry_of w ↦
+      let goes : is_other c.args.attempt c.index.result.now ≡ false = cc in
+      rw (w.rows-is, w.kept-is) (FiltersInPlace-more_no c.loop-i.invariant (omega arith) goes c.index.ensures)
+]

@@ -1,0 +1,4 @@
+pub mod Clients
+pub mod Contents
+pub mod Found
+pub mod Steps

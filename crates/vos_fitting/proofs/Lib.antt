@@ -1,0 +1,5 @@
+pub mod Alls
+pub mod Versions
+pub mod Logs
+pub mod Writes
+pub mod Entries

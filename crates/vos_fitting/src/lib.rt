@@ -1,0 +1,4 @@
+// What fits the layout stays fitting where a write or an entry comes, is settled or goes.
+#![tactic(auto)]
+
+pub mod laws;

@@ -1,0 +1,5 @@
+pub mod Lists
+pub mod Attempts
+pub mod Rising
+pub mod Settling
+pub mod Going

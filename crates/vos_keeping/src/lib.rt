@@ -1,0 +1,4 @@
+// What a target keeps where its versions and entries are settled or removed.
+#![tactic(auto)]
+
+pub mod laws;

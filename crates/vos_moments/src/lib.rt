@@ -1,0 +1,5 @@
+// Versions that are settled or pruned by the moments at which they were written.
+#![tactic(auto)]
+
+pub mod moments;
+pub mod steps;

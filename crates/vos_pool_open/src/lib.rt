@@ -1,0 +1,5 @@
+// A region becomes an open pool, or is refused.
+#![tactic(auto)]
+
+pub mod kept;
+pub mod look;

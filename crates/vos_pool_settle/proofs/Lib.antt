@@ -1,0 +1,4 @@
+pub mod Named
+pub mod Made
+pub mod Leaving
+pub mod Removed

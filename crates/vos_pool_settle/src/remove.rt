@@ -1,0 +1,35 @@
+// One version goes from an open pool.
+ghost use Rattle.vos_pool_base.specs.Tidy.{IfTidy};
+ghost use Rattle.vos_pool_settle.specs.Removing.{IsRemoval};
+ghost use Rattle.vos_turns.specs.Turns.{CanBeNamed};
+
+use base_outside::region::Region;
+use daos_model::durable::Version;
+use std::slice::from_ref;
+use vos_levels::change::Change;
+use vos_pool_base::opened::Opened;
+use vos_pool_turns::pool::turn_pool;
+use vos_store::refusal::Stopped;
+use vos_turns::entries::EntryStep;
+
+/// Removes a version that is done, by one commit. Of one that isn't nothing changes.
+///
+/// # Errors
+///
+/// `Stopped` comes only where a count of the region rose in this call, or it had stopped before.
+pub fn remove_version<R: Region>(
+    opened: Opened<R>,
+    version: &Version,
+) -> (Opened<R>, Result<(), Stopped>)
+    requires named { CanBeNamed version.now }
+    requires tidy { IfTidy R.tells R.extent R.image opened }
+    ensures { IsRemoval R.tells R.extent R.image R.may_leave R.count R.burns version.now opened result.0 result.1 }
+{
+    turn_pool(
+        opened,
+        Change::Prune,
+        from_ref(version),
+        version.by,
+        EntryStep::Keep,
+    )
+}

@@ -1,0 +1,4 @@
+pub mod Staging
+pub mod Making
+pub mod Lifting
+pub mod Saying

@@ -1,0 +1,5 @@
+// Changes of trees that are staged on the blocks of an open pool, and the commit that makes them.
+#![tactic(auto)]
+
+pub mod committing;
+pub mod laws;

@@ -1,0 +1,9 @@
+pub mod Lists
+pub mod Rooms
+pub mod Coming
+pub mod Stepping
+pub mod Sequence
+pub mod Prepared
+pub mod Tidying
+pub mod Whole
+pub mod Asking
