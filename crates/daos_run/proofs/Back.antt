@@ -31,7 +31,7 @@ use Rattle.report_round_trip.specs.Values.{AllTellBytes, HasByteAnswers, HasByte
 use Rattle.run_targets.specs.Below.{AllTellInOrder, AreAlike, AreFindable, CameInOrder, TellsInOrder}
 use Rattle.run_targets.specs.Ends.{IsKeyed, given_by}
 use Rattle.vos_store.specs.Calls.{State}
-use Rattle.world_contents.specs.gots.FormLaws.{ops-form}
+use Rattle.run_starts.specs.world_contents.gots.FormLaws.{ops-form}
 use Rattle.world_letters.specs.kinds.Fitting.{AllAnswersFit, AnswersFit, IsOfItsRead}
 
 -- what stands in the order of operations rises

@@ -21,7 +21,7 @@ use Rattle.daos_run.specs.Opens.{AreFirst, IsNew}
 use Rattle.script_traits.specs.Plain.{IsPlain, are_plain, is_plain}
 use Rattle.run_targets.specs.Ends.{AllTell, BeginsSo, HasStarted, HaveStarted, first_world, from-map, given_by, same-lists, stores_of, first_tracker, rules_of}
 use Rattle.run_targets.specs.Below.{TargetOf, state_of}
-use Rattle.target_parts.specs.Knowing.{IsHeard}
+use Rattle.run_starts.specs.target_parts.Knowing.{IsHeard}
 use Rattle.vos_store.specs.Calls.{State}
 use Rattle.world_base.specs.ClientTurns.{at_first, plan_of}
 use Rattle.world_base.specs.declared.client.ClientState.{ClientState}

@@ -4,8 +4,8 @@ use Rattle.std.proofs.Common.{inl}
 use Rattle.daos_model.specs.declared.durable.Durable.{Durable}
 use Rattle.daos_model.specs.Opening.{Given}
 use Rattle.daos_run.specs.Comes.{BreaksOff}
-use Rattle.run_opening.specs.All.{MayBeFound}
-use Rattle.run_opening.specs.Left.{IsLeftOf}
+use Rattle.run_starts.specs.run_opening.All.{MayBeFound}
+use Rattle.run_starts.specs.run_opening.Left.{IsLeftOf}
 use Rattle.run_starts.specs.Starts.{MayOpenAgain}
 
 -- the stores are as an opening left them

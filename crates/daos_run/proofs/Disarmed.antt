@@ -13,7 +13,7 @@ use Rattle.run_starts.specs.Calls.{AreTooMany}
 use Rattle.run_targets.specs.Ends.{one-there, same-lists}
 use Rattle.daos_run.specs.Slots.{AreAsBefore, AreSet, ClocksStay, EachStore, FromTo, FusesAreGone, HasNoFuse, IsAt, IsDisarmed, StoresAreServed, stores_in}
 use Rattle.daos_run.proofs.Places.{at-low, in-place, store-at, stores-many}
-use Rattle.run_opening.specs.All.{AreKept}
+use Rattle.run_starts.specs.run_opening.All.{AreKept}
 use Rattle.daos_run.proofs.Slots.{same-pair}
 use Rattle.vos_store.specs.Calls.{State}
 use Rattle.world_base.specs.StepLaws.{set-here, set-there, set-twice}

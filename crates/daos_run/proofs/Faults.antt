@@ -11,8 +11,8 @@ use Rattle.daos_run.specs.Stops.{HasRisen, IsOpeningFault, is_fault_of}
 use Rattle.daos_run.proofs.Places.{at-low}
 use Rattle.model_laws.specs.TargetLaws.{same_number}
 use Rattle.run_targets.specs.Below.{served-by-runs, served-on}
-use Rattle.target_parts.specs.Parts.{Runs}
-use Rattle.target_parts.specs.Readings.{IsReadOn, not-read_on}
+use Rattle.run_starts.specs.target_parts.Parts.{Runs}
+use Rattle.run_starts.specs.target_parts.Readings.{IsReadOn, not-read_on}
 use Rattle.vos_store.specs.Calls.{Ailed, Fires, SetsFuse, State}
 
 -- ---- one store

@@ -25,7 +25,7 @@ use Rattle.model_reports.specs.Rooms.{FindsRoom, HasPlaces, HasRoom, OnlyTransac
 use Rattle.daos_run.proofs.Begun.{lists-plain}
 use Rattle.daos_run.specs.Alone.{IsOfLoneClient}
 use Rattle.daos_run.specs.Comes.{ComesFrom, FindsPlaces}
-use Rattle.run_opening.specs.All.{MayBeFound}
+use Rattle.run_starts.specs.run_opening.All.{MayBeFound}
 use Rattle.daos_run.specs.Alone.{TellsOfLoneClient}
 use Rattle.run_targets.specs.Ends.{IsLegal, IsOutside, given_by, some-may_be, some_lasts}
 use Rattle.run_targets.specs.Below.{AreAlike, AreFindable}

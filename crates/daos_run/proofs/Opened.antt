@@ -14,16 +14,16 @@ use Rattle.daos_run.proofs.Places.{at-low, store-at, stores-many}
 use Rattle.daos_run.proofs.Slots.{same-pair}
 use Rattle.model_laws.specs.Lists.{at-within}
 use Rattle.run_targets.specs.Ends.{one-there, same-lists}
-use Rattle.run_opening.specs.All.{AllRun, AreKept, FromTo as ListsFromTo, MayBeFound}
-use Rattle.run_opening.specs.Left.{IsLeftOf}
-use Rattle.run_opening.specs.LeftLaws.{left-itself}
+use Rattle.run_starts.specs.run_opening.All.{AllRun, AreKept, FromTo as ListsFromTo, MayBeFound}
+use Rattle.run_starts.specs.run_opening.Left.{IsLeftOf}
+use Rattle.run_starts.specs.run_opening.LeftLaws.{left-itself}
 use Rattle.run_starts.specs.Calls.{RunAll, WhyNotOpened}
 use Rattle.run_starts.specs.Starts.{CanOpen, MayOpenAgain}
 use Rattle.run_starts.specs.Stops.{is_fault_of as is_start_fault}
 use Rattle.run_starts.specs.declared.stop.StartStop.{StartStop}
 use Rattle.run_starts.specs.declared.stop.StartStop.TheVariants as start
-use Rattle.target_parts.specs.Parts.{Runs}
-use Rattle.target_parts.specs.Running.{runs_as}
+use Rattle.run_starts.specs.target_parts.Parts.{Runs}
+use Rattle.run_starts.specs.target_parts.Running.{runs_as}
 use Rattle.vos_store.specs.Calls.{State}
 
 fault-same : (t : ℕ) (why : StartStop) → is_fault_of t (stopped_by why) ≡ is_start_fault t why

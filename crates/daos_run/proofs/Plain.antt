@@ -27,11 +27,11 @@ use Rattle.daos_run.specs.Stops.{HasRisen, IsOpeningFault, MayStop}
 use Rattle.daos_run.proofs.Places.{in-place, store-at, stores-many}
 use Rattle.daos_run.proofs.Unstopped.{no-down-told, no-stops-told}
 use Rattle.run_targets.specs.Ends.{IsInRealTime, IsKeyed, IsLegal, IsOrdered, IsOutside, from-map, given_by, legal-by-any, one-there, durables_of, AreIssuedThere, declared_conts, AtMostRises, cuts_and_failures_in, stop_lines_of}
-use Rattle.run_opening.specs.All.{AreKept}
-use Rattle.run_opening.specs.Laws.{AreUnused}
-use Rattle.run_opening.specs.Opened.{enlisted_family}
-use Rattle.run_opening.specs.FloorLaws.{unused-floored}
-use Rattle.run_opening.specs.UnusedLaws.{unused-open, unused-sound, unused-stand}
+use Rattle.run_starts.specs.run_opening.All.{AreKept}
+use Rattle.run_starts.specs.run_opening.Laws.{AreUnused}
+use Rattle.run_starts.specs.run_opening.Opened.{enlisted_family}
+use Rattle.run_starts.specs.run_opening.FloorLaws.{unused-floored}
+use Rattle.run_starts.specs.run_opening.UnusedLaws.{unused-open, unused-sound, unused-stand}
 use Rattle.run_starts.specs.Starts.{CanOpen}
 use Rattle.model_laws.specs.Lists.{at-within}
 use Rattle.std.proofs.lemmas.Option.{slice_get_within}

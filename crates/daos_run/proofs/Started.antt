@@ -13,7 +13,7 @@ use Rattle.daos_run.proofs.Slots.{at-end, length-end, same-pair}
 use Rattle.daos_run.proofs.Taking.{one-taken}
 use Rattle.run_targets.specs.Ends.{AreClocksAt}
 use Rattle.run_targets.specs.Below.{AreServed, IsServed, TargetOf, length-set}
-use Rattle.target_parts.specs.Readings.{IsReadOn}
+use Rattle.run_starts.specs.target_parts.Readings.{IsReadOn}
 use Rattle.vos_store.specs.Calls.{State}
 use Rattle.world_base.specs.StepLaws.{set-here, set-there}
 

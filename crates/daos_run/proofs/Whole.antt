@@ -29,8 +29,8 @@ use Rattle.daos_run.proofs.Places.{at-low, in-place, store-at, stores-back, stor
 use Rattle.daos_run.proofs.Slots.{same-pair}
 use Rattle.model_laws.specs.Lists.{at-within}
 use Rattle.run_targets.specs.Ends.{AllTell, BeginsSo, BreaksOffSo, ClocksGave, ComesTo, HaveStarted, IsOutside, IsSoundAgain, first_world, from-map, given_by, one-there, or_empty, same-lists, state_now, stores_of, rules_of, durable_of, durables_of}
-use Rattle.run_opening.specs.All.{AreKept, FromTo as ListsFromTo, MayBeFound}
-use Rattle.run_opening.specs.Opened.{lasting_snaps}
+use Rattle.run_starts.specs.run_opening.All.{AreKept, FromTo as ListsFromTo, MayBeFound}
+use Rattle.run_starts.specs.run_opening.Opened.{lasting_snaps}
 use Rattle.run_targets.specs.Below.{AreAlike, TargetOf, served-by-runs, served-on}
 use Rattle.run_starts.specs.Runs.{IsNew as IsNewTarget, IsNewWorld, opened-runs-begin}
 use Rattle.run_starts.specs.Starts.{AreOpened, BeginsAs, CanOpen, begun_family}

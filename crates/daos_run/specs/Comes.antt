@@ -10,9 +10,9 @@ use Rattle.daos_model.specs.Opening.{Given, Outside}
 use Rattle.model_reports.specs.Rooms.{HasPlaces}
 use Rattle.daos_run.specs.Slots.{AreClocksIn, stores_in}
 use Rattle.run_targets.specs.Ends.{ClocksGave, ComesTo, FollowsOrder, HasClock, IsOutside, StandsForAttempts, cuts_and_failures_in, memory_at_first, rules_of, declared_conts, stop_lines_of}
-use Rattle.run_opening.specs.All.{AreKept, FromTo, MayBeFound}
-use Rattle.run_opening.specs.Left.{IsLeftOf}
-use Rattle.run_opening.specs.Opened.{lasting_snaps}
+use Rattle.run_starts.specs.run_opening.All.{AreKept, FromTo, MayBeFound}
+use Rattle.run_starts.specs.run_opening.Left.{IsLeftOf}
+use Rattle.run_starts.specs.run_opening.Opened.{lasting_snaps}
 use Rattle.run_targets.specs.Below.{IsServed}
 use Rattle.run_starts.specs.Starts.{CanOpen, begun_family}
 use Rattle.script_traits.specs.Plain.{IsPlain}

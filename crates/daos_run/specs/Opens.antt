@@ -14,7 +14,7 @@ use Rattle.dtx_base.specs.Joining.{first_member}
 use Rattle.dtx_base.specs.Leading.{first_memory}
 use Rattle.run_targets.specs.Ends.{given_by}
 use Rattle.run_targets.specs.Below.{TargetOf}
-use Rattle.target_parts.specs.Knowing.{IsHeard}
+use Rattle.run_starts.specs.target_parts.Knowing.{IsHeard}
 use Rattle.vos_store.specs.Calls.{State}
 use Rattle.world_base.specs.ClientTurns.{at_first, plan_of}
 

@@ -2,7 +2,7 @@
 use Rattle.std.specs.Prelude.{ℕ, ◌≡◌, ◌≤◌, ◌<◌, true, false, List, [], ◌∷◌, length, slice_get, slice_set, Option, Some, None}
 use Rattle.daos_model.specs.declared.durable.Durable.{Durable}
 use Rattle.run_targets.specs.Below.{IsServed, TargetOf}
-use Rattle.target_parts.specs.Readings.{IsReadOn}
+use Rattle.run_starts.specs.target_parts.Readings.{IsReadOn}
 use Rattle.vos_store.specs.Calls.{SetsFuse, State}
 
 -- the target of a number has a store and a clock

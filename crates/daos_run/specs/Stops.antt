@@ -10,7 +10,7 @@ use Rattle.daos_run.specs.Slots.{AreSet, ClocksStay, FromTo, IsAt}
 use Rattle.run_starts.specs.Calls.{AreTooMany}
 use Rattle.run_starts.specs.declared.stop.StartStop.{StartStop}
 use Rattle.run_starts.specs.declared.stop.StartStop.TheVariants as start
-use Rattle.target_parts.specs.Parts.{Runs}
+use Rattle.run_starts.specs.target_parts.Parts.{Runs}
 use Rattle.vos_store.specs.Calls.{State}
 
 -- stores aren't opened, for this reason

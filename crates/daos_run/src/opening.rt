@@ -6,8 +6,8 @@ ghost use Rattle.daos_model.specs.declared.durable.Durable.{Durable};
 ghost use Rattle.daos_run.specs.Opens.{AreFirst};
 ghost use Rattle.daos_run.specs.Slots.{AreSet, EachStore, stores_in};
 ghost use Rattle.daos_run.specs.Stops.{ArePartsCalled, MayStop, stopped_by};
-ghost use Rattle.run_opening.specs.All.{AreKept, MayBeFound};
-ghost use Rattle.run_opening.specs.Left.{IsLeftOf};
+ghost use Rattle.run_starts.specs.run_opening.All.{AreKept, MayBeFound};
+ghost use Rattle.run_starts.specs.run_opening.Left.{IsLeftOf};
 ghost use Rattle.run_starts.specs.Starts.{AreOpened, CanOpen, MayOpenAgain};
 ghost use Rattle.run_targets.specs.Ends.{declared_conts};
 

@@ -16,7 +16,7 @@ ghost use Rattle.world_ended.specs.Clients.{AllEndWell};
 ghost use Rattle.world_letters.specs.kinds.Fitting.{AllAnswersFit};
 ghost use Rattle.run_targets.specs.Ends.{IsKeyed, IsReportOfLines, declared_conts};
 ghost use Rattle.report_round_trip.specs.Values.{AllTellBytes};
-ghost use Rattle.run_opening.specs.All.{AreKept, MayBeFound};
+ghost use Rattle.run_starts.specs.run_opening.All.{AreKept, MayBeFound};
 ghost use Rattle.run_starts.specs.Starts.{CanOpen};
 ghost use Rattle.base_types.specs.Scripts.{IsInForm};
 ghost use Rattle.script_traits.specs.Plain.{IsPlain};

@@ -5,6 +5,7 @@
 
 mod answers;
 mod asks;
+pub mod below;
 mod confirms;
 pub mod decisions;
 mod hearing;

@@ -2,6 +2,7 @@
 #![tactic(auto)]
 
 pub mod batch;
+pub mod below;
 pub mod bits;
 pub mod led;
 pub mod marks;

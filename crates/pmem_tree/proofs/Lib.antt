@@ -10,3 +10,5 @@ pub mod Found
 pub mod Valued
 pub mod Inserted
 pub mod Removed
+-- Lemmas of crates below, passed on to those above.
+pub use Rattle.pmem_pages.proofs as pmem_pages

@@ -1,6 +1,7 @@
 // Balanced trees of byte keys, whose nodes are blocks of any pages.
 #![tactic(auto)]
 
+pub mod below;
 mod grow;
 mod rejoin;
 mod shrink;

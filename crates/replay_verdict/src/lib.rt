@@ -3,4 +3,5 @@
 
 pub mod again;
 pub mod asks;
+pub mod below;
 pub mod verdict;

@@ -7,8 +7,8 @@ use Rattle.model_laws.specs.Lists.{at-within}
 use Rattle.model_laws.specs.Members.{Has, has-filter, has-left, has-right}
 use Rattle.base_messages.specs.declared.actor.ActorId.{ActorId}
 use Rattle.daos_model.specs.declared.durable.Durable.{Durable}
-use Rattle.dtx_base.specs.Joining.{is_inquiry_due}
-use Rattle.dtx_base.specs.Leading.{is_batch_due}
+use Rattle.world_base.specs.dtx_base.Joining.{is_inquiry_due}
+use Rattle.world_base.specs.dtx_base.Leading.{is_batch_due}
 use Rattle.run_base.specs.Picked.{none-to}
 use Rattle.run_base.specs.Picks.{actors, count_to, due, if_client_due, if_target_due, is_client_due, is_due, is_due_where, is_target_due, numbered}
 use Rattle.world_base.specs.declared.client.ClientPlan.{ClientPlan}

@@ -1,6 +1,6 @@
 // Which messages are without an answer.
 ghost use Rattle.std.specs.Prelude.{◌≡◌, ◌≤◌, ◌<◌, ◌+◌, length, position, vec_capacity, vec_len, IfSome, OnOk, IfOk};
-ghost use Rattle.dtx_base.specs.Leading.{attempts_of};
+ghost use Rattle.world_base.specs.dtx_base.Leading.{attempts_of};
 ghost use Rattle.run_base.specs.Letters.{kept_copy};
 ghost use Rattle.world_base.specs.Letters.{asked_after, asked_with, is_answer_to, is_answerable, is_reply, same_actor, same_ask, same_ids, without_first};
 

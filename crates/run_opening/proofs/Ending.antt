@@ -18,8 +18,8 @@ use Rattle.daos_model.specs.Ordered.{all_after, is_rising}
 use Rattle.dtx_base.specs.Leading.{entry_attempt}
 use Rattle.dtx_base.specs.RowLaws.{row-without}
 use Rattle.vos_store.specs.Conditions.{CanSettle, IsStep}
-use Rattle.world_commit.specs.attempts.Stored.{entry-committed, found-here}
-use Rattle.world_base.specs.EntryLaws.{entry-aborted_other}
+use Rattle.target_parts.specs.world_commit.attempts.Stored.{entry-committed, found-here}
+use Rattle.target_parts.specs.world_base.EntryLaws.{entry-aborted_other}
 use Rattle.run_opening.specs.Steps.{all_ended, all_forgotten, ended, ended_at, ending, forgotten}
 
 -- ---- which entries are found

@@ -20,7 +20,7 @@ use Rattle.run_opening.specs.Steps.{all_ended, all_forgotten, all_thawed, ended,
 use Rattle.run_opening.proofs.Ending.{at-read, more-ended, more-forgotten}
 use Rattle.run_opening.proofs.Thawing.{more-thawed}
 use Rattle.run_opening.proofs.Walks.{all-upto, same-at, still-run, there, upto}
-use Rattle.world_base.specs.StepLaws.{set-here, set-there}
+use Rattle.target_parts.specs.world_base.StepLaws.{set-here, set-there}
 
 -- ---- parts
 

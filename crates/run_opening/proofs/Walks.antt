@@ -17,7 +17,7 @@ use Rattle.target_parts.specs.Halts.{halt_stop}
 use Rattle.vos_store.specs.Calls.{State}
 use Rattle.vos_store.specs.Refusals.{always_stop, says}
 use Rattle.vos_store.specs.declared.refusal.Stopped.{Stopped}
-use Rattle.world_base.specs.StepLaws.{set-here, set-there}
+use Rattle.target_parts.specs.world_base.StepLaws.{set-here, set-there}
 use Rattle.run_opening.specs.declared.stop.OpeningStop.{OpeningStop}
 use Rattle.run_opening.specs.declared.stop.OpeningStop.TheVariants as stop
 use Rattle.run_opening.specs.All.{AllRun, AreEntries, EachCommitted, GoesAll, GoesAt, IsCommitted, IsOwn, RunAll, alike, is_fault_of, only, stop_at, wanting}

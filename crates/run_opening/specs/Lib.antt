@@ -13,3 +13,6 @@ pub mod Left
 pub mod LeftLaws
 pub mod EnlistLeft
 pub mod UnusedLaws
+-- What crates above name of those below, passed on to them.
+pub use Rattle.target_parts.specs as target_parts
+pub use Rattle.target_parts.specs.world_contents as world_contents

@@ -2,6 +2,7 @@
 #![tactic(auto)]
 
 mod attempts;
+pub mod below;
 mod each;
 pub mod opening;
 mod resolving;

@@ -11,18 +11,18 @@ use Rattle.run_laws.specs.shows.Reopening.{set-twice}
 use Rattle.run_laws.specs.shows.Turned.{AfterFailure, followed, swept_stage, with_between}
 use Rattle.run_watch.specs.Watches.{WatchNow, fuse_set, next_fuse, opened_again, opening_tried}
 use Rattle.run_stage.proofs.Stopping.{watched}
-use Rattle.target_core.specs.Targets.{OpensAs, TargetOf}
-use Rattle.target_parts.specs.Stops.{stop_foreign}
-use Rattle.target_parts.specs.declared.stop.TargetStop.{TargetStop}
-use Rattle.target_resync.specs.Openings.{IsBare, Left, Reopens, TellsRestart}
+use Rattle.run_laws.specs.target_core.Targets.{OpensAs, TargetOf}
+use Rattle.run_laws.specs.target_parts.Stops.{stop_foreign}
+use Rattle.run_laws.specs.target_parts.declared.stop.TargetStop.{TargetStop}
+use Rattle.run_laws.specs.target_resync.Openings.{IsBare, Left, Reopens, TellsRestart}
 use Rattle.vos_store.specs.Calls.{State}
 use Rattle.vos_store.specs.Refusals.{says}
 use Rattle.world_base.specs.declared.did.Did.{Did}
 use Rattle.world_base.specs.declared.target.Life.TheVariants.{Stopped}
 use Rattle.world_base.specs.Letters.{target}
-use Rattle.world_ended.specs.Asking.{Asked, TurnLeavesWith}
-use Rattle.world_letters.specs.kinds.PostLaws.{CarryNone}
-use Rattle.world_contents.specs.posts.Forms.{TurnFollows}
+use Rattle.run_laws.specs.world_ended.Asking.{Asked, TurnLeavesWith}
+use Rattle.run_laws.specs.world_letters.kinds.PostLaws.{CarryNone}
+use Rattle.run_laws.specs.world_contents.posts.Forms.{TurnFollows}
 
 -- what holds where a call fails holds where it may fail
 pub on-err : {T E : Type 0} (P : Type 0) (result : Result T E) → P → OnErr result P

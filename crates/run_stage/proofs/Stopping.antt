@@ -7,8 +7,8 @@ use Rattle.base_types.specs.declared.report.Line.{Line}
 use Rattle.run_laws.specs.shows.Stages.{StageNow}
 use Rattle.run_laws.specs.shows.Turned.{AfterCut, AfterFailure, AfterStop, ByForeign, ByStop, Failed, given_up_stage, stopped_stage, swept_stage}
 use Rattle.run_watch.specs.Watches.{FailsAgain, WatchNow}
-use Rattle.target_parts.specs.declared.stop.TargetStop.{TargetStop}
-use Rattle.target_parts.specs.declared.stop.TargetStop.TheVariants as stops
+use Rattle.run_laws.specs.target_parts.declared.stop.TargetStop.{TargetStop}
+use Rattle.run_laws.specs.target_parts.declared.stop.TargetStop.TheVariants as stops
 
 not-eight : (n : ℕ) → false ≡ (n == 8) → n ≡ 8 → ⊥
 not-eight n is same = let no : false ≡ true = is ∙ ap (λ m. m == 8) same in cc

@@ -5,28 +5,28 @@ use Rattle.base_messages.specs.declared.actor.ActorId.{ActorId}
 use Rattle.base_types.specs.declared.epoch.Epoch.{Epoch}
 use Rattle.base_types.specs.declared.id.AttemptId.{AttemptId}
 use Rattle.base_types.specs.declared.report.Line.{Line}
-use Rattle.client_core.specs.Clients.{ClientNow}
+use Rattle.run_laws.specs.client_core.Clients.{ClientNow}
 use Rattle.daos_model.specs.declared.durable.Durable.{Durable}
 use Rattle.run_base.specs.Letters.{BetweenNow, IsPicked}
 use Rattle.run_laws.specs.shows.Ends.{LettersGoWith}
 use Rattle.run_laws.specs.shows.Kinds.{TurnsOnce}
-use Rattle.world_ended.specs.Asking.{Asked, TurnsEndAsked}
+use Rattle.run_laws.specs.world_ended.Asking.{Asked, TurnsEndAsked}
 use Rattle.run_laws.specs.shows.Stages.{IsPlace, StageNow}
 use Rattle.run_laws.specs.shows.Steps.{ClientWorks, Cut, HasWorked, HeardOne, InWork, TargetBroke, TargetWorked, Whole, WorkEnds}
 use Rattle.run_laws.specs.shows.Turned.{AfterCut, HasTurned, followed, swept_stage, with_between, with_target_at}
-use Rattle.target_core.specs.Targets.{TargetOf}
-use Rattle.target_parts.specs.Parts.{Runs}
-use Rattle.target_snaps.specs.Following.{TellsNoAttempt}
-use Rattle.target_parts.specs.Readings.{IsReadOn}
-use Rattle.target_parts.specs.Stops.{stop_store}
-use Rattle.target_parts.specs.declared.stop.TargetStop.{TargetStop}
+use Rattle.run_laws.specs.target_core.Targets.{TargetOf}
+use Rattle.run_laws.specs.target_parts.Parts.{Runs}
+use Rattle.run_laws.specs.target_snaps.Following.{TellsNoAttempt}
+use Rattle.run_laws.specs.target_parts.Readings.{IsReadOn}
+use Rattle.run_laws.specs.target_parts.Stops.{stop_store}
+use Rattle.run_laws.specs.target_parts.declared.stop.TargetStop.{TargetStop}
 use Rattle.vos_store.specs.Calls.{State}
 use Rattle.world_base.specs.declared.did.Did.{Did}
 use Rattle.world_base.specs.declared.letter.Letter.{Letter}
 use Rattle.world_base.specs.declared.target.Life.TheVariants.{Running}
 use Rattle.world_base.specs.ClientTurns.{HearTurn}
 use Rattle.world_base.specs.Letters.{client, target}
-use Rattle.world_contents.specs.posts.Forms.{TurnsPostInForm}
+use Rattle.run_laws.specs.world_contents.posts.Forms.{TurnsPostInForm}
 
 abbrev between : List Letter → List Letter → List (AttemptId × Epoch) → List Line → BetweenNow
 between messages asked issued lines = record { messages = messages; asked = asked; issued = issued; lines = lines }

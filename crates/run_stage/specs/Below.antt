@@ -41,5 +41,5 @@ pub use Rattle.run_laws.specs.turns.Faults.{count-same, fault_by, faults_in_draw
 pub use Rattle.run_laws.specs.turns.Orders.{AndThen, ByDraws, ByRounds, Draws, HasIt, HasNone, InDraws, InOrder, InRounds, InTurn, NoDraw, NoRound, Nobody, OneDraw, OneRound, RoundOf, Rounds}
 pub use Rattle.run_laws.specs.turns.Readings.{HasGiven, readings_of}
 pub use Rattle.run_laws.specs.turns.Turns.{TurnOf, heard_in}
-pub use Rattle.target_core.specs.Targets.{TargetOf}
+pub use Rattle.run_laws.specs.target_core.Targets.{TargetOf}
 pub use Rattle.run_laws.specs.reports.Closings.{declared_conts, durable_of, durables_of, first_tracker, rules_of}

@@ -1,13 +1,13 @@
 // Which actors have something to do, and of how many messages they hear one.
 ghost use Rattle.std.specs.Prelude.{◌≡◌, ◌<◌, ◌≤◌, ◌||◌, ℕ, false, length, nat_lt, slice_get, true, IfOk, Some};
-ghost use Rattle.client_core.specs.Clients.{ClientNow};
+ghost use Rattle.run_laws.specs.client_core.Clients.{ClientNow};
 ghost use Rattle.daos_model.specs.declared.durable.Durable.{Durable};
 ghost use Rattle.run_base.specs.Picks.{count_to, heard_awake, is_due};
 ghost use Rattle.run_laws.specs.shows.Due.{AllAreDue, is_due_client};
 ghost use Rattle.run_laws.specs.shows.Shows.{Shows};
 ghost use Rattle.run_stage.specs.Now.{stage_now};
 ghost use Rattle.run_laws.specs.turns.Turns.{heard_where};
-ghost use Rattle.target_core.specs.Targets.{TargetOf};
+ghost use Rattle.run_laws.specs.target_core.Targets.{TargetOf};
 ghost use Rattle.world_base.specs.declared.target.Life.{Life};
 ghost use Rattle.world_base.specs.declared.world.World.{World};
 ghost use Rattle.world_base.specs.Events.{Rules};

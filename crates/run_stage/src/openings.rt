@@ -7,15 +7,15 @@ ghost use Rattle.run_laws.specs.shows.Steps.{TargetBroke, TargetReopened};
 ghost use Rattle.run_laws.specs.shows.Turned.{AfterFailure};
 ghost use Rattle.run_stage.specs.Now.{stage_now};
 ghost use Rattle.run_watch.specs.Watches.{next_fuse};
-ghost use Rattle.target_core.specs.Targets.{TargetOf};
+ghost use Rattle.run_laws.specs.target_core.Targets.{TargetOf};
 ghost use Rattle.world_base.specs.declared.target.Life.{Life};
 
 use crate::stage::Stage;
 use crate::turns::target_id;
 use base_outside::clock::Clock;
 use base_types::items::Memory;
+use run_laws::below::parts::stop::TargetStop;
 use std::alloc::AllocError;
-use target_parts::stop::TargetStop;
 use vos_store::store::Fuse;
 use world_base::did::Did;
 

@@ -6,11 +6,11 @@ ghost use Rattle.run_stage.specs.Now.{stage_now};
 use base_messages::actor::ActorId;
 use base_outside::clock::Clock;
 use base_types::items::Memory;
-use client_core::client::Client;
 use run_base::between::Between;
+use run_laws::below::client::client::Client;
+pub use run_laws::below::target::target::{Target, TargetNew};
 use run_watch::watch::Watch;
 use std::alloc::Global;
-pub use target_core::target::{Target, TargetNew};
 use vos_store::store::Store;
 use world_base::did::Did;
 

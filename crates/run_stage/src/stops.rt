@@ -2,7 +2,7 @@
 ghost use Rattle.std.specs.Prelude.{◌≡◌, ◌≤◌, ◌<◌, length, IfErr, OnOk, Some, slice_get};
 ghost use Rattle.run_laws.specs.shows.Turned.{AfterCut, AfterStop, given_up_stage, stopped_stage, swept_stage};
 ghost use Rattle.run_stage.specs.Now.{stage_now};
-ghost use Rattle.target_core.specs.Targets.{TargetOf};
+ghost use Rattle.run_laws.specs.target_core.Targets.{TargetOf};
 
 use crate::stage::Stage;
 use base_outside::clock::Clock;
@@ -10,8 +10,8 @@ use base_types::epoch::Epoch;
 use base_types::id::AttemptId;
 use base_types::items::Memory;
 use base_types::report::Lines;
+use run_laws::below::parts::stop::TargetStop;
 use std::alloc::AllocError;
-use target_parts::stop::TargetStop;
 use vos_store::store::Store;
 use world_base::target::Life;
 

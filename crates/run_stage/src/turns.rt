@@ -5,7 +5,7 @@ ghost use Rattle.run_laws.specs.shows.Accounts.{AreServed};
 ghost use Rattle.run_laws.specs.shows.CanGo.{CanTurn};
 ghost use Rattle.run_laws.specs.shows.Steps.{ClientTurned, ClientWorks, TargetBroke, TargetTurned};
 ghost use Rattle.run_stage.specs.Now.{stage_now};
-ghost use Rattle.target_core.specs.Targets.{TargetOf};
+ghost use Rattle.run_laws.specs.target_core.Targets.{TargetOf};
 ghost use Rattle.world_base.specs.declared.target.Life.{Life};
 ghost use Rattle.world_base.specs.Letters.{client, target};
 
@@ -13,8 +13,8 @@ use crate::stage::Stage;
 use base_messages::actor::ActorId;
 use base_outside::clock::Clock;
 use base_types::items::Memory;
-use client_core::client::Client;
 use run_base::between::Between;
+use run_laws::below::client::client::Client;
 use vos_store::store::{Fuse, Store};
 use world_base::did::Did;
 use world_base::target::Life;

@@ -14,8 +14,8 @@ use Rattle.model_laws.specs.Lists.{at-within}
 use Rattle.model_laws.specs.TargetLaws.{number_same, same_number}
 use Rattle.run_opening.specs.All.{AllRun, FromTo}
 use Rattle.run_opening.specs.Left.{Leaves, LeavesAll, LeavesAt, or_not}
-use Rattle.target_parts.specs.Parts.{Runs, StillRuns}
-use Rattle.target_parts.specs.Running.{runs_as, runs_call, runs_first}
+use Rattle.run_opening.specs.target_parts.Parts.{Runs, StillRuns}
+use Rattle.run_opening.specs.target_parts.Running.{runs_as, runs_call, runs_first}
 use Rattle.vos_store.specs.Answers.{IsManyShown, enlists}
 use Rattle.vos_store.specs.Calls.{Answers, Makes, State, Turns}
 use Rattle.vos_store.specs.Refusals.{always_stop, enlist_open, enlist_stop}

@@ -30,8 +30,8 @@ use Rattle.run_opening.specs.LeftLaws.{left-then}
 use Rattle.run_opening.specs.Opened.{AreInForm, enlisted_family, keeps, lasting_snaps, opened}
 use Rattle.run_opening.specs.SoundLaws.{at-mapped, opened-sound}
 use Rattle.run_opening.specs.StandLaws.{created-opened, opened-leases, opened-stands}
-use Rattle.target_parts.specs.Parts.{Runs}
-use Rattle.target_parts.specs.Running.{runs_as, runs_on}
+use Rattle.run_opening.specs.target_parts.Parts.{Runs}
+use Rattle.run_opening.specs.target_parts.Running.{runs_as, runs_on}
 use Rattle.vos_store.specs.Calls.{State}
 use Rattle.vos_store.specs.Refusals.{always_stop, says}
 use Rattle.world_closing.specs.stands.Lasting.{leases-below}

@@ -6,7 +6,7 @@ use Rattle.base_types.specs.Epochs.{restart_floor}
 use Rattle.daos_model.specs.declared.durable.Durable.{Durable}
 use Rattle.daos_model.specs.Changes.{enlisted}
 use Rattle.run_opening.specs.All.{FromTo}
-use Rattle.target_parts.specs.Parts.{Runs}
+use Rattle.run_opening.specs.target_parts.Parts.{Runs}
 use Rattle.vos_store.specs.Calls.{State}
 use Rattle.run_starts.specs.declared.stop.StartStop.{StartStop}
 use Rattle.run_starts.specs.declared.stop.StartStop.TheVariants as stop

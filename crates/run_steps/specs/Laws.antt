@@ -24,7 +24,7 @@ use Rattle.run_laws.specs.turns.Drawn.{AreDrawn, turn-runs-on}
 use Rattle.run_laws.specs.turns.Staying.{events-stay}
 use Rattle.run_laws.specs.steps.Ways.{Way, turn_of}
 use Rattle.run_steps.specs.Froms.{HasComeTo, HasEndedFrom, IsFrom, KeepsGoing}
-use Rattle.target_core.specs.Targets.{TargetOf}
+use Rattle.run_laws.specs.target_core.Targets.{TargetOf}
 use Rattle.vos_store.specs.Calls.{State}
 use Rattle.world_base.specs.declared.world.World.{World}
 use Rattle.world_base.specs.Events.{Rules}

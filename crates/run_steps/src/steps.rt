@@ -12,7 +12,7 @@ ghost use Rattle.run_laws.specs.shows.Stages.{AreFound, StageNow};
 ghost use Rattle.run_laws.specs.shows.Steps.{ClientTurned, TargetBroke, TargetTurned};
 ghost use Rattle.run_laws.specs.turns.Drawn.{AreDrawn};
 ghost use Rattle.run_steps.specs.Froms.{HasComeTo, HasEndedFrom, IsFrom, KeepsGoing};
-ghost use Rattle.target_core.specs.Targets.{TargetOf};
+ghost use Rattle.run_laws.specs.target_core.Targets.{TargetOf};
 ghost use Rattle.world_base.specs.declared.world.World.{World};
 ghost use Rattle.world_base.specs.Events.{Rules};
 

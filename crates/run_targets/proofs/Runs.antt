@@ -9,7 +9,7 @@ use Rattle.base_types.specs.declared.report.Line.{Line}
 use Rattle.base_types.specs.declared.report.Report.{Report}
 use Rattle.base_types.specs.declared.script.Script.{Script}
 use Rattle.base_types.specs.declared.script.StopDecl.{StopDecl}
-use Rattle.client_core.specs.Clients.{ClientNow}
+use Rattle.run_loop.specs.client_core.Clients.{ClientNow}
 use Rattle.daos_model.specs.Opening.{Given, Opening}
 use Rattle.daos_model.specs.declared.durable.Durable.{Durable}
 use Rattle.run_base.specs.Letters.{BetweenNow}

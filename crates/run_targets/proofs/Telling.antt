@@ -5,14 +5,14 @@ use Rattle.base_types.specs.declared.report.Line.{Line}
 use Rattle.base_types.specs.declared.report.Report.{Report}
 use Rattle.base_types.specs.declared.script.Command.{Command}
 use Rattle.base_types.specs.declared.script.Script.{Script}
-use Rattle.client_core.specs.Clients.{ClientNow}
+use Rattle.run_loop.specs.client_core.Clients.{ClientNow}
 use Rattle.daos_model.specs.FormLaws.{length-map}
 use Rattle.daos_model.specs.Opening.{Given}
 use Rattle.daos_model.specs.declared.durable.Durable.{Durable}
 use Rattle.run_loop.specs.Below.{AllBeginInTurn, AllTellInOrder, HaveStarted, StageNow, TargetOf, TellInTurn, from-map, map-get, report_with, state_of, tells-first, rules_of, first_tracker}
 use Rattle.report_round_trip.specs.Values.{AllTellBytes}
 use Rattle.vos_store.specs.Calls.{State}
-use Rattle.world_ended.specs.Clients.{AllEndWell}
+use Rattle.run_loop.specs.world_ended.Clients.{AllEndWell}
 use Rattle.world_letters.specs.kinds.Fitting.{AllAnswersFit}
 use Rattle.world_base.specs.ClientTurns.{at_first}
 

@@ -3,7 +3,7 @@ ghost use Rattle.std.specs.Prelude.{◌≡◌, ◌≤◌, ◌<◌, ℕ, IfErr, I
 ghost use Rattle.daos_model.specs.Opening.{Opening};
 ghost use Rattle.run_loop.specs.Below.{AllBeginInTurn, AllTell, AllTellInOrder, AreServed, BreaksOffSo, ComesByClocks, ComesTo, HaveStarted, IsReportOfLines, TargetOf, given_by, stores_of};
 ghost use Rattle.report_round_trip.specs.Values.{AllTellBytes};
-ghost use Rattle.world_ended.specs.Clients.{AllEndWell};
+ghost use Rattle.run_loop.specs.world_ended.Clients.{AllEndWell};
 ghost use Rattle.world_letters.specs.kinds.Fitting.{AllAnswersFit};
 
 use crate::fuses::{arm, disarm};
@@ -14,8 +14,8 @@ use base_types::items::Memory;
 use base_types::job::Job;
 use base_types::report::Report;
 use base_types::script::Script;
-use client_core::client::Client;
 use run_base::between::Between;
+use run_loop::below::client::client::Client;
 pub use run_loop::order::{Target, TargetNew};
 use run_loop::order::{Stage, run_in_order};
 use run_watch::watch::Watch;

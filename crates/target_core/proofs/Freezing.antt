@@ -44,7 +44,7 @@ use Rattle.world_base.specs.Statuses.{EndsAs, IsDone, ask_left, reset_left, stat
 use Rattle.world_base.specs.Idle.{IdleNext}
 use Rattle.world_base.specs.TargetTurns.{Hears, commit_request}
 use Rattle.world_base.specs.Turns.{Reached}
-use Rattle.world_letters.specs.snapshots.Memories.{ack-same, plain-same}
+use Rattle.target_reads.specs.world_letters.snapshots.Memories.{ack-same, plain-same}
 use Rattle.target_parts.specs.declared.stop.TargetStop.{TargetStop}
 use Rattle.target_parts.specs.declared.stop.TargetStop.TheVariants as stop
 use Rattle.target_parts.specs.Parts.{Partway, kept}

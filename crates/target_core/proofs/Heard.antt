@@ -57,8 +57,8 @@ use Rattle.target_snaps.specs.LossTurns.{LossTurn}
 use Rattle.target_snaps.specs.PruneTurns.{PruneTurn}
 use Rattle.target_snaps.specs.SnapTurns.{SnapTurn}
 use Rattle.target_writes.specs.Turns.{CommitTurn, DownTurn, PrepareTurn}
-use Rattle.world_contents.specs.posts.Forms.{IsCollecting}
-use Rattle.world_ended.specs.Asking.{Asked, AsksSo, GoesWith}
+use Rattle.target_parts.specs.world_contents.posts.Forms.{IsCollecting}
+use Rattle.target_reads.specs.world_ended.Asking.{Asked, AsksSo, GoesWith}
 use Rattle.target_core.specs.Targets.{Further, HasFormAfterStops, HasFormOfMaking, Heard, HearsNoFurther, HearsOrStops, HearsPartway, IdlesOrStops, IsKeptByCut, Plainly, is_collecting, is_making}
 use Rattle.target_core.proofs.Cutting.{commit-issues, cut-turn, fetch-issues, stops-there}
 

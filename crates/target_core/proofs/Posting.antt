@@ -17,8 +17,8 @@ use Rattle.model_laws.specs.Members.{Has}
 use Rattle.snap_core.specs.Snaps.{SnapOf, remembered}
 use Rattle.vos_store.specs.Calls.{State}
 use Rattle.base_messages.specs.declared.message.Post.{Post}
-use Rattle.world_contents.specs.posts.Forms.{PostsInForm, TargetPosts, TurnsPostInForm, leaders-post}
-use Rattle.world_ended.specs.Asking.{Asked, EndsAsked, LeavesWith, PostsGoWith, TurnLeavesWith, TurnsEndAsked, leaders-end}
+use Rattle.target_parts.specs.world_contents.posts.Forms.{PostsInForm, TargetPosts, TurnsPostInForm, leaders-post}
+use Rattle.target_reads.specs.world_ended.Asking.{Asked, EndsAsked, LeavesWith, PostsGoWith, TurnLeavesWith, TurnsEndAsked, leaders-end}
 use Rattle.target_parts.specs.Standing.{TurnRuns}
 use Rattle.target_parts.specs.Stops.{IsSilent}
 use Rattle.target_snaps.specs.Following.{MakesAsked, MakesInForm, TellsNoAttempt}

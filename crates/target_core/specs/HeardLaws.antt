@@ -10,7 +10,7 @@ use Rattle.base_messages.specs.declared.message.Message.{Message}
 use Rattle.base_messages.specs.declared.message.Message.TheVariants as message
 use Rattle.dtx_base.specs.Leading.{first_down, is_down_among}
 use Rattle.dtx_base.specs.Members.{all_targets, has_target}
-use Rattle.world_commit.specs.attempts.MemberBits.{has-none}
+use Rattle.target_parts.specs.world_commit.attempts.MemberBits.{has-none}
 use Rattle.world_base.specs.declared.did.Did.{Did}
 use Rattle.world_base.specs.declared.target.TargetMemory.{TargetMemory}
 use Rattle.world_base.specs.declared.target.TargetPlan.{TargetPlan}

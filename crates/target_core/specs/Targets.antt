@@ -31,7 +31,7 @@ use Rattle.world_base.specs.Snapshots as snap
 use Rattle.world_base.specs.Statuses.{Looking, NoChange, opening_memory, status_refusal}
 use Rattle.world_base.specs.TargetTurns.{Hears, IdlesWhole, commit_request, fetch_request, prepare_request}
 use Rattle.world_base.specs.Verdicts as verdict
-pub use Rattle.world_contents.specs.posts.Forms.{HasForm, HasFormAfterStops, HasFormOfMaking, IsInForm, is_collecting, is_of_client}
+pub use Rattle.target_parts.specs.world_contents.posts.Forms.{HasForm, HasFormAfterStops, HasFormOfMaking, IsInForm, is_collecting, is_of_client}
 use Rattle.target_parts.specs.declared.stop.TargetStop.{TargetStop}
 use Rattle.target_parts.specs.declared.stop.TargetStop.TheVariants as stop
 use Rattle.target_parts.specs.Parts.{Now, Partway, kept, left_by}

@@ -1,9 +1,9 @@
 // A target hears what comes of stops.
 ghost use Rattle.std.specs.Prelude.{◌≡◌, ℕ, IfOk, Some, false, []};
-ghost use Rattle.world_ended.specs.Asking.{Asked, EndsAsked, GoesWith};
-ghost use Rattle.world_letters.specs.kinds.Loads.{AnswersOnce};
+ghost use Rattle.target_reads.specs.world_ended.Asking.{Asked, EndsAsked, GoesWith};
+ghost use Rattle.target_reads.specs.world_letters.kinds.Loads.{AnswersOnce};
 ghost use Rattle.daos_model.specs.declared.durable.Durable.{Durable};
-ghost use Rattle.world_contents.specs.posts.Forms.{PostsInForm};
+ghost use Rattle.target_parts.specs.world_contents.posts.Forms.{PostsInForm};
 ghost use Rattle.snap_core.specs.Snaps.{SnapOf, remembered};
 ghost use Rattle.target_parts.specs.Knowing.{memory_of};
 ghost use Rattle.target_parts.specs.Standing.{IsTarget, TurnRuns};

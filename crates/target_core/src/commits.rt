@@ -1,11 +1,11 @@
 // A target hears a Commit, whether or not a member is known to be down.
 ghost use Rattle.std.specs.Prelude.{◌≡◌, ℕ, IfOk, IfSome, Some, is_some, true, false, []};
-ghost use Rattle.world_ended.specs.Asking.{Asked, EndsAsked};
-ghost use Rattle.world_letters.specs.kinds.Loads.{AnswersOnce};
+ghost use Rattle.target_reads.specs.world_ended.Asking.{Asked, EndsAsked};
+ghost use Rattle.target_reads.specs.world_letters.kinds.Loads.{AnswersOnce};
 ghost use Rattle.std.specs.Option.{ForSome};
 ghost use Rattle.base_messages.specs.declared.message.Message.TheVariants as message;
 ghost use Rattle.daos_model.specs.declared.durable.Durable.{Durable};
-ghost use Rattle.world_contents.specs.posts.Forms.{AreWrites, PostsInForm};
+ghost use Rattle.target_parts.specs.world_contents.posts.Forms.{AreWrites, PostsInForm};
 ghost use Rattle.snap_core.specs.Snaps.{SnapOf, remembered};
 ghost use Rattle.target_parts.specs.Knowing.{memory_of};
 ghost use Rattle.target_parts.specs.Readings.{IsReadBy};
@@ -16,9 +16,9 @@ ghost use Rattle.target_writes.specs.Checks.{CanCommit};
 use base_messages::actor::ActorId;
 use base_outside::clock::Clock;
 use std::alloc::Global;
-use target_members::members::members_of;
 use target_parts::knows::Knows;
 use target_parts::stop::TargetStop;
+use target_writes::below::members::members::members_of;
 use target_writes::commits::hear_commit;
 use target_writes::downs::hear_commit_down;
 use vos_store::store::Store;

@@ -7,12 +7,12 @@ use Rattle.base_types.specs.declared.entry.Entry.{Entry}
 use Rattle.base_messages.specs.declared.message.Post.{Post}
 use Rattle.dtx_base.specs.declared.leading.LeaderMemory.{LeaderMemory}
 use Rattle.dtx_base.specs.Joining.{MemberOf, inquired, member_step}
-use Rattle.world_letters.specs.kinds.PostLaws.{CarryNone, inquiries-carry, none-carried}
+use Rattle.world_ended.specs.world_letters.kinds.PostLaws.{CarryNone, inquiries-carry, none-carried}
 use Rattle.target_dtx.specs.Dtx.{asks_if}
 use Rattle.target_parts.specs.declared.stop.TargetStop.{TargetStop}
 use Rattle.world_base.specs.declared.did.Did.{Did}
-use Rattle.world_contents.specs.posts.Forms.{PostsInForm, TargetPosts}
-use Rattle.world_contents.specs.posts.Posting.{goes-on, inquiries-are-in-form}
+use Rattle.target_parts.specs.world_contents.posts.Forms.{PostsInForm, TargetPosts}
+use Rattle.target_parts.specs.world_contents.posts.Posting.{goes-on, inquiries-are-in-form}
 
 -- the Queries of idle work
 pub inquired-posts : (targets : ℕ) (es : List Entry) (s new : MemberOf) (posts : List Post) → member_step new (record { posts = posts; again = [] }) ≡ inquired es s → TargetPosts targets posts

@@ -1,7 +1,7 @@
 // A target hears a Mark.
 ghost use Rattle.std.specs.Prelude.{◌≡◌, IfOk, OnOk, Some, false, []};
 ghost use Rattle.world_ended.specs.Asking.{Asked, EndsAsked};
-ghost use Rattle.world_letters.specs.kinds.Loads.{AnswersOnce};
+ghost use Rattle.world_ended.specs.world_letters.kinds.Loads.{AnswersOnce};
 ghost use Rattle.std.specs.Option.{ForSome};
 ghost use Rattle.daos_model.specs.declared.durable.Durable.{Durable};
 ghost use Rattle.dtx_base.specs.Leading.{attempts_of};
@@ -9,7 +9,7 @@ ghost use Rattle.vos_store.specs.Refusals.{always_stop, says};
 ghost use Rattle.world_base.specs.Marks.{MarkEnds, MarkNext, marked_step};
 ghost use Rattle.world_base.specs.Roles.{is_prepared, told_of_all};
 ghost use Rattle.world_base.specs.Turns.{Whole};
-ghost use Rattle.world_contents.specs.posts.Forms.{PostsInForm};
+ghost use Rattle.target_parts.specs.world_contents.posts.Forms.{PostsInForm};
 ghost use Rattle.target_parts.specs.Keeping.{IsEnding};
 ghost use Rattle.target_parts.specs.Knowing.{LeadsWell, memory_of};
 ghost use Rattle.target_parts.specs.Parts.{kept};

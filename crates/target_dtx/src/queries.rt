@@ -1,12 +1,12 @@
 // A leader hears a Query.
 ghost use Rattle.std.specs.Prelude.{◌≡◌, IfOk, Some, false};
 ghost use Rattle.world_ended.specs.Asking.{Asked, PostsGoWith};
-ghost use Rattle.world_letters.specs.kinds.PostLaws.{CarryNone};
+ghost use Rattle.world_ended.specs.world_letters.kinds.PostLaws.{CarryNone};
 ghost use Rattle.daos_model.specs.declared.durable.Durable.{Durable};
 ghost use Rattle.vos_store.specs.Refusals.{says};
 ghost use Rattle.world_base.specs.Turns.{Whole};
 ghost use Rattle.world_base.specs.Verdicts.{QueryEnds, QueryNext, QueryStage};
-ghost use Rattle.world_contents.specs.posts.Forms.{TargetPosts};
+ghost use Rattle.target_parts.specs.world_contents.posts.Forms.{TargetPosts};
 ghost use Rattle.target_parts.specs.Knowing.{memory_of};
 ghost use Rattle.target_parts.specs.Parts.{kept};
 ghost use Rattle.target_parts.specs.Stops.{IsSilent, Turn, never, stop_foreign, stop_store};

@@ -1,2 +1,4 @@
 -- Laws of the members of an attempt.
 pub mod Membership
+-- What crates above name of those below, passed on to them.
+pub use Rattle.dtx_table.specs as dtx_table

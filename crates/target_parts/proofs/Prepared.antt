@@ -6,10 +6,10 @@ use Rattle.base_types.specs.declared.entry.Settle.TheVariants.{Commit, Abort, Co
 use Rattle.base_types.specs.declared.id.AttemptId.{AttemptId}
 use Rattle.daos_model.specs.declared.durable.Durable.{Durable}
 use Rattle.daos_model.specs.Durables.{entry_of}
-use Rattle.dtx_entries.specs.Settling as table
-use Rattle.dtx_entries.specs.Settling.{entry_in}
+use Rattle.dtx_leader.specs.dtx_entries.Settling as table
+use Rattle.dtx_leader.specs.dtx_entries.Settling.{entry_in}
 use Rattle.vos_store.specs.Conditions.{CanSettle, IsStep}
-use Rattle.world_base.specs.Roles.{is_open_entry, is_prepared}
+use Rattle.world_contents.specs.world_base.Roles.{is_open_entry, is_prepared}
 use Rattle.target_parts.specs.Keeping.{IsEnding}
 
 -- what the entries that are known tell is so of those that are kept

@@ -7,7 +7,7 @@ use Rattle.daos_model.specs.Changes.{leased}
 use Rattle.vos_store.specs.Calls.{Makes, State, Turns}
 use Rattle.vos_store.specs.Refusals.{always_stop}
 use Rattle.vos_store.specs.declared.refusal.Stopped.{Stopped}
-use Rattle.world_base.specs.Changes.{After, Before, Change, Extends, cost, made}
+use Rattle.world_contents.specs.world_base.Changes.{After, Before, Change, Extends, cost, made}
 use Rattle.target_parts.specs.Covers.{CoversOrCut, WasExtended}
 use Rattle.target_parts.specs.Parts.{WasCut, kept, left_by}
 

@@ -7,8 +7,8 @@ use Rattle.daos_hlc.specs.Clock.{Clock, next_ticks}
 use Rattle.daos_model.specs.declared.durable.Durable.{Durable}
 use Rattle.vos_store.specs.Calls.{State}
 use Rattle.vos_store.specs.declared.refusal.Stopped.{Stopped}
-use Rattle.world_base.specs.Changes.{Extends, Kept}
-use Rattle.world_base.specs.Requests.{epoch_of_ticks}
+use Rattle.world_contents.specs.world_base.Changes.{Extends, Kept}
+use Rattle.world_contents.specs.world_base.Requests.{epoch_of_ticks}
 use Rattle.target_parts.specs.Parts.{Did, Stays, WasCut, kept, left_by}
 
 -- the lease covers the ticks: it did, or it was extended

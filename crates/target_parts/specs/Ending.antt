@@ -5,9 +5,9 @@ use Rattle.base_types.specs.declared.epoch.Epoch.{Epoch}
 use Rattle.base_types.specs.declared.id.AttemptId.{AttemptId}
 use Rattle.daos_model.specs.declared.durable.Durable.{Durable}
 use Rattle.vos_store.specs.Calls.{State}
-use Rattle.world_base.specs.declared.did.Did.{Did}
-use Rattle.world_base.specs.Changes.{Change, Kept}
-use Rattle.world_base.specs.Turns.{CutShort, Reached, Whole}
+use Rattle.world_contents.specs.world_base.declared.did.Did.{Did}
+use Rattle.world_contents.specs.world_base.Changes.{Change, Kept}
+use Rattle.world_contents.specs.world_base.Turns.{CutShort, Reached, Whole}
 use Rattle.target_parts.specs.declared.halt.Halt.{Halt}
 use Rattle.target_parts.specs.declared.halt.Halt.TheVariants as halt
 use Rattle.target_parts.specs.declared.stop.TargetStop.{TargetStop}
@@ -15,7 +15,7 @@ use Rattle.target_parts.specs.declared.stop.TargetStop.TheVariants as stop
 use Rattle.target_parts.specs.Parts.{Now, Part, Partway, left_by}
 use Rattle.target_parts.specs.Stops.{Turn, stop_memory, stop_of, stop_store}
 use Rattle.target_parts.specs.Turning.{reached_on}
-use Rattle.world_base.specs.PathLaws.{whole-on}
+use Rattle.world_contents.specs.world_base.PathLaws.{whole-on}
 
 -- a clock that tells its next reading gives that; another one gives some
 pub some_reading : (next : Option ℕ) → (r : ℕ) × IfSome next (λ x. x ≡ r)

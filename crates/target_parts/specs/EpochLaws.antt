@@ -8,9 +8,9 @@ use Rattle.base_types.specs.Epochs.{epoch_at, issued_ticks, last_ticks}
 use Rattle.daos_hlc.specs.Clock.{Clock, next_ticks, within_last}
 use Rattle.daos_model.specs.declared.durable.Durable.{Durable}
 use Rattle.daos_model.specs.Durables.{IsInForm}
-use Rattle.world_base.specs.declared.target.TargetMemory.{TargetMemory}
-use Rattle.world_base.specs.declared.target.TargetPlan.{TargetPlan}
-use Rattle.world_base.specs.Requests.{epoch_of_ticks, request_epoch}
+use Rattle.world_contents.specs.world_base.declared.target.TargetMemory.{TargetMemory}
+use Rattle.world_contents.specs.world_base.declared.target.TargetPlan.{TargetPlan}
+use Rattle.world_contents.specs.world_base.Requests.{epoch_of_ticks, request_epoch}
 use Rattle.target_parts.specs.Covers.{epoch_for}
 use Rattle.target_parts.specs.Knowing.{HasEpochs, IsHeard, LeadsWell}
 

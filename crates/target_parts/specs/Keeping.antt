@@ -5,7 +5,7 @@ use Rattle.base_types.specs.declared.entry.Settle.TheVariants.{Commit, Abort, Co
 use Rattle.daos_model.specs.declared.durable.Durable.{Durable}
 use Rattle.vos_store.specs.Calls.{State}
 use Rattle.vos_store.specs.declared.refusal.Stopped.{Stopped}
-use Rattle.world_base.specs.Changes.{Change}
+use Rattle.world_contents.specs.world_base.Changes.{Change}
 use Rattle.target_parts.specs.Parts.{Did, Stays, WasCut, kept, left_by}
 
 -- a change was made, or was cut

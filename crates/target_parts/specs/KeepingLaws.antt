@@ -10,7 +10,7 @@ use Rattle.base_types.specs.declared.id.AttemptId.{AttemptId}
 use Rattle.base_types.specs.declared.id.ContId.{ContId}
 use Rattle.base_types.specs.declared.operation.MinorWrite.{MinorWrite}
 use Rattle.base_types.specs.Operations.{read_path}
-use Rattle.model_laws.specs.Members.{Has, has-from_filter}
+use Rattle.world_contents.specs.model_laws.Members.{Has, has-from_filter}
 use Rattle.base_messages.specs.declared.message.Message.{Message}
 use Rattle.base_messages.specs.declared.message.Message.TheVariants.{Fetch}
 use Rattle.daos_model.specs.declared.durable.Durable.{Durable}
@@ -28,15 +28,15 @@ use Rattle.dtx_base.specs.LeaderLaws.{same-is}
 use Rattle.dtx_base.specs.Leading.{forgotten, undecided_attempt}
 use Rattle.dtx_base.specs.RowLaws.{row-is, row-map, row-without}
 use Rattle.dtx_base.specs.Rows.{itself, without_row}
-use Rattle.dtx_entries.specs.Settling.{entries_settled}
-use Rattle.world_base.specs.declared.target.TargetMemory.{TargetMemory}
-use Rattle.world_base.specs.declared.target.TargetPlan.{TargetPlan}
+use Rattle.dtx_leader.specs.dtx_entries.Settling.{entries_settled}
+use Rattle.world_contents.specs.world_base.declared.target.TargetMemory.{TargetMemory}
+use Rattle.world_contents.specs.world_base.declared.target.TargetPlan.{TargetPlan}
 use Rattle.vos_store.specs.Conditions.{CanSettle}
 use Rattle.target_parts.specs.Knowing.{AreAsksHere, AreRowsOpen, IsApart, IsAskHere, IsHeard, IsOpenHere, LeadsWell}
 use Rattle.world_contents.specs.reads.ChangeLaws.{other-entry}
-use Rattle.world_base.specs.ChangeLaws.{entries-leased, lease-settled}
-use Rattle.world_base.specs.DoubtLaws.{IsLedElsewhere}
-use Rattle.world_base.specs.EntryLaws.{entry-prepared_other}
+use Rattle.world_contents.specs.world_base.ChangeLaws.{entries-leased, lease-settled}
+use Rattle.world_contents.specs.world_base.DoubtLaws.{IsLedElsewhere}
+use Rattle.world_contents.specs.world_base.EntryLaws.{entry-prepared_other}
 
 -- ---- entries
 

@@ -3,7 +3,7 @@ use Rattle.std.specs.Prelude.{ℕ, ◌≡◌, ◌≤◌, ◌/◌, ◌^◌, ◌<�
 use Rattle.base_types.specs.declared.entry.Entry.{Entry}
 use Rattle.base_types.specs.declared.id.AttemptId.{AttemptId}
 use Rattle.base_types.specs.Operations.{read_path}
-use Rattle.model_laws.specs.Members.{Has}
+use Rattle.world_contents.specs.model_laws.Members.{Has}
 use Rattle.base_messages.specs.declared.message.Message.{Message}
 use Rattle.base_messages.specs.declared.message.Message.TheVariants.{Fetch}
 use Rattle.daos_model.specs.declared.durable.Durable.{Durable}
@@ -13,8 +13,8 @@ use Rattle.dtx_base.specs.declared.leading.LeaderMemory.{LeaderMemory}
 use Rattle.dtx_base.specs.declared.leading.Undecided.{Undecided}
 use Rattle.dtx_base.specs.declared.member.MemberMemory.{MemberMemory}
 use Rattle.dtx_base.specs.declared.member.Parked.{Parked}
-use Rattle.world_base.specs.declared.target.TargetMemory.{TargetMemory}
-use Rattle.world_base.specs.declared.target.TargetPlan.{TargetPlan}
+use Rattle.world_contents.specs.world_base.declared.target.TargetMemory.{TargetMemory}
+use Rattle.world_contents.specs.world_base.declared.target.TargetPlan.{TargetPlan}
 pub use Rattle.world_contents.specs.posts.Forms.{IsReadAsked}
 use Rattle.target_parts.specs.declared.knows.Knows.{Knows}
 

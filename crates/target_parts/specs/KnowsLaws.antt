@@ -8,11 +8,11 @@ use Rattle.daos_model.specs.declared.durable.Durable.{Durable}
 use Rattle.dtx_base.specs.declared.leading.LeaderMemory.{LeaderMemory}
 use Rattle.dtx_base.specs.declared.member.MemberMemory.{MemberMemory}
 use Rattle.dtx_base.specs.Leading.{LeaderOf, is_led}
-use Rattle.dtx_table.specs.declared.seat.Seat.{Seat}
-use Rattle.dtx_table.specs.Seats.{leader_of}
-use Rattle.world_base.specs.declared.target.TargetMemory.{TargetMemory}
-use Rattle.world_base.specs.declared.target.TargetPlan.{TargetPlan}
-use Rattle.world_base.specs.Roles.{leader_at}
+use Rattle.dtx_leader.specs.dtx_table.declared.seat.Seat.{Seat}
+use Rattle.dtx_leader.specs.dtx_table.Seats.{leader_of}
+use Rattle.world_contents.specs.world_base.declared.target.TargetMemory.{TargetMemory}
+use Rattle.world_contents.specs.world_base.declared.target.TargetPlan.{TargetPlan}
+use Rattle.world_contents.specs.world_base.Roles.{leader_at}
 use Rattle.target_parts.specs.declared.knows.Knows.{Knows}
 use Rattle.target_parts.specs.Knowing.{AreParkable, IsBeside, IsOwn, memory_of}
 

@@ -20,3 +20,8 @@ pub mod Listing
 pub mod EpochLaws
 pub mod Readings
 pub mod Standing
+-- What crates above name of those below, passed on to them.
+pub use Rattle.dtx_leader.specs.dtx_table as dtx_table
+pub use Rattle.world_contents.specs.world_base as world_base
+pub use Rattle.world_contents.specs.world_commit as world_commit
+pub use Rattle.world_contents.specs as world_contents

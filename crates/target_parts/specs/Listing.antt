@@ -1,12 +1,12 @@
 -- A turn that goes through a list, whose stages are what is left of it.
 use Rattle.std.proofs.Common.{ℕ, ◌≡◌, ◌<◌, ◌≤◌, ◌+◌, refl, subst, Bool, true, false, List, [], ◌∷◌, length, drop, get_or, Option, Some, None, Ok, Err}
 use Rattle.std.proofs.Math.ListN.{drop_of_length-le}
-use Rattle.model_laws.specs.Lists.{drop-item}
+use Rattle.world_contents.specs.model_laws.Lists.{drop-item}
 use Rattle.daos_model.specs.declared.durable.Durable.{Durable}
 use Rattle.vos_store.specs.Calls.{State}
 use Rattle.vos_store.specs.declared.refusal.Stopped.{Stopped}
-use Rattle.world_base.specs.Changes.{Change, Kept, made}
-use Rattle.world_base.specs.Turns.{CutShort, Reached}
+use Rattle.world_contents.specs.world_base.Changes.{Change, Kept, made}
+use Rattle.world_contents.specs.world_base.Turns.{CutShort, Reached}
 use Rattle.target_parts.specs.Keeping.{MadeIf}
 use Rattle.target_parts.specs.Parts.{Now, kept, left_by}
 use Rattle.target_parts.specs.Turning.{cut_in_change, now_stays, reached_change, reached_silent}

@@ -7,12 +7,12 @@ use Rattle.base_types.specs.declared.entry.Settle.{Settle}
 use Rattle.base_types.specs.declared.id.AttemptId.{AttemptId}
 use Rattle.daos_model.specs.declared.durable.Durable.{Durable}
 use Rattle.daos_model.specs.Changes.{settled}
-use Rattle.dtx_entries.specs.Settling.{entries_settled}
+use Rattle.dtx_leader.specs.dtx_entries.Settling.{entries_settled}
 use Rattle.vos_store.specs.Calls.{State}
 use Rattle.vos_store.specs.declared.refusal.Stopped.{Stopped}
-use Rattle.world_base.specs.declared.target.TargetMemory.{TargetMemory}
-use Rattle.world_base.specs.declared.target.TargetPlan.{TargetPlan}
-use Rattle.world_base.specs.Changes.{Change, Settles}
+use Rattle.world_contents.specs.world_base.declared.target.TargetMemory.{TargetMemory}
+use Rattle.world_contents.specs.world_base.declared.target.TargetPlan.{TargetPlan}
+use Rattle.world_contents.specs.world_base.Changes.{Change, Settles}
 use Rattle.target_parts.specs.Keeping.{MadeIf, MadeOrCut}
 use Rattle.target_parts.specs.KeepingLaws.{leads-same, leads-settled}
 use Rattle.target_parts.specs.Knowing.{IsApart, LeadsWell}

@@ -5,8 +5,8 @@ use Rattle.vos_store.specs.Calls.{Ailed, Fires, IsUnfailing, State}
 use Rattle.vos_store.specs.Refusals.{always_stop, says}
 use Rattle.vos_store.specs.Unfailing.{RunsOn}
 use Rattle.vos_store.specs.declared.refusal.Stopped.{Stopped}
-use Rattle.world_base.specs.Changes.{Change, IsAskedAlone, IsCut, Kept, cost, made}
-use Rattle.world_base.specs.Turns.{CutShort, Reached}
+use Rattle.world_contents.specs.world_base.Changes.{Change, IsAskedAlone, IsCut, Kept, cost, made}
+use Rattle.world_contents.specs.world_base.Turns.{CutShort, Reached}
 use Rattle.target_parts.specs.declared.halt.Halt.{Halt}
 use Rattle.target_parts.specs.declared.halt.Halt.TheVariants as halt
 

@@ -4,17 +4,17 @@ use Rattle.std.proofs.Common.{ap, subst, sym}
 use Rattle.base_types.specs.declared.entry.Verdict.{Verdict}
 use Rattle.base_types.specs.declared.entry.Verdict.TheVariants.{Aborted, Committed, Undecided}
 use Rattle.base_types.specs.declared.id.AttemptId.{AttemptId}
-use Rattle.model_laws.specs.Members.{Has, has-from_filter}
+use Rattle.world_contents.specs.model_laws.Members.{Has, has-from_filter}
 use Rattle.base_types.specs.declared.epoch.Epoch.{Epoch}
 use Rattle.base_messages.specs.declared.actor.ActorId.{ActorId}
 use Rattle.base_messages.specs.declared.message.Message.{Message}
 use Rattle.base_messages.specs.declared.message.Post.{Post}
 use Rattle.dtx_base.specs.declared.leading.LeaderMemory.{LeaderMemory}
 use Rattle.dtx_base.specs.declared.leading.Undecided.{Undecided as UndecidedOf}
-use Rattle.world_base.specs.declared.did.Did.{Did}
-use Rattle.world_base.specs.declared.target.TargetMemory.{TargetMemory}
-use Rattle.world_base.specs.Requests.{says}
-use Rattle.world_base.specs.Roles.{told_by, told_of, told_of_all}
+use Rattle.world_contents.specs.world_base.declared.did.Did.{Did}
+use Rattle.world_contents.specs.world_base.declared.target.TargetMemory.{TargetMemory}
+use Rattle.world_contents.specs.world_base.Requests.{says}
+use Rattle.world_contents.specs.world_base.Roles.{told_by, told_of, told_of_all}
 use Rattle.world_contents.specs.posts.Forms.{PostsInForm, TargetPosts, is_told}
 use Rattle.world_contents.specs.posts.Posting.{one-posted, to-client, waits-on}
 use Rattle.target_parts.specs.declared.stop.TargetStop.{TargetStop}

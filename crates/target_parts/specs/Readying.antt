@@ -12,17 +12,17 @@ use Rattle.daos_model.specs.declared.durable.Durable.{Durable}
 use Rattle.daos_model.specs.Changes.{leased}
 use Rattle.daos_model.specs.Durables.{entry_of}
 use Rattle.vos_store.specs.Calls.{State}
-use Rattle.world_base.specs.declared.target.TargetMemory.{TargetMemory}
-use Rattle.world_base.specs.declared.target.TargetPlan.{TargetPlan}
-use Rattle.world_base.specs.Changes.{Change, Extends, Kept}
-use Rattle.world_base.specs.Turns.{InChange, Reached}
+use Rattle.world_contents.specs.world_base.declared.target.TargetMemory.{TargetMemory}
+use Rattle.world_contents.specs.world_base.declared.target.TargetPlan.{TargetPlan}
+use Rattle.world_contents.specs.world_base.Changes.{Change, Extends, Kept}
+use Rattle.world_contents.specs.world_base.Turns.{InChange, Reached}
 use Rattle.target_parts.specs.Covers.{CoverCut, Covers, DidCover, WasExtended}
 use Rattle.target_parts.specs.Parts.{kept}
 use Rattle.target_parts.specs.Stops.{CutTelling}
 use Rattle.target_parts.specs.Knowing.{LeadsWell}
 use Rattle.target_parts.specs.KeepingLaws.{leads-leased}
 use Rattle.target_parts.specs.Turning.{now_stays, reached_change, reached_silent}
-use Rattle.world_base.specs.PathLaws.{reached-here}
+use Rattle.world_contents.specs.world_base.PathLaws.{reached-here}
 
 -- ---- the lease
 

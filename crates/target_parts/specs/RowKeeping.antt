@@ -5,9 +5,9 @@ use Rattle.base_types.specs.declared.entry.Entry.{Entry}
 use Rattle.base_types.specs.declared.id.AttemptId.{AttemptId}
 use Rattle.base_types.specs.declared.outcome.Outcome.{Outcome}
 use Rattle.base_types.specs.declared.outcome.Outcome.TheVariants.{Committed}
-use Rattle.model_laws.specs.DecidedLaws.{all-from_has}
-use Rattle.model_laws.specs.EntryLaws.{found-has, has-put, key-is}
-use Rattle.model_laws.specs.Members.{Has, has-from_filter, has-from_map}
+use Rattle.world_contents.specs.model_laws.DecidedLaws.{all-from_has}
+use Rattle.world_contents.specs.model_laws.EntryLaws.{found-has, has-put, key-is}
+use Rattle.world_contents.specs.model_laws.Members.{Has, has-from_filter, has-from_map}
 use Rattle.base_messages.specs.declared.actor.ActorId.{ActorId}
 use Rattle.daos_model.specs.declared.durable.Durable.{Durable}
 use Rattle.daos_model.specs.BoolLaws.{clash}
@@ -22,8 +22,8 @@ use Rattle.dtx_base.specs.Leading.{LeaderOf, LeaderStep, ack_heard, answer_heard
 use Rattle.dtx_base.specs.Members.{are_all_counted, is_other_member, other_members, with_target}
 use Rattle.dtx_base.specs.RowLaws.{row-is}
 use Rattle.dtx_base.specs.Rows.{is_row_of, itself, row_key, with_row, without_row}
-use Rattle.dtx_table.specs.declared.seat.Seat.{Seat}
-use Rattle.dtx_table.specs.Seats.{leader_of}
+use Rattle.dtx_leader.specs.dtx_table.declared.seat.Seat.{Seat}
+use Rattle.dtx_leader.specs.dtx_table.Seats.{leader_of}
 use Rattle.target_parts.specs.Knowing.{AreRowsOpen, IsOpenHere}
 
 -- ---- attempts

@@ -8,8 +8,8 @@ use Rattle.daos_model.specs.Changes.{leased}
 use Rattle.vos_store.specs.Calls.{State}
 use Rattle.vos_store.specs.Refusals.{always_stop, says}
 use Rattle.vos_store.specs.declared.refusal.Stopped.{Stopped}
-use Rattle.world_base.specs.declared.did.Did.{Did}
-use Rattle.world_base.specs.declared.target.TargetPlan.{TargetPlan}
+use Rattle.world_contents.specs.world_base.declared.did.Did.{Did}
+use Rattle.world_contents.specs.world_base.declared.target.TargetPlan.{TargetPlan}
 use Rattle.target_parts.specs.declared.knows.Knows.{Knows}
 use Rattle.target_parts.specs.declared.stop.TargetStop.{TargetStop}
 use Rattle.target_parts.specs.Covers.{CoversOrCut, heard_of}

@@ -5,14 +5,14 @@ use Rattle.base_types.specs.declared.id.AttemptId.{AttemptId}
 use Rattle.base_types.specs.declared.report.Line.{Line}
 use Rattle.daos_model.specs.declared.durable.Durable.{Durable}
 use Rattle.vos_store.specs.Calls.{State}
-use Rattle.world_base.specs.declared.did.Did.{Did}
-use Rattle.world_base.specs.declared.request.CommitRequest.{CommitRequest}
-use Rattle.world_base.specs.declared.request.FetchRequest.{FetchRequest}
-use Rattle.world_base.specs.Changes.{Change, Kept}
-use Rattle.world_base.specs.Commits as commit
-use Rattle.world_base.specs.Reads as read
-use Rattle.world_base.specs.Requests.{issued_for}
-use Rattle.world_base.specs.Turns.{CutShort}
+use Rattle.world_contents.specs.world_base.declared.did.Did.{Did}
+use Rattle.world_contents.specs.world_base.declared.request.CommitRequest.{CommitRequest}
+use Rattle.world_contents.specs.world_base.declared.request.FetchRequest.{FetchRequest}
+use Rattle.world_contents.specs.world_base.Changes.{Change, Kept}
+use Rattle.world_contents.specs.world_base.Commits as commit
+use Rattle.world_contents.specs.world_base.Reads as read
+use Rattle.world_contents.specs.world_base.Requests.{issued_for}
+use Rattle.world_contents.specs.world_base.Turns.{CutShort}
 use Rattle.target_parts.specs.declared.halt.Halt.{Halt}
 use Rattle.target_parts.specs.declared.halt.Halt.TheVariants as halt
 use Rattle.target_parts.specs.declared.stop.TargetStop.{TargetStop}

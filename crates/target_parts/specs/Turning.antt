@@ -2,12 +2,12 @@
 use Rattle.std.proofs.Common.{ℕ, ◌≡◌, ◌≤◌, ◌+◌, refl, sym, subst, Option, Some, None, true, Result, Err, arith}
 use Rattle.daos_model.specs.declared.durable.Durable.{Durable}
 use Rattle.vos_store.specs.Calls.{Looks, State}
-use Rattle.world_base.specs.Changes.{Change, Kept, cost, made}
-use Rattle.world_base.specs.Turns.{CutShort, InChange, InQuestion, More, Reached, Whole}
+use Rattle.world_contents.specs.world_base.Changes.{Change, Kept, cost, made}
+use Rattle.world_contents.specs.world_base.Turns.{CutShort, InChange, InQuestion, More, Reached, Whole}
 use Rattle.target_parts.specs.declared.halt.Halt.{Halt}
 use Rattle.target_parts.specs.declared.halt.Halt.TheVariants as halt
 use Rattle.target_parts.specs.Parts.{Asks, Now, Part, Partway, Stays, WasAsked, WasCut, kept, left_by}
-use Rattle.world_base.specs.PathLaws.{path-on, reached-here}
+use Rattle.world_contents.specs.world_base.PathLaws.{path-on, reached-here}
 
 -- ---- steps
 

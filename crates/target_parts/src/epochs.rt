@@ -15,7 +15,7 @@ use daos_hlc::clock::Hlc;
 use daos_hlc::lease::lease_for;
 use vos_store::refusal::Stopped;
 use vos_store::store::Store;
-use world_base::target::TargetPlan;
+use world_contents::below::world::target::TargetPlan;
 
 /// The epoch of a request: its own, which is heard, or one that is issued at the clock's reading. None
 /// where no ticks are left. The clock is read once, and only where an epoch is issued.

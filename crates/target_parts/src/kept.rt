@@ -2,16 +2,16 @@
 ghost use Rattle.std.specs.Prelude.{◌≡◌, filter, find, OnOk, Some, false};
 ghost use Rattle.std.specs.Option.{ForSome};
 ghost use Rattle.base_types.specs.declared.entry.Settle.TheVariants as settle;
-ghost use Rattle.model_laws.specs.Members.{Has};
+ghost use Rattle.world_contents.specs.model_laws.Members.{Has};
 ghost use Rattle.daos_model.specs.declared.durable.Durable.{Durable};
 ghost use Rattle.daos_model.specs.Durables.{is_entry_of};
 ghost use Rattle.dtx_base.specs.Leading.{forgotten, is_led};
 ghost use Rattle.dtx_base.specs.Rows.{itself, without_row};
-ghost use Rattle.dtx_entries.specs.Settling.{entries_settled, entry_in};
+ghost use Rattle.dtx_leader.specs.dtx_entries.Settling.{entries_settled, entry_in};
 ghost use Rattle.vos_store.specs.Conditions.{CanSettle, IsStep};
 ghost use Rattle.vos_store.specs.Refusals.{always_stop};
-ghost use Rattle.world_base.specs.Changes.{Settles};
-ghost use Rattle.world_base.specs.Roles.{is_open_entry, is_prepared, other_leader_of};
+ghost use Rattle.world_contents.specs.world_base.Changes.{Settles};
+ghost use Rattle.world_contents.specs.world_base.Roles.{is_open_entry, is_prepared, other_leader_of};
 ghost use Rattle.target_parts.specs.Keeping.{IsEnding, MadeIf, MadeOrCut};
 ghost use Rattle.target_parts.specs.Knowing.{LeadsWell, memory_of};
 ghost use Rattle.target_parts.specs.Parts.{Runs};
@@ -21,12 +21,12 @@ use crate::knows::Knows;
 use base_types::entry::{Entry, Settle};
 use base_types::epoch::TargetId;
 use base_types::id::AttemptId;
-use dtx_entries::table::EntryTable;
-use dtx_table::led::find_led;
-use dtx_table::seat::Seat;
+use dtx_leader::below::entries::table::EntryTable;
+use dtx_leader::below::table::led::find_led;
+use dtx_leader::below::table::seat::Seat;
 use vos_store::refusal::Stopped;
 use vos_store::store::Store;
-use world_base::target::TargetPlan;
+use world_contents::below::world::target::TargetPlan;
 
 /// A step of an attempt, in the store and among the entries that are known.
 ///

@@ -4,7 +4,7 @@ ghost use Rattle.std.specs.Option.{ForSome};
 ghost use Rattle.daos_model.specs.declared.durable.Durable.{Durable};
 ghost use Rattle.daos_model.specs.Durables.{is_enlisted};
 ghost use Rattle.daos_model.specs.Forms.{is_path_in_form};
-ghost use Rattle.world_base.specs.Reads.{later_of, uncertain_to};
+ghost use Rattle.world_contents.specs.world_base.Reads.{later_of, uncertain_to};
 ghost use Rattle.target_parts.specs.Halts.{halt_stop};
 ghost use Rattle.target_parts.specs.Knowing.{HasEpochs};
 ghost use Rattle.target_parts.specs.Parts.{Asks, Runs};
@@ -14,7 +14,7 @@ use base_types::epoch::Epoch;
 use base_types::path::Path;
 use base_types::shown::Shown;
 use vos_store::store::Store;
-use world_base::target::TargetPlan;
+use world_contents::below::world::target::TargetPlan;
 
 // The last epoch at which a write refuses an access, since the clocks leave open which was first.
 fn uncertain_to(plan: TargetPlan, first: Option<Epoch>, epoch: Epoch) -> Epoch

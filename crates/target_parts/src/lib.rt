@@ -2,6 +2,7 @@
 // knows, and what follows from a turn.
 #![tactic(auto)]
 
+pub mod below;
 pub mod epochs;
 pub mod halt;
 pub mod kept;

@@ -1,6 +1,6 @@
 // What follows from a turn.
 ghost use Rattle.std.specs.Prelude.{◌≡◌, ◌++◌, IfOk, IfErr, OnOk, OnErr};
-ghost use Rattle.world_base.specs.Requests as asked;
+ghost use Rattle.world_contents.specs.world_base.Requests as asked;
 ghost use Rattle.target_parts.specs.Stops.{IsSilent, stop_memory};
 
 use crate::stop::TargetStop;
@@ -10,7 +10,7 @@ use base_types::epoch::Epoch;
 use base_types::id::AttemptId;
 use base_types::items::{Items, Memory};
 use std::alloc::Global;
-use world_base::did::Did;
+use world_contents::below::world::did::Did;
 
 /// The epoch that was issued for a request that had none.
 pub fn issued_for(attempt: AttemptId, ep: Option<Epoch>, epoch: Epoch) -> Option<(AttemptId, Epoch)>

@@ -21,9 +21,9 @@ use Rattle.world_base.specs.declared.target.TargetMemory.{TargetMemory}
 use Rattle.world_base.specs.declared.target.TargetPlan.{TargetPlan}
 use Rattle.world_base.specs.Reads.{fetch_at, fetched_message}
 use Rattle.world_base.specs.Requests.{fetch_message, says}
-use Rattle.world_letters.specs.kinds.Loads.{AnswersOnce, load, parked_load, post_load, total}
-use Rattle.world_letters.specs.kinds.LoadLaws.{answer-carries, end-carries, total-append}
-use Rattle.world_letters.specs.kinds.PostLaws.{FreesOnce, queries-carry, verdicts-free}
+use Rattle.world_ended.specs.world_letters.kinds.Loads.{AnswersOnce, load, parked_load, post_load, total}
+use Rattle.world_ended.specs.world_letters.kinds.LoadLaws.{answer-carries, end-carries, total-append}
+use Rattle.world_ended.specs.world_letters.kinds.PostLaws.{FreesOnce, queries-carry, verdicts-free}
 use Rattle.target_parts.specs.declared.stop.TargetStop.{TargetStop}
 use Rattle.target_reads.specs.declared.reads.Served.{Served}
 use Rattle.target_reads.specs.declared.reads.Served.TheVariants as served

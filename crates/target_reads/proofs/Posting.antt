@@ -18,8 +18,8 @@ use Rattle.world_base.specs.declared.request.FetchRequest.{FetchRequest}
 use Rattle.world_base.specs.declared.target.TargetMemory.{TargetMemory}
 use Rattle.world_base.specs.declared.target.TargetPlan.{TargetPlan}
 use Rattle.world_base.specs.Reads.{fetch_at, tells}
-use Rattle.world_contents.specs.posts.Forms.{PostsInForm, TargetPosts}
-use Rattle.world_contents.specs.posts.Posting.{one-posted, queries-are-in-form, to-client, verdicts-post-in-form, waits-on}
+use Rattle.target_parts.specs.world_contents.posts.Forms.{PostsInForm, TargetPosts}
+use Rattle.target_parts.specs.world_contents.posts.Posting.{one-posted, queries-are-in-form, to-client, verdicts-post-in-form, waits-on}
 use Rattle.target_reads.specs.declared.reads.Served.{Served}
 use Rattle.target_reads.specs.declared.reads.Served.TheVariants as served
 use Rattle.target_reads.specs.Meets.{told_of}

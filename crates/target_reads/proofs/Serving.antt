@@ -10,7 +10,7 @@ use Rattle.base_types.specs.declared.outcome.Cause.{Cause}
 use Rattle.base_messages.specs.declared.actor.ActorId.{ActorId}
 use Rattle.daos_model.specs.declared.durable.Durable.{Durable}
 use Rattle.daos_model.specs.Durables.{entry_of}
-use Rattle.dtx_table.specs.Tables.{entry_in}
+use Rattle.target_parts.specs.dtx_table.Tables.{entry_in}
 use Rattle.base_messages.specs.declared.message.Reply.TheVariants as reply
 use Rattle.dtx_base.specs.Joining.{parking}
 use Rattle.vos_store.specs.Calls.{State}

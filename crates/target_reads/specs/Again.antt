@@ -26,7 +26,7 @@ use Rattle.target_parts.specs.Parts.{kept}
 use Rattle.target_parts.specs.Stops.{Turn, never}
 use Rattle.target_reads.specs.Fetches.{FetchTurn}
 use Rattle.world_base.specs.Requests.{fetch_message}
-use Rattle.world_letters.specs.kinds.Loads.{load, parked_load, post_load, total}
+use Rattle.world_ended.specs.world_letters.kinds.Loads.{load, parked_load, post_load, total}
 
 -- these Fetches may have waited
 abbrev pub AreParkable : List Message → Type 0

@@ -10,10 +10,10 @@ ghost use Rattle.world_base.specs.declared.target.TargetMemory.{TargetMemory};
 ghost use Rattle.world_base.specs.Requests.{fetch_message};
 ghost use Rattle.world_base.specs.Roles.{is_prepared, told_by};
 ghost use Rattle.world_base.specs.Verdicts.{VerdictStage, fetcher, settles_by, settling_change};
-ghost use Rattle.world_contents.specs.posts.Forms.{PostsInForm, TargetPosts};
+ghost use Rattle.target_parts.specs.world_contents.posts.Forms.{PostsInForm, TargetPosts};
 ghost use Rattle.target_parts.specs.Knowing.{IsAskHere, IsParkable, LeadsWell, memory_of};
 ghost use Rattle.target_reads.specs.Again.{AreHere, AreParkable, MadeSome, TriedTurn, TriesOnce, VerdictTurn};
-ghost use Rattle.world_letters.specs.kinds.Loads.{AnswersOnce};
+ghost use Rattle.world_ended.specs.world_letters.kinds.Loads.{AnswersOnce};
 ghost use Rattle.target_parts.specs.Standing.{IsTarget, Keeps, TurnRuns};
 
 use crate::fetches::hear_known;

@@ -11,7 +11,7 @@ ghost use Rattle.world_base.specs.Reads.{FetchNext, FetchStage, later_of, later_
 ghost use Rattle.target_parts.specs.Halts.{halt_stop};
 ghost use Rattle.target_parts.specs.Knowing.{HasEpochs, LeadsWell, memory_of};
 ghost use Rattle.target_parts.specs.Parts.{Asks, Part, Runs, kept};
-ghost use Rattle.dtx_table.specs.Tables.{entry_in};
+ghost use Rattle.target_parts.specs.dtx_table.Tables.{entry_in};
 ghost use Rattle.world_base.specs.Roles.{other_leader_of};
 ghost use Rattle.target_reads.specs.Meets.{Meets, MeetsKind, Serves, ServesKind, beside_of};
 ghost use Rattle.target_parts.specs.Standing.{Keeps};

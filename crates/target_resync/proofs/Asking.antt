@@ -16,7 +16,7 @@ use Rattle.dtx_base.specs.declared.leading.Undecided.{Undecided}
 use Rattle.dtx_base.specs.Asking.{ask_heard, asked_of, asked_open, tells_end, waits_at}
 use Rattle.dtx_base.specs.Leading.{LeaderOf, LeaderStep, entry_led, first_down}
 use Rattle.dtx_base.specs.Rows.{is_among}
-use Rattle.dtx_table.specs.Seats.{came}
+use Rattle.dtx_resync.specs.dtx_table.Seats.{came}
 use Rattle.world_base.specs.declared.did.Did.{Did}
 use Rattle.world_base.specs.declared.target.TargetMemory.{TargetMemory}
 use Rattle.world_base.specs.declared.target.TargetPlan.{TargetPlan}
@@ -24,8 +24,8 @@ use Rattle.world_base.specs.Changes.{Kept}
 use Rattle.world_base.specs.Requests.{sends}
 use Rattle.world_base.specs.Roles.{leader_at}
 use Rattle.world_base.specs.Statuses.{ask_left}
-use Rattle.world_contents.specs.posts.Forms.{PostsInForm}
-use Rattle.world_contents.specs.posts.Posting.{none-posted, one-posted, to-client, waits-on}
+use Rattle.target_parts.specs.world_contents.posts.Forms.{PostsInForm}
+use Rattle.target_parts.specs.world_contents.posts.Posting.{none-posted, one-posted, to-client, waits-on}
 use Rattle.target_parts.specs.Knowing.{AreRowsOpen}
 use Rattle.target_parts.specs.RowKeeping.{rows-mapped}
 

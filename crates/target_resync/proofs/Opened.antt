@@ -26,7 +26,7 @@ use Rattle.dtx_base.specs.Members.{other_members}
 use Rattle.dtx_base.specs.Rows.{is_empty}
 use Rattle.dtx_resync.specs.Resyncs.{asked-opening, asked_at}
 use Rattle.vos_store.specs.Calls.{State}
-use Rattle.world_commit.specs.attempts.Stored.{found-here}
+use Rattle.target_parts.specs.world_commit.attempts.Stored.{found-here}
 use Rattle.world_base.specs.declared.did.Did.{Did}
 use Rattle.world_base.specs.declared.target.TargetPlan.{TargetPlan}
 use Rattle.world_base.specs.Statuses.{opening_memory, opening_posts}

@@ -1,6 +1,6 @@
-use Rattle.world_ended.specs.Asking.{Asked, EndsAsked, PostsGoWith}
-use Rattle.world_ended.specs.PostLaws.{reset-members-end, resets-end}
-use Rattle.world_ended.specs.TurnLaws.{and-more as ends-more, sent-by as ends-by}
+use Rattle.target_dtx.specs.world_ended.Asking.{Asked, EndsAsked, PostsGoWith}
+use Rattle.target_dtx.specs.world_ended.PostLaws.{reset-members-end, resets-end}
+use Rattle.target_dtx.specs.world_ended.TurnLaws.{and-more as ends-more, sent-by as ends-by}
 -- What a Reset comes to.
 use Rattle.std.proofs.Common.{ℕ, ◌≡◌, ◌∙◌, refl, sym, ap, subst, Bool, true, false, List, [], ◌∷◌, ◌++◌, Option, Some, None}
 use Rattle.std.specs.Prelude.{◌==◌, if◌then◌else◌}
@@ -20,7 +20,7 @@ use Rattle.dtx_base.specs.declared.member.Parked.{Parked}
 use Rattle.dtx_base.specs.Joining as member
 use Rattle.dtx_base.specs.Joining.{MemberOf, MemberStep, is_not_waiting, member_step, unresolved}
 use Rattle.dtx_base.specs.Leading.{LeaderOf, LeaderStep, answered, attempts_of, down_told, entry_led, knowing, mark_reset, naming, prepare_reset, quietly, reset_heard, reset_of, status_asked, to_target, undecided_of, unwaited_at}
-use Rattle.dtx_table.specs.Seats.{came}
+use Rattle.dtx_resync.specs.dtx_table.Seats.{came}
 use Rattle.world_base.specs.declared.did.Did.{Did}
 use Rattle.world_base.specs.declared.target.TargetMemory.{TargetMemory}
 use Rattle.world_base.specs.declared.target.TargetPlan.{TargetPlan}
@@ -28,9 +28,9 @@ use Rattle.world_base.specs.Changes.{Kept}
 use Rattle.world_base.specs.Requests.{sends}
 use Rattle.world_base.specs.Roles.{joins_on, leader_at, leads_on, member_at}
 use Rattle.world_base.specs.Statuses.{reset_joins, reset_leads, reset_left}
-use Rattle.world_contents.specs.posts.AfterStops.{reset-members-post-in-form, resets-post-in-form}
-use Rattle.world_contents.specs.posts.Forms.{PostsInForm, TargetPosts}
-use Rattle.world_contents.specs.posts.Posting.{and-more, posted-by}
+use Rattle.target_parts.specs.world_contents.posts.AfterStops.{reset-members-post-in-form, resets-post-in-form}
+use Rattle.target_parts.specs.world_contents.posts.Forms.{PostsInForm, TargetPosts}
+use Rattle.target_parts.specs.world_contents.posts.Posting.{and-more, posted-by}
 use Rattle.target_parts.specs.declared.knows.Knows.{Knows}
 use Rattle.target_parts.specs.Knowing.{AreRowsOpen, IsHeard, IsOwn, LeadsWell, memory_of}
 use Rattle.target_parts.specs.RowKeeping.{rows-mapped, rows-named}

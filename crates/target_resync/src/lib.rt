@@ -2,6 +2,7 @@
 #![tactic(auto)]
 
 pub mod asks;
+pub mod below;
 pub mod opening;
 pub mod resets;
 pub mod restarts;

@@ -1,12 +1,12 @@
 // A target hears that a message of its got no answer.
 ghost use Rattle.std.specs.Prelude.{◌≡◌, ◌<◌, IfOk, Some, false, []};
-ghost use Rattle.world_ended.specs.Asking.{Asked, EndsAsked};
-ghost use Rattle.world_letters.specs.kinds.Loads.{AnswersOnce};
+ghost use Rattle.target_dtx.specs.world_ended.Asking.{Asked, EndsAsked};
+ghost use Rattle.target_dtx.specs.world_letters.kinds.Loads.{AnswersOnce};
 ghost use Rattle.daos_model.specs.declared.durable.Durable.{Durable};
 ghost use Rattle.vos_store.specs.Refusals.{says};
 ghost use Rattle.world_base.specs.Statuses.{AtOnce, EndsAs, NoChange, reset_left};
 ghost use Rattle.world_base.specs.Turns.{Whole};
-ghost use Rattle.world_contents.specs.posts.Forms.{PostsInForm};
+ghost use Rattle.target_parts.specs.world_contents.posts.Forms.{PostsInForm};
 ghost use Rattle.target_parts.specs.Knowing.{memory_of};
 ghost use Rattle.target_parts.specs.Parts.{kept};
 ghost use Rattle.target_parts.specs.Stops.{IsSilent, Turn, never, stop_foreign, stop_store};

@@ -1,14 +1,14 @@
 // A target opens again.
 ghost use Rattle.std.specs.Prelude.{◌≡◌, ◌≤◌, ◌<◌, ◌+◌, ◌^◌, ◌⊎◌, IfOk, IfErr, IsSome, Some, false, []};
-ghost use Rattle.world_ended.specs.Asking.{Asked, LeavesWith};
-ghost use Rattle.world_letters.specs.kinds.PostLaws.{CarryNone};
+ghost use Rattle.target_dtx.specs.world_ended.Asking.{Asked, LeavesWith};
+ghost use Rattle.target_dtx.specs.world_letters.kinds.PostLaws.{CarryNone};
 ghost use Rattle.std.specs.Option.{ForSome};
 ghost use Rattle.base_types.specs.Epochs.{restart_floor};
 ghost use Rattle.base_types.specs.declared.outcome.FloorWhy.{FloorWhy};
 ghost use Rattle.daos_model.specs.Changes.{reopened};
 ghost use Rattle.daos_model.specs.declared.durable.Durable.{Durable};
 ghost use Rattle.vos_store.specs.Refusals.{says};
-ghost use Rattle.world_contents.specs.posts.Forms.{Follows};
+ghost use Rattle.target_parts.specs.world_contents.posts.Forms.{Follows};
 ghost use Rattle.target_parts.specs.Knowing.{IsHeard};
 ghost use Rattle.target_parts.specs.Standing.{IsPlaced, IsTarget};
 ghost use Rattle.target_parts.specs.Stops.{stop_foreign};

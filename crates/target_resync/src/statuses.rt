@@ -1,14 +1,14 @@
 // A target hears a Status, and a leader what members answer to it.
 ghost use Rattle.std.specs.Prelude.{◌≡◌, IfOk, Some, false, []};
-ghost use Rattle.world_ended.specs.Asking.{Asked, EndsAsked, PostsGoWith};
-ghost use Rattle.world_letters.specs.kinds.PostLaws.{CarryNone};
-ghost use Rattle.world_letters.specs.kinds.Loads.{AnswersOnce};
+ghost use Rattle.target_dtx.specs.world_ended.Asking.{Asked, EndsAsked, PostsGoWith};
+ghost use Rattle.target_dtx.specs.world_letters.kinds.PostLaws.{CarryNone};
+ghost use Rattle.target_dtx.specs.world_letters.kinds.Loads.{AnswersOnce};
 ghost use Rattle.daos_model.specs.declared.durable.Durable.{Durable};
 ghost use Rattle.vos_store.specs.Refusals.{says};
 ghost use Rattle.world_base.specs.Acks as ack;
 ghost use Rattle.world_base.specs.Statuses.{AtOnce, EndsAs, NoChange, status_left, status_refusal};
 ghost use Rattle.world_base.specs.Turns.{Whole};
-ghost use Rattle.world_contents.specs.posts.Forms.{PostsInForm, TargetPosts};
+ghost use Rattle.target_parts.specs.world_contents.posts.Forms.{PostsInForm, TargetPosts};
 ghost use Rattle.target_parts.specs.Knowing.{memory_of};
 ghost use Rattle.target_parts.specs.Parts.{kept};
 ghost use Rattle.target_parts.specs.Stops.{IsSilent, Turn, never, stop_foreign, stop_store};

@@ -16,7 +16,7 @@ use Rattle.world_base.specs.declared.did.Did.{Did}
 use Rattle.world_base.specs.declared.target.TargetPlan.{TargetPlan}
 use Rattle.world_base.specs.Snapshots.{freeze_refusal, is_held_by_all, new_collection}
 use Rattle.world_ended.specs.Asking.{AreRefusals, IsEnd}
-use Rattle.world_letters.specs.clients.Answered.{is_refusal}
+use Rattle.world_ended.specs.world_letters.clients.Answered.{is_refusal}
 use Rattle.target_parts.specs.declared.stop.TargetStop.{TargetStop}
 use Rattle.target_parts.specs.declared.stop.TargetStop.TheVariants as stop
 use Rattle.target_parts.specs.Stops.{lines_told}

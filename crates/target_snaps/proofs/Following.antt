@@ -21,13 +21,13 @@ use Rattle.world_base.specs.declared.did.Did.{Did}
 use Rattle.world_base.specs.declared.target.Collection.{Collection}
 use Rattle.world_base.specs.declared.target.TargetPlan.{TargetPlan}
 use Rattle.world_base.specs.Snapshots.{follows, freeze_to, prune_to, to_actor}
-use Rattle.world_contents.specs.posts.Forms.{ClientsCollect, TargetPosts}
-use Rattle.world_contents.specs.posts.Posting.{map-posted, one-posted, to-client, to-other}
+use Rattle.target_parts.specs.world_contents.posts.Forms.{ClientsCollect, TargetPosts}
+use Rattle.target_parts.specs.world_contents.posts.Posting.{map-posted, one-posted, to-client, to-other}
 use Rattle.world_ended.specs.Asking.{AreRefusals, Asked, IsEnd, MakesWith, PostsGoWith}
 use Rattle.world_ended.specs.PostLaws as ended
-use Rattle.world_letters.specs.kinds.Loads.{AnswersOnce}
-use Rattle.world_letters.specs.kinds.PostLaws.{CarryNone, each-carries}
-use Rattle.world_letters.specs.kinds.TurnLaws.{is_of_read, unread-answers, unread-none}
+use Rattle.world_ended.specs.world_letters.kinds.Loads.{AnswersOnce}
+use Rattle.world_ended.specs.world_letters.kinds.PostLaws.{CarryNone, each-carries}
+use Rattle.world_ended.specs.world_letters.kinds.TurnLaws.{is_of_read, unread-answers, unread-none}
 use Rattle.target_parts.specs.declared.halt.Halt.{Halt}
 use Rattle.target_parts.specs.declared.halt.Halt.TheVariants as halt
 use Rattle.target_parts.specs.declared.stop.TargetStop.{TargetStop}

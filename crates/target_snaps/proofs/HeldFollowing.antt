@@ -16,11 +16,11 @@ use Rattle.model_laws.specs.Members.{has-from_filter, has-from_map}
 use Rattle.snap_core.specs.Snaps.{SnapOf, SnapStep, are_all_others, collection_in, held, held_heard, lost, quietly, reset_heard, step_of, told, with_collecting, without}
 use Rattle.world_base.specs.declared.target.Collection.{Collection}
 use Rattle.world_base.specs.Snapshots.{held_at, is_collection_of, is_other_collection}
-use Rattle.world_contents.specs.posts.Forms.{IsCollecting, TargetPosts}
-use Rattle.world_contents.specs.posts.Posting.{none-posted, one-posted, to-client, to-other}
+use Rattle.target_parts.specs.world_contents.posts.Forms.{IsCollecting, TargetPosts}
+use Rattle.target_parts.specs.world_contents.posts.Posting.{none-posted, one-posted, to-client, to-other}
 use Rattle.world_ended.specs.Asking.{Asked, AsksSo, GoesWith, IsEnd}
 use Rattle.world_ended.specs.PostLaws as ended
-use Rattle.world_letters.specs.kinds.PostLaws.{CarryNone, none-carried}
+use Rattle.world_ended.specs.world_letters.kinds.PostLaws.{CarryNone, none-carried}
 use Rattle.target_snaps.specs.Following.{IsWithin, MakesAsked, MakesInForm}
 use Rattle.target_snaps.proofs.Following.{one-carries}
 

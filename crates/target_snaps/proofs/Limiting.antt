@@ -19,7 +19,7 @@ use Rattle.vos_store.specs.Answers as answer
 use Rattle.vos_store.specs.Answers.{epoch_shown, open_below}
 use Rattle.vos_store.specs.Conditions.{CanPrune}
 use Rattle.world_base.specs.Snapshots.{below_open, is_open_in, prune_limit}
-use Rattle.world_contents.specs.reads.ListLaws.{none-found}
+use Rattle.target_parts.specs.world_contents.reads.ListLaws.{none-found}
 use Rattle.target_snaps.specs.Limits.{limit_under}
 
 -- ---- the limit

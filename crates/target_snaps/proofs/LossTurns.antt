@@ -22,7 +22,7 @@ use Rattle.world_base.specs.Further.{collection_left, knows_down, reset_by}
 use Rattle.world_base.specs.Snapshots.{collects_reset, follows}
 use Rattle.world_base.specs.Statuses.{Answered, EndsAs, IsDone, Looking, Looks, NoChange}
 use Rattle.world_base.specs.Turns.{Whole}
-use Rattle.world_contents.specs.posts.Forms.{is_collecting}
+use Rattle.target_parts.specs.world_contents.posts.Forms.{is_collecting}
 use Rattle.target_parts.specs.declared.knows.Knows.{Knows}
 use Rattle.target_parts.specs.declared.stop.TargetStop.{TargetStop}
 use Rattle.target_parts.specs.Knowing.{AreRowsOpen}

@@ -5,9 +5,9 @@ use Rattle.daos_model.specs.Attempts.{tries}
 use Rattle.model_laws.specs.Members.{Has}
 use Rattle.world_base.specs.declared.did.Did.{Did}
 use Rattle.world_base.specs.declared.target.Collection.{Collection}
-use Rattle.world_contents.specs.posts.Forms.{ClientsCollect, TargetPosts}
+use Rattle.target_parts.specs.world_contents.posts.Forms.{ClientsCollect, TargetPosts}
 use Rattle.world_ended.specs.Asking.{Asked, MakesWith, PostsGoWith}
-use Rattle.world_letters.specs.kinds.PostLaws.{CarryNone}
+use Rattle.world_ended.specs.world_letters.kinds.PostLaws.{CarryNone}
 use Rattle.target_parts.specs.declared.stop.TargetStop.{TargetStop}
 use Rattle.target_parts.specs.Stops.{lines_told}
 use Rattle.target_snaps.specs.declared.request.ContRequest.{ContRequest}

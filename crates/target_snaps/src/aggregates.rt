@@ -19,7 +19,7 @@ ghost use Rattle.target_snaps.specs.AggregateTurns.{AggregateComes, AggregateTur
 ghost use Rattle.target_snaps.specs.Following.{IsWithin, MakesAsked, MakesInForm, RequestFollows, TellsNoAttempt};
 ghost use Rattle.target_snaps.specs.HeldTurns.{IsSnapsOf};
 ghost use Rattle.world_ended.specs.Asking.{Asked};
-ghost use Rattle.world_letters.specs.kinds.Loads.{AnswersOnce};
+ghost use Rattle.world_ended.specs.world_letters.kinds.Loads.{AnswersOnce};
 
 use crate::prunes::prune_at;
 use crate::request::ContRequest;

@@ -13,9 +13,9 @@ ghost use Rattle.target_parts.specs.Standing.{IsTarget};
 ghost use Rattle.target_parts.specs.Stops.{stop_foreign, stop_memory, stop_store};
 ghost use Rattle.target_snaps.specs.Following.{TellsNoAttempt};
 ghost use Rattle.target_snaps.specs.FreezeTurns.{FreezeTurn, freeze_lines, refusal_by};
-ghost use Rattle.world_contents.specs.posts.Forms.{TargetPosts};
+ghost use Rattle.target_parts.specs.world_contents.posts.Forms.{TargetPosts};
 ghost use Rattle.world_ended.specs.Asking.{Asked, PostsGoWith};
-ghost use Rattle.world_letters.specs.kinds.Loads.{AnswersOnce};
+ghost use Rattle.world_ended.specs.world_letters.kinds.Loads.{AnswersOnce};
 
 use crate::freezing::{Froze, freeze_at};
 use crate::request::ContRequest;

@@ -19,7 +19,7 @@ ghost use Rattle.target_parts.specs.Stops.{stop_foreign, stop_memory, stop_store
 ghost use Rattle.target_snaps.specs.Following.{IsWithin, MakesAsked, MakesInForm, TellsNoAttempt};
 ghost use Rattle.target_snaps.specs.HeldTurns.{AreFrozenHere, HeldTurn, IsSnapsOf, new_snapshot_of};
 ghost use Rattle.world_ended.specs.Asking.{Asked, GoesWith};
-ghost use Rattle.world_letters.specs.kinds.PostLaws.{CarryNone};
+ghost use Rattle.world_ended.specs.world_letters.kinds.PostLaws.{CarryNone};
 
 use base_messages::message::Message;
 use base_types::epoch::{Epoch, TargetId};

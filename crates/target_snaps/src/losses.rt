@@ -3,9 +3,9 @@ ghost use Rattle.std.specs.Prelude.{◌≡◌, ◌<◌, [], IfOk, OnOk, OnErr, S
 ghost use Rattle.daos_model.specs.declared.durable.Durable.{Durable};
 ghost use Rattle.snap_core.specs.Snaps.{remembered};
 ghost use Rattle.vos_store.specs.Refusals.{says};
-ghost use Rattle.world_contents.specs.posts.Forms.{IsCollecting, is_collecting};
+ghost use Rattle.target_parts.specs.world_contents.posts.Forms.{IsCollecting, is_collecting};
 ghost use Rattle.world_ended.specs.Asking.{Asked, AsksSo};
-ghost use Rattle.world_letters.specs.kinds.Loads.{AnswersOnce};
+ghost use Rattle.world_ended.specs.world_letters.kinds.Loads.{AnswersOnce};
 ghost use Rattle.target_parts.specs.Knowing.{memory_of};
 ghost use Rattle.target_parts.specs.Standing.{IsTarget};
 ghost use Rattle.target_parts.specs.Stops.{stop_foreign, stop_store};

@@ -14,9 +14,9 @@ ghost use Rattle.target_parts.specs.Standing.{IsTarget};
 ghost use Rattle.target_parts.specs.Stops.{stop_foreign, stop_memory, stop_store};
 ghost use Rattle.target_snaps.specs.Following.{TellsNoAttempt};
 ghost use Rattle.target_snaps.specs.PruneTurns.{LinesNoAttempt, PruneTurn, PrunesOrCut};
-ghost use Rattle.world_contents.specs.posts.Forms.{TargetPosts};
+ghost use Rattle.target_parts.specs.world_contents.posts.Forms.{TargetPosts};
 ghost use Rattle.world_ended.specs.Asking.{Asked, PostsGoWith};
-ghost use Rattle.world_letters.specs.kinds.Loads.{AnswersOnce};
+ghost use Rattle.world_ended.specs.world_letters.kinds.Loads.{AnswersOnce};
 
 use crate::limits::{limit_of, prune_to};
 use crate::request::ContRequest;

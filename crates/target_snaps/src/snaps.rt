@@ -14,7 +14,7 @@ ghost use Rattle.world_base.specs.Changes.{Kept};
 ghost use Rattle.world_base.specs.Requests.{request_epoch, with_ticks};
 ghost use Rattle.world_base.specs.Snapshots.{FreezeStage, follows, is_held_by_all, to_actor};
 ghost use Rattle.world_ended.specs.Asking.{Asked};
-ghost use Rattle.world_letters.specs.kinds.Loads.{AnswersOnce};
+ghost use Rattle.world_ended.specs.world_letters.kinds.Loads.{AnswersOnce};
 ghost use Rattle.target_parts.specs.Knowing.{memory_of};
 ghost use Rattle.target_parts.specs.Parts.{Runs, kept};
 ghost use Rattle.target_parts.specs.Readings.{AreReadings, most_readings};

@@ -11,8 +11,8 @@ use Rattle.dtx_base.specs.declared.leading.LeaderMemory.{LeaderMemory}
 use Rattle.dtx_base.specs.Leading.{LeaderOf, LeaderStep, begun, begun_alone, begun_with_others}
 use Rattle.dtx_base.specs.Members.{is_written_at, other_members, writes_at}
 use Rattle.dtx_base.specs.Rows.{is_empty}
-use Rattle.dtx_table.specs.declared.seat.Seat.{Seat}
-use Rattle.dtx_table.specs.Seats.{came, leader_of}
+use Rattle.target_members.specs.dtx_table.declared.seat.Seat.{Seat}
+use Rattle.target_members.specs.dtx_table.Seats.{came, leader_of}
 use Rattle.world_base.specs.declared.did.Did.{Did}
 use Rattle.world_base.specs.declared.request.CommitRequest.{CommitRequest}
 use Rattle.world_base.specs.declared.target.TargetMemory.{TargetMemory}

@@ -19,7 +19,7 @@ use Rattle.world_base.specs.declared.target.TargetPlan.{TargetPlan}
 use Rattle.world_base.specs.Commits.{bits_of, led_entry, own_writes}
 use Rattle.target_parts.specs.Standing.{IsPlaced}
 use Rattle.target_writes.specs.Checks.{AreEnlisted, AreWrites}
-use Rattle.world_contents.specs.reads.ListLaws.{some-in_form}
+use Rattle.target_parts.specs.world_contents.reads.ListLaws.{some-in_form}
 
 -- ---- members
 

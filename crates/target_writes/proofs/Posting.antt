@@ -14,8 +14,8 @@ use Rattle.world_base.specs.declared.request.PrepareRequest.{PrepareRequest}
 use Rattle.world_base.specs.declared.target.TargetPlan.{TargetPlan}
 use Rattle.world_base.specs.Commits.{led_entry}
 use Rattle.world_base.specs.Prepares.{acks}
-use Rattle.world_contents.specs.posts.Forms.{AreWrites, PostsInForm, TargetPosts}
-use Rattle.world_contents.specs.posts.Posting.{IsBeginning, beginnings-post-in-form, one-posted, posted-by, to-other, waits-on}
+use Rattle.target_parts.specs.world_contents.posts.Forms.{AreWrites, PostsInForm, TargetPosts}
+use Rattle.target_parts.specs.world_contents.posts.Posting.{IsBeginning, beginnings-post-in-form, one-posted, posted-by, to-other, waits-on}
 use Rattle.target_parts.specs.declared.stop.TargetStop.{TargetStop}
 
 -- an attempt begins that a client asked for

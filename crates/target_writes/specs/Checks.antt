@@ -23,7 +23,7 @@ use Rattle.world_base.specs.declared.target.TargetPlan.{TargetPlan}
 use Rattle.world_base.specs.Changes.{Prepares}
 use Rattle.world_base.specs.Commits.{IsAllowed, IsRefusedBy, own_writes}
 use Rattle.world_base.specs.Reads.{later_of}
-pub use Rattle.world_contents.specs.posts.Forms.{AreWrites}
+pub use Rattle.target_parts.specs.world_contents.posts.Forms.{AreWrites}
 use Rattle.target_parts.specs.declared.halt.Halt.{Halt}
 use Rattle.target_parts.specs.declared.halt.Halt.TheVariants as halt
 use Rattle.target_parts.specs.Parts.{Did, Stays, WasAsked, WasCut, kept, left_by}

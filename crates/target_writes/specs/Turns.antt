@@ -20,7 +20,7 @@ use Rattle.world_base.specs.Prepares as prepare
 use Rattle.world_base.specs.Requests.{issued_for, sends}
 use Rattle.world_base.specs.Roles.{leads_on}
 use Rattle.world_base.specs.Turns.{Whole}
-pub use Rattle.world_contents.specs.posts.Forms.{IsPrepareInForm}
+pub use Rattle.target_parts.specs.world_contents.posts.Forms.{IsPrepareInForm}
 use Rattle.target_parts.specs.declared.stop.TargetStop.{TargetStop}
 use Rattle.target_parts.specs.Parts.{kept}
 use Rattle.target_parts.specs.Stops.{Turn, commit_issued, never}

@@ -1,7 +1,7 @@
 // A target hears a Commit: whole turns.
 ghost use Rattle.std.specs.Prelude.{◌≡◌, ◌/◌, ◌<◌, ◌≤◌, ℕ, IfOk, IfErr, IfSome, Some, None, is_some, true, false, []};
 ghost use Rattle.world_ended.specs.Asking.{Asked, EndsAsked};
-ghost use Rattle.world_letters.specs.kinds.Loads.{AnswersOnce};
+ghost use Rattle.world_ended.specs.world_letters.kinds.Loads.{AnswersOnce};
 ghost use Rattle.std.specs.Option.{ForSome};
 ghost use Rattle.base_messages.specs.declared.message.Message.TheVariants as message;
 ghost use Rattle.daos_model.specs.declared.durable.Durable.{Durable};
@@ -9,7 +9,7 @@ ghost use Rattle.vos_store.specs.Refusals.{says};
 ghost use Rattle.world_base.specs.declared.target.TargetMemory.{TargetMemory};
 ghost use Rattle.world_base.specs.Commits as commit;
 ghost use Rattle.world_base.specs.Requests as asked;
-ghost use Rattle.world_contents.specs.posts.Forms.{PostsInForm};
+ghost use Rattle.target_parts.specs.world_contents.posts.Forms.{PostsInForm};
 ghost use Rattle.target_parts.specs.Knowing.{IsApart, IsOpenHere, memory_of};
 ghost use Rattle.target_parts.specs.Stops.{IsSilent, stop_memory};
 ghost use Rattle.target_writes.specs.Checks.{AreWrites, CanCommit, CanStore};
@@ -26,8 +26,8 @@ use base_types::epoch::Epoch;
 use base_types::id::AttemptId;
 use base_types::items::Memory;
 use base_types::outcome::Outcome;
-use dtx_table::written::writes_at;
 use std::alloc::Global;
+use target_members::below::table::written::writes_at;
 use target_members::members::members_of;
 use target_parts::epochs::ready;
 use target_parts::halt::Halt;

@@ -1,12 +1,12 @@
 // A target hears a Commit with a member that is known to be down.
 ghost use Rattle.std.specs.Prelude.{◌≡◌, ℕ, IfOk, IfSome, Some, is_some, true, false, []};
 ghost use Rattle.world_ended.specs.Asking.{Asked, EndsAsked};
-ghost use Rattle.world_letters.specs.kinds.Loads.{AnswersOnce};
+ghost use Rattle.world_ended.specs.world_letters.kinds.Loads.{AnswersOnce};
 ghost use Rattle.base_types.specs.declared.epoch.Epoch.{Epoch as EpochOf};
 ghost use Rattle.daos_model.specs.declared.durable.Durable.{Durable};
 ghost use Rattle.world_base.specs.Commits as commit;
 ghost use Rattle.world_base.specs.Statuses.{down_of};
-ghost use Rattle.world_contents.specs.posts.Forms.{PostsInForm};
+ghost use Rattle.target_parts.specs.world_contents.posts.Forms.{PostsInForm};
 ghost use Rattle.target_parts.specs.Knowing.{memory_of};
 ghost use Rattle.target_parts.specs.Readings.{AreReadings, most_readings};
 ghost use Rattle.target_parts.specs.Standing.{IsTarget, TurnRuns};

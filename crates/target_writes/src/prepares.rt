@@ -1,14 +1,14 @@
 // A target hears a Prepare: whole turns.
 ghost use Rattle.std.specs.Prelude.{◌≡◌, ◌/◌, ◌≤◌, IfOk, IfErr, Some, false, []};
 ghost use Rattle.world_ended.specs.Asking.{Asked, EndsAsked};
-ghost use Rattle.world_letters.specs.kinds.Loads.{AnswersOnce};
+ghost use Rattle.world_ended.specs.world_letters.kinds.Loads.{AnswersOnce};
 ghost use Rattle.std.specs.Option.{ForSome};
 ghost use Rattle.daos_model.specs.declared.durable.Durable.{Durable};
 ghost use Rattle.vos_store.specs.Refusals.{says};
 ghost use Rattle.world_base.specs.declared.target.TargetMemory.{TargetMemory};
 ghost use Rattle.world_base.specs.Prepares as prepare;
 ghost use Rattle.world_base.specs.Requests.{with_ticks};
-ghost use Rattle.world_contents.specs.posts.Forms.{PostsInForm};
+ghost use Rattle.target_parts.specs.world_contents.posts.Forms.{PostsInForm};
 ghost use Rattle.target_parts.specs.Knowing.{memory_of};
 ghost use Rattle.target_parts.specs.Stops.{IsSilent, stop_memory};
 ghost use Rattle.target_writes.specs.Checks.{CanStore};

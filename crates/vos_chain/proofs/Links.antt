@@ -9,7 +9,7 @@ use Rattle.pmem_pages.specs.Counts.{times_none, times_one, times_own, times_othe
 use Rattle.pmem_pages.specs.Owners.{Changed, times}
 use Rattle.pmem_pages.proofs.BlockLaws.{put_here, put_other}
 use Rattle.pmem_pages.proofs.Owning.{not_free}
-use Rattle.vos_values.specs.Links.{link_bytes}
+use Rattle.vos_levels.specs.vos_values.Links.{link_bytes}
 use Rattle.vos_chain.specs.Chains.{Links, chain_frame, chain_owner, chain_taken, first_of}
 use Rattle.vos_chain.specs.Made.{MadeChain}
 

@@ -8,8 +8,8 @@ use Rattle.pmem_pages.specs.Counts.{times_one, times_own, times_other}
 use Rattle.pmem_pages.specs.Owners.{Changed, Holds, maybe, times}
 use Rattle.pmem_pages.proofs.BlockLaws.{put_here, put_other}
 use Rattle.pmem_pages.proofs.Owning.{changed_then}
-use Rattle.vos_values.specs.Links.{link_bytes, next_in}
-use Rattle.vos_values.proofs.LinkLaws.{link_again, part_again}
+use Rattle.vos_levels.specs.vos_values.Links.{link_bytes, next_in}
+use Rattle.vos_levels.proofs.vos_values.LinkLaws.{link_again, part_again}
 use Rattle.vos_chain.specs.Chains.{Chain, Links, chain_frame, chain_owner, first_of}
 use Rattle.vos_chain.specs.Made.{IsChainAt}
 

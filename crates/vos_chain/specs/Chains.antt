@@ -5,7 +5,7 @@ use Rattle.std.proofs.lemmas.Bool.Decides.{eqb_tells}
 use Rattle.pmem_pages.specs.Blocks.{Blocks, IsTaken}
 use Rattle.pmem_pages.specs.Counts.{times_none, times_one, times_other, times_own}
 use Rattle.pmem_pages.specs.Owners.{Owner, SameIn, times}
-use Rattle.vos_values.specs.Links.{link_bytes}
+use Rattle.vos_levels.specs.vos_values.Links.{link_bytes}
 
 pub record Chain : Type 0 where
   pub blocks : List ℕ

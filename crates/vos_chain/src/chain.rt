@@ -2,9 +2,9 @@
 ghost use Rattle.std.specs.Prelude.{◌≡◌, ◌⊎◌, ◌≤◌, ◌<◌, ◌+◌, ◌*◌, ◌^◌, true, Some, None, IfOk, OnOk, OnErr, IsErr, IsErrOf, IsTrue, ℕ, List, ◌++◌, take, drop, length};
 ghost use Rattle.pmem_pages.specs.Blocks.{IsSpent, IsTaken, put};
 ghost use Rattle.pmem_pages.specs.Owners.{Changed, maybe};
-ghost use Rattle.pmem_tree_base.specs.Calls.{Goes, Rests};
-ghost use Rattle.pmem_tree_base.specs.declared.refusal.TreeNo.{TreeNo};
-ghost use Rattle.vos_values.specs.Links.{link_bytes, next_in, part_in};
+ghost use Rattle.vos_levels.specs.pmem_tree_base.Calls.{Goes, Rests};
+ghost use Rattle.vos_levels.specs.pmem_tree_base.declared.refusal.TreeNo.{TreeNo};
+ghost use Rattle.vos_levels.specs.vos_values.Links.{link_bytes, next_in, part_in};
 ghost use Rattle.vos_chain.specs.Chains.{chain_owner};
 ghost use Rattle.vos_chain.specs.Made.{HasChain, HasFewer, MadeChain, OfChain, chain_blocks};
 ghost use Rattle.vos_chain.specs.declared.refusal.PiecesNo.TheVariants.{Stopped as stopped_no};
@@ -14,10 +14,10 @@ use base_types::items::{Items, Vec8};
 use pmem_pages::BLOCK;
 use pmem_pages::pages::Pages;
 use pmem_pages::steps::Steps;
-use pmem_tree_base::refusal::TreeNo;
 use std::alloc::Global;
 use std::sync::ledger::Ledger;
-use vos_values::links::{PART, link_bytes, read_next};
+use vos_levels::below::tree_base::refusal::TreeNo;
+use vos_levels::below::values::links::{PART, link_bytes, read_next};
 
 // Puts a block in front of a chain.
 fn put_link<P: Pages>(pages: &mut P, next: u32, part: &[u8]) -> Result<u32, TreeNo>

@@ -1,5 +1,6 @@
 // Bytes in chains of blocks: written, read, and given back.
 #![tactic(auto)]
 
+pub mod below;
 pub mod chain;
 pub mod refusal;

@@ -4,9 +4,9 @@ use Rattle.std.specs.Prelude.{map}
 use Rattle.pmem_pages.specs.Shape.{Entry, entries}
 use Rattle.vos_levels.specs.Levels.{Hung}
 use Rattle.vos_ilog.specs.declared.ilog.LogEntry.{LogEntry}
-use Rattle.vos_single.specs.Singles.{Stored as StoredSingle}
-use Rattle.vos_extent.specs.Extents.{Stored as StoredExtent}
-use Rattle.vos_path.specs.Objects.{together}
+use Rattle.vos_image.specs.vos_single.Singles.{Stored as StoredSingle}
+use Rattle.vos_image.specs.vos_extent.Extents.{Stored as StoredExtent}
+use Rattle.vos_image.specs.vos_path.Objects.{together}
 use Rattle.vos_image.specs.Nodes.{Node, extent_node, log_node, nodes_of, single_node, tree_nodes, values_nodes}
 use Rattle.vos_check_trees.specs.Found.{Gathers, rows_of}
 use Rattle.vos_check.specs.declared.node.NodeRow.{NodeRow}

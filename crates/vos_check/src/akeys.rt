@@ -23,7 +23,7 @@ pub struct Akeys {
 impl Level for Akeys {
     ghost use Rattle.std.specs.Prelude.{ℕ, List, map};
     ghost use Rattle.pmem_pages.specs.Node.{key_text};
-    ghost use Rattle.vos_path.specs.Objects.{Akey};
+    ghost use Rattle.vos_image.specs.vos_path.Objects.{Akey};
     ghost use Rattle.vos_image.specs.Kinds.{akeys};
     ghost use Rattle.vos_image.specs.Nodes.{akey_nodes};
     ghost use Rattle.vos_check.specs.Rows.{row_of};

@@ -22,7 +22,7 @@ pub struct Dkeys {
 impl Level for Dkeys {
     ghost use Rattle.std.specs.Prelude.{ℕ, List, map};
     ghost use Rattle.pmem_pages.specs.Node.{key_text};
-    ghost use Rattle.vos_path.specs.Objects.{Dkey};
+    ghost use Rattle.vos_image.specs.vos_path.Objects.{Dkey};
     ghost use Rattle.vos_image.specs.Kinds.{dkeys};
     ghost use Rattle.vos_image.specs.Nodes.{dkey_nodes};
     ghost use Rattle.vos_check.specs.Rows.{row_of};

@@ -21,7 +21,7 @@ pub struct Extents {
 impl Level for Extents {
     ghost use Rattle.std.specs.Prelude.{[], ◌∷◌};
     ghost use Rattle.vos_values.specs.declared.keys.ExtentKey.{ExtentKey as NameOf};
-    ghost use Rattle.vos_extent.specs.Extents.{Stored};
+    ghost use Rattle.vos_image.specs.vos_extent.Extents.{Stored};
     ghost use Rattle.vos_image.specs.Kinds.{extents};
     ghost use Rattle.vos_image.specs.Nodes.{extent_node};
     ghost use Rattle.vos_check.specs.Rows.{row_of};

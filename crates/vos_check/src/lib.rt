@@ -2,6 +2,7 @@
 #![tactic(auto)]
 
 pub mod akeys;
+pub mod below;
 pub mod chain;
 mod codec;
 pub mod dkeys;

@@ -22,7 +22,7 @@ pub struct Objects {
 impl Level for Objects {
     ghost use Rattle.std.specs.Prelude.{map};
     ghost use Rattle.vos_values.specs.declared.keys.ObjectKey.{ObjectKey as NameOf};
-    ghost use Rattle.vos_path.specs.Objects.{Object};
+    ghost use Rattle.vos_image.specs.vos_path.Objects.{Object};
     ghost use Rattle.vos_image.specs.Kinds.{objects};
     ghost use Rattle.vos_image.specs.Nodes.{object_nodes};
     ghost use Rattle.vos_check.specs.Rows.{row_of};

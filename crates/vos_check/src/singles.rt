@@ -20,7 +20,7 @@ pub struct Singles {
 impl Level for Singles {
     ghost use Rattle.std.specs.Prelude.{[], ◌∷◌};
     ghost use Rattle.vos_values.specs.declared.keys.Moment.{Moment as NameOf};
-    ghost use Rattle.vos_single.specs.Singles.{Stored};
+    ghost use Rattle.vos_image.specs.vos_single.Singles.{Stored};
     ghost use Rattle.vos_image.specs.Kinds.{singles};
     ghost use Rattle.vos_image.specs.Nodes.{single_node};
     ghost use Rattle.vos_check.specs.Rows.{row_of};

@@ -4,7 +4,7 @@ use Rattle.std.specs.Prelude.{map, slice_index}
 use Rattle.base_outside.specs.Images.{Image, bytes_at}
 use Rattle.base_outside.specs.ImageLaws.{get_or-bytes_at}
 use Rattle.vos_entries.specs.Entries.{Entries}
-use Rattle.vos_path.specs.Objects.{Objects}
+use Rattle.vos_image.specs.vos_path.Objects.{Objects}
 use Rattle.vos_image.specs.Steps.{Step, read_of}
 use Rattle.vos_image.specs.Content.{Content, content_of}
 use Rattle.vos_image.specs.Kept.{read_content, read_whole}
@@ -12,8 +12,8 @@ use Rattle.vos_image.specs.Kinds.{entries, objects}
 use Rattle.vos_image.specs.Nodes.{Node, nodes_in}
 use Rattle.vos_image.specs.Places.{Places, read_places}
 use Rattle.vos_image.specs.Trees.{read_tree}
-use Rattle.vos_check.specs.declared.node.NodeRow.{NodeRow}
-use Rattle.vos_check.specs.Rows.{row_of}
+use Rattle.vos_check_entries.specs.vos_check.declared.node.NodeRow.{NodeRow}
+use Rattle.vos_check_entries.specs.vos_check.Rows.{row_of}
 use Rattle.vos_check_base.specs.Answers.{IsFault, MarksIn, Reads, content}
 use Rattle.vos_check_base.specs.Sets.{Set}
 use Rattle.vos_check_base.specs.declared.ground.Ground.{Ground}

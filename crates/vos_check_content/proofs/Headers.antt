@@ -4,8 +4,8 @@ use Rattle.base_outside.specs.Images.{Image}
 use Rattle.vos_image.specs.Steps.{Step, ◌>>=◌, onward}
 use Rattle.vos_image.specs.Content.{Content, content_of, number}
 use Rattle.vos_image.specs.Places.{Header, header_in, read_header}
-use Rattle.vos_places.proofs.Header.{lease_read, lease_small}
-use Rattle.vos_places.specs.Laws.{Keeps}
+use Rattle.vos_check_places.proofs.vos_places.Header.{lease_read, lease_small}
+use Rattle.vos_check_places.specs.vos_places.Laws.{Keeps}
 use Rattle.vos_check_base.specs.Answers.{content}
 use Rattle.vos_check_places.specs.declared.places.Fixed.{Fixed}
 use Rattle.vos_check_places.specs.Fixed.{header_of, table_of}

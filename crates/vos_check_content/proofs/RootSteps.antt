@@ -5,7 +5,7 @@ use Rattle.std.proofs.lemmas.Bool.{ne_eqb}
 use Rattle.std.proofs.lemmas.Bool.Decides.{eqb_tells}
 use Rattle.vos_image.specs.Steps.{is_among}
 use Rattle.vos_image.specs.Content.{Content, is_taken, link}
-use Rattle.vos_places.specs.Tables.{AreRoots}
+use Rattle.vos_check_places.specs.vos_places.Tables.{AreRoots}
 use Rattle.vos_check_base.specs.Sets.{Set}
 use Rattle.vos_check_base.specs.Answers.{Finds, MarksIn, nothing}
 use Rattle.vos_check_content.specs.Whole.{LeadsBoth}

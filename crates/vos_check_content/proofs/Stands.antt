@@ -17,9 +17,9 @@ use Rattle.vos_image.specs.Kept.{stored_owner}
 use Rattle.vos_image.specs.Laws.{IsOfBytes}
 use Rattle.vos_image.specs.Places.{is_bit_right}
 use Rattle.vos_image.proofs.WholeStands.{read_stands}
-use Rattle.vos_places.proofs.Writing.{places_stay}
-use Rattle.vos_places.specs.Laws.{IsRightBeyond}
-use Rattle.vos_places.specs.Tables.{AreRoots}
+use Rattle.vos_check_places.proofs.vos_places.Writing.{places_stay}
+use Rattle.vos_check_places.specs.vos_places.Laws.{IsRightBeyond}
+use Rattle.vos_check_places.specs.vos_places.Tables.{AreRoots}
 use Rattle.vos_standing.proofs.Beyond.{map_on, roots_taken}
 use Rattle.vos_standing.proofs.Standing.{fits_stay}
 use Rattle.vos_standing.specs.Standing.{content}

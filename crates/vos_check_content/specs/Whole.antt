@@ -4,9 +4,9 @@ use Rattle.base_outside.specs.Images.{Image}
 use Rattle.vos_levels.specs.Levels.{things}
 use Rattle.vos_image.specs.Content.{Content, layout_of}
 use Rattle.vos_image.specs.Kept.{Stored, read_content}
-use Rattle.vos_places.specs.Laws.{Keeps}
+use Rattle.vos_check_places.specs.vos_places.Laws.{Keeps}
 use Rattle.vos_image.specs.Laws.{IsOfBytes}
-use Rattle.vos_places.specs.Tables.{Table, places_of}
+use Rattle.vos_check_places.specs.vos_places.Tables.{Table, places_of}
 use Rattle.vos_check_base.specs.Answers.{MarksIn}
 use Rattle.vos_check_base.specs.declared.ground.Ground.{Ground}
 use Rattle.vos_check_base.specs.Sets.{Set}

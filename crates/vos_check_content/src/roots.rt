@@ -1,7 +1,7 @@
 // The blocks that fields behind the fixed places may lead to.
 ghost use Rattle.std.specs.Prelude.{◌≡◌, IfErr, IfOk, IsTrue, [], true};
 ghost use Rattle.vos_image.specs.Content.{Content};
-ghost use Rattle.vos_places.specs.Tables.{AreRoots};
+ghost use Rattle.vos_check_places.specs.vos_places.Tables.{AreRoots};
 ghost use Rattle.vos_check_base.specs.Answers.{MarksIn, content};
 ghost use Rattle.vos_check_base.specs.Health.{IsRead, is_stopped, says_stopped};
 ghost use Rattle.vos_check_base.specs.Sets.{open_of};

@@ -4,7 +4,7 @@ use Rattle.std.specs.Prelude.{map}
 use Rattle.pmem_pages.specs.Shape.{Entry, entries}
 use Rattle.vos_levels.specs.Levels.{Hung, things}
 use Rattle.vos_entries.specs.Entries.{Stored}
-use Rattle.vos_check_trees.specs.Found.{Gathers, rows_of}
+use Rattle.vos_check.specs.vos_check_trees.Found.{Gathers, rows_of}
 use Rattle.vos_check_entries.specs.declared.entry.EntryRow.{EntryRow}
 use Rattle.vos_check_entries.specs.Rows.{entry_row}
 

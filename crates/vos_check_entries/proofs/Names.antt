@@ -4,8 +4,8 @@ use Rattle.std.specs.Prelude.{map}
 use Rattle.std.specs.List.{list_any}
 use Rattle.std.proofs.lemmas.Bool.Decides.{nat_tests}
 use Rattle.daos_model.specs.Durables.{same_attempt}
-use Rattle.vos_image.specs.Nodes.{is_of}
-use Rattle.vos_image.specs.Steps.{is_among}
+use Rattle.vos_check.specs.vos_image.Nodes.{is_of}
+use Rattle.vos_check.specs.vos_image.Steps.{is_among}
 use Rattle.vos_check.specs.declared.node.NodeRow.{NodeRow}
 use Rattle.vos_check_entries.specs.declared.entry.Lister.{Lister}
 use Rattle.vos_check_entries.specs.Nodes.{NodeName, is_node, node_in, node_name, same_node_name}

@@ -6,9 +6,9 @@ use Rattle.std.proofs.lemmas.Bool.{ne_eqb}
 use Rattle.std.proofs.lemmas.List.{length-drop, take_all}
 use Rattle.base_outside.specs.ImageLaws.{length-bytes_at}
 use Rattle.byteorder.specs.Endian.{big_number}
-use Rattle.vos_image.specs.Steps.{Step, ◌>>=◌, give, is_among, rule, zeros}
-use Rattle.vos_image.specs.Content.{Content, block, link}
-use Rattle.vos_image.specs.Kinds.{read_numbers, read_part}
+use Rattle.vos_check.specs.vos_image.Steps.{Step, ◌>>=◌, give, is_among, rule, zeros}
+use Rattle.vos_check.specs.vos_image.Content.{Content, block, link}
+use Rattle.vos_check.specs.vos_image.Kinds.{read_numbers, read_part}
 use Rattle.vos_check_base.specs.Sets.{Set}
 use Rattle.vos_check_base.specs.Answers.{Gives, Plain, nothing}
 use Rattle.vos_check_base.proofs.Steps.{assoc, off, on}

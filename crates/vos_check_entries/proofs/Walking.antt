@@ -1,9 +1,9 @@
 -- A list, block by block.
 use Rattle.std.proofs.Common.{◌≡◌, ◌≢◌, ℕ, zero, suc, ◌+◌, ◌*◌, ◌==◌, Bool, false, List, [], ◌∷◌, ◌++◌, length, Result, Ok, Err, refl, sym, ap, ◌∙◌, arith, append_assoc, subst}
 use Rattle.std.proofs.lemmas.Bool.{ne_eqb}
-use Rattle.vos_image.specs.Steps.{Step, ◌>>=◌, give, onward}
-use Rattle.vos_image.specs.Content.{Content}
-use Rattle.vos_image.specs.Kinds.{Listed, read_list}
+use Rattle.vos_check.specs.vos_image.Steps.{Step, ◌>>=◌, give, onward}
+use Rattle.vos_check.specs.vos_image.Content.{Content}
+use Rattle.vos_check.specs.vos_image.Kinds.{Listed, read_list}
 use Rattle.vos_check_base.specs.Sets.{Set}
 use Rattle.vos_check_base.specs.Answers.{IsFault, MarksIn, Reads}
 use Rattle.vos_check_base.specs.declared.refusal.CheckNo.{CheckNo}

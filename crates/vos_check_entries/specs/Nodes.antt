@@ -2,7 +2,7 @@
 use Rattle.std.specs.Prelude.{◌≡◌, ℕ, Bool, ◌==◌, ◌&&◌, List, map}
 use Rattle.std.specs.List.{list_any}
 use Rattle.std.specs.HashSet.{HashSet, contains}
-use Rattle.vos_image.specs.Nodes.{Node, is_of}
+use Rattle.vos_check.specs.vos_image.Nodes.{Node, is_of}
 use Rattle.vos_check.specs.declared.node.NodeRow.{NodeRow}
 use Rattle.vos_check_entries.specs.declared.entry.Lister.{Lister}
 

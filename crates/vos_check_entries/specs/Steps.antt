@@ -2,9 +2,9 @@
 use Rattle.std.specs.Prelude.{◌≡◌, ℕ, Bool, ◌+◌, ◌*◌, ◌==◌, not, List, length, drop, take, slice_index, Result, Ok, Err}
 use Rattle.base_outside.specs.Images.{Image}
 use Rattle.byteorder.specs.Endian.{big_number}
-use Rattle.vos_image.specs.Steps.{Step, ◌>>=◌, give, rule, zeros}
-use Rattle.vos_image.specs.Content.{Content, block, link}
-use Rattle.vos_image.specs.Kinds.{Listed, read_part}
+use Rattle.vos_check.specs.vos_image.Steps.{Step, ◌>>=◌, give, rule, zeros}
+use Rattle.vos_check.specs.vos_image.Content.{Content, block, link}
+use Rattle.vos_check.specs.vos_image.Kinds.{Listed, read_part}
 use Rattle.vos_check_base.specs.Answers.{Gives, MarksIn, content}
 use Rattle.vos_check_base.specs.Sets.{Set}
 use Rattle.vos_check_base.specs.declared.ground.Ground.{Ground}

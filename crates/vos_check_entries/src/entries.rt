@@ -1,7 +1,7 @@
 // The tree of entries.
 ghost use Rattle.std.specs.Prelude.{◌≡◌, map, IsTrue};
-ghost use Rattle.vos_image.specs.Kinds.{entries};
-ghost use Rattle.vos_image.specs.Trees.{read_tree};
+ghost use Rattle.vos_check.specs.vos_image.Kinds.{entries};
+ghost use Rattle.vos_check.specs.vos_image.Trees.{read_tree};
 ghost use Rattle.vos_levels.specs.Levels.{things};
 ghost use Rattle.vos_check_base.specs.Answers.{Does};
 ghost use Rattle.vos_check_base.specs.Health.{IsRead, says_stopped};
@@ -16,14 +16,14 @@ use base_types::entry::Entry;
 use base_types::id::AttemptId;
 use pmem_pages::node::{TreeKey, Value};
 use std::alloc::Global;
+use vos_check::below::check_trees::level::Level;
+use vos_check::below::check_trees::tree::tree;
 use vos_check::entry::{attempt_in, entry_in};
 use vos_check::node::NodeRow;
 use vos_check_base::fresh::Fresh;
 use vos_check_base::ground::Ground;
 use vos_check_base::refusal::CheckNo;
 use vos_check_base::source::Source;
-use vos_check_trees::level::Level;
-use vos_check_trees::tree::tree;
 use vos_values::values::EntryMark;
 
 /// The trees of entries, which list nodes.
@@ -55,7 +55,7 @@ impl Level for Entries {
     ghost use Rattle.std.specs.Prelude.{[], ◌∷◌};
     ghost use Rattle.base_types.specs.declared.id.AttemptId.{AttemptId as NameOf};
     ghost use Rattle.vos_entries.specs.Entries.{Stored};
-    ghost use Rattle.vos_image.specs.Kinds.{entries};
+    ghost use Rattle.vos_check.specs.vos_image.Kinds.{entries};
     ghost use Rattle.vos_check_entries.specs.Rows.{entry_row};
 
     type Name = AttemptId;

@@ -1,6 +1,6 @@
 // The list of an entry.
 ghost use Rattle.std.specs.Prelude.{◌≡◌, ◌*◌, ◌/◌, ℕ, List, [], length, IsTrue};
-ghost use Rattle.vos_image.specs.Kinds.{read_list};
+ghost use Rattle.vos_check.specs.vos_image.Kinds.{read_list};
 ghost use Rattle.vos_check_base.specs.declared.ground.Ground.{Ground as GroundOf};
 ghost use Rattle.vos_check_base.specs.Answers.{Does, IsBlame};
 ghost use Rattle.vos_check_base.specs.Health.{IsRead, is_stopped, says_stopped};

@@ -21,7 +21,7 @@ pub struct NodeSet {
 
 impl Model for NodeSet {
     ghost use Rattle.std.specs.Prelude.{List, map};
-    ghost use Rattle.vos_image.specs.Nodes.{Node};
+    ghost use Rattle.vos_check.specs.vos_image.Nodes.{Node};
     ghost use Rattle.vos_check_entries.specs.Nodes.{HasNodeNames, node_in};
 
     ghost Value = { List Node };

@@ -1,8 +1,8 @@
 // The numbers of a block of a list.
 ghost use Rattle.std.specs.Prelude.{◌≡◌, ◌≤◌, ◌<◌, ◌+◌, ◌*◌, ◌^◌, ◌&&◌, ◌∷◌, ◌++◌, [], not, true, ℕ, List, length, take, drop, IfOk};
 ghost use Rattle.byteorder.specs.Endian.{big_number};
-ghost use Rattle.vos_image.specs.Kinds.{read_numbers, read_part};
-ghost use Rattle.vos_image.specs.Steps.{is_among, zeros};
+ghost use Rattle.vos_check.specs.vos_image.Kinds.{read_numbers, read_part};
+ghost use Rattle.vos_check.specs.vos_image.Steps.{is_among, zeros};
 ghost use Rattle.vos_check_base.specs.Answers.{LeadsIn, Plain, nothing, same};
 ghost use Rattle.vos_check_base.specs.Sets.{open_of};
 ghost use Rattle.vos_check_base.specs.declared.ground.Ground.{Ground as GroundOf};

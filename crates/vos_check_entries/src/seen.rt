@@ -1,6 +1,6 @@
 // Numbers that a list has so far.
 ghost use Rattle.std.specs.Prelude.{◌≡◌, ◌∷◌, ◌++◌, [], true, not, length, IfOk};
-ghost use Rattle.vos_image.specs.Steps.{is_among};
+ghost use Rattle.vos_check.specs.vos_image.Steps.{is_among};
 
 use std::alloc::{AllocError, Global};
 use std::collections::HashSet;

@@ -7,8 +7,8 @@ use Rattle.std.proofs.lemmas.Bool.Decides.{nat_tests}
 use Rattle.base_outside.specs.Images.{Image, bytes_at}
 use Rattle.pmem_undo.specs.Log.{logged_count, logged_length, number_in}
 use Rattle.pmem_undo.specs.Settled.{IsAttachable}
-use Rattle.vos_image.specs.Places.{magic, read_bytes}
-use Rattle.vos_image.specs.Steps.{◌>>=◌, rule}
+use Rattle.vos_check_base.specs.vos_image.Places.{magic, read_bytes}
+use Rattle.vos_check_base.specs.vos_image.Steps.{◌>>=◌, rule}
 use Rattle.vos_check_base.specs.declared.refusal.CheckNo.{CheckNo}
 use Rattle.vos_check_base.specs.declared.refusal.CheckNo.TheVariants.{Stopped, Foreign, Memory}
 use Rattle.vos_check_region.proofs.Judging.{judged}

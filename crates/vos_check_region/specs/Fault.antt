@@ -5,7 +5,7 @@ use Rattle.std.specs.Option.{unwrap_or}
 use Rattle.base_outside.specs.Causes.{Rose}
 use Rattle.pmem_undo.specs.Layout.{are_content, gate, log_place, most_bytes, most_ranges}
 use Rattle.pmem_undo.specs.Log.{logged_count, logged_length, number_in}
-use Rattle.vos_image.specs.Places.{magic, read_bytes}
+use Rattle.vos_check_base.specs.vos_image.Places.{magic, read_bytes}
 use Rattle.vos_check_base.specs.declared.refusal.CheckNo.{CheckNo}
 use Rattle.vos_check_base.specs.declared.refusal.CheckNo.TheVariants.{Stopped, Foreign, Memory}
 

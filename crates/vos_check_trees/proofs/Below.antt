@@ -8,9 +8,9 @@ use Rattle.pmem_pages.specs.declared.node.TreeKey.{TreeKey}
 use Rattle.pmem_pages.specs.Node.{links_of}
 use Rattle.pmem_pages.specs.Shape.{Entry, Fork, Leaf}
 use Rattle.vos_levels.specs.Levels.{Hung}
-use Rattle.vos_image.specs.Steps.{Step, ◌>>=◌, fail, give, rule}
-use Rattle.vos_image.specs.Content.{Content}
-use Rattle.vos_image.specs.Trees.{Fields, Kind, is_height, read_below, read_fields, stored_height}
+use Rattle.vos_check_base.specs.vos_image.Steps.{Step, ◌>>=◌, fail, give, rule}
+use Rattle.vos_check_base.specs.vos_image.Content.{Content}
+use Rattle.vos_check_base.specs.vos_image.Trees.{Fields, Kind, is_height, read_below, read_fields, stored_height}
 use Rattle.vos_check_base.specs.Sets.{Set}
 use Rattle.vos_check_base.specs.Answers.{Answers, IsFault, MarksIn, Reads}
 use Rattle.vos_check_base.specs.declared.refusal.CheckNo.{CheckNo}

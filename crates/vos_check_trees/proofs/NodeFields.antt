@@ -5,9 +5,9 @@ use Rattle.byteorder.specs.Endian.{big_number}
 use Rattle.pmem_pages.specs.declared.node.Node.{Node}
 use Rattle.pmem_pages.specs.declared.node.TreeKey.{TreeKey}
 use Rattle.pmem_pages.specs.Node.{links_of, node_of}
-use Rattle.vos_image.specs.Steps.{Step, ◌>>=◌, give, rule, zeros}
-use Rattle.vos_image.specs.Content.{Content, block, link}
-use Rattle.vos_image.specs.Trees.{Fields, Kind, is_above, is_below, read_fields}
+use Rattle.vos_check_base.specs.vos_image.Steps.{Step, ◌>>=◌, give, rule, zeros}
+use Rattle.vos_check_base.specs.vos_image.Content.{Content, block, link}
+use Rattle.vos_check_base.specs.vos_image.Trees.{Fields, Kind, is_above, is_below, read_fields}
 use Rattle.vos_check_base.specs.Answers.{Plain, nothing}
 use Rattle.vos_check_trees.specs.declared.level.Found.{Found}
 use Rattle.vos_check_trees.specs.Found.{fields_of}

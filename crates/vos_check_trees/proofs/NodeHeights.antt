@@ -5,8 +5,8 @@ use Rattle.base_outside.specs.Images.{Image}
 use Rattle.pmem_pages.specs.declared.node.Links.{Links}
 use Rattle.pmem_pages.specs.declared.node.Node.{Node}
 use Rattle.pmem_pages.specs.Node.{links_of}
-use Rattle.vos_image.specs.Content.{Content, block}
-use Rattle.vos_image.specs.Trees.{is_height, stored_height}
+use Rattle.vos_check_base.specs.vos_image.Content.{Content, block}
+use Rattle.vos_check_base.specs.vos_image.Trees.{is_height, stored_height}
 use Rattle.vos_check_base.specs.declared.ground.Ground.{Ground}
 use Rattle.vos_check_base.specs.Answers.{content}
 use Rattle.vos_check_base.proofs.Steps.{byte_of}

@@ -5,9 +5,9 @@ use Rattle.pmem_pages.specs.declared.node.TreeKey.{TreeKey}
 use Rattle.pmem_pages.specs.Node.{links_of}
 use Rattle.pmem_pages.specs.Shape.{Entry, entries}
 use Rattle.vos_levels.specs.Levels.{Hung}
-use Rattle.vos_image.specs.Steps.{Step, ◌>>=◌, give, rule}
-use Rattle.vos_image.specs.Content.{Content}
-use Rattle.vos_image.specs.Trees.{Fields, Kind, is_above, is_below, is_height, read_fields, stored_height}
+use Rattle.vos_check_base.specs.vos_image.Steps.{Step, ◌>>=◌, give, rule}
+use Rattle.vos_check_base.specs.vos_image.Content.{Content}
+use Rattle.vos_check_base.specs.vos_image.Trees.{Fields, Kind, is_above, is_below, is_height, read_fields, stored_height}
 use Rattle.vos_check_trees.specs.declared.level.Bounds.{Bounds}
 use Rattle.vos_check_trees.specs.declared.level.Found.{Found}
 

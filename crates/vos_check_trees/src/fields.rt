@@ -1,8 +1,8 @@
 // The fields of a node, by place.
 ghost use Rattle.std.specs.Prelude.{◌≡◌, ◌≤◌, ◌<◌, ◌+◌, ◌*◌, ◌^◌, ℕ, List, length, drop, IfOk};
 ghost use Rattle.byteorder.specs.Endian.{big_number};
-ghost use Rattle.vos_image.specs.Steps.{zeros};
-ghost use Rattle.vos_image.specs.Trees.{is_above, is_below, read_fields};
+ghost use Rattle.vos_check_base.specs.vos_image.Steps.{zeros};
+ghost use Rattle.vos_check_base.specs.vos_image.Trees.{is_above, is_below, read_fields};
 ghost use Rattle.pmem_pages.specs.Node.{links_of, node_of};
 ghost use Rattle.vos_check_base.specs.Answers.{LeadsIn, Plain, nothing};
 ghost use Rattle.vos_check_base.specs.Sets.{open_of};

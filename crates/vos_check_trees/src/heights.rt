@@ -1,6 +1,6 @@
 // The heights that nodes say.
 ghost use Rattle.std.specs.Prelude.{◌≡◌, ◌<◌, ◌==◌, ◌&&◌, not, true, IfOk, IsTrue, is_err};
-ghost use Rattle.vos_image.specs.Trees.{is_height, stored_height};
+ghost use Rattle.vos_check_base.specs.vos_image.Trees.{is_height, stored_height};
 ghost use Rattle.vos_check_base.specs.Answers.{content};
 ghost use Rattle.vos_check_base.specs.declared.ground.Ground.{Ground as GroundOf};
 ghost use Rattle.vos_check_base.specs.Health.{IsRead};

@@ -1,6 +1,6 @@
 // How trees of a kind are checked.
 ghost use Rattle.std.specs.Prelude.{◌≡◌, ◌≤◌, ◌+◌, ◌*◌, ◌++◌, ℕ, List, Option, IsTrue};
-ghost use Rattle.vos_image.specs.Trees.{Kind};
+ghost use Rattle.vos_check_base.specs.vos_image.Trees.{Kind};
 ghost use Rattle.vos_check_base.specs.declared.ground.Ground.{Ground as GroundOf};
 ghost use Rattle.vos_check_base.specs.Answers.{Does, Leads, Plainly, content, same};
 ghost use Rattle.vos_check_base.specs.Sets.{open_of};

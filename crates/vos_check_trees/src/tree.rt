@@ -1,6 +1,6 @@
 // Trees, node by node with what their values lead to.
 ghost use Rattle.std.specs.Prelude.{◌≡◌, ◌≤◌, ◌<◌, IfOk, OnOk, IsTrue, None};
-ghost use Rattle.vos_image.specs.Trees.{read_below, read_fields, read_tree};
+ghost use Rattle.vos_check_base.specs.vos_image.Trees.{read_below, read_fields, read_tree};
 ghost use Rattle.vos_check_base.specs.Answers.{Does};
 ghost use Rattle.vos_check_base.specs.Sets.{open_of};
 ghost use Rattle.vos_check_trees.specs.Found.{Gathers, HaveLengths, IsFound, enter};

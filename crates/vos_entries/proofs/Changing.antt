@@ -15,23 +15,23 @@ use Rattle.pmem_pages.specs.Owners.{Changed, Holds, maybe, times}
 use Rattle.pmem_pages.specs.Shape.{Entry, IsTree, Shape, chosen, entries, entry_at}
 use Rattle.pmem_pages.specs.declared.node.TreeKey.{TreeKey}
 use Rattle.pmem_pages.proofs.Shapes.{is_tree_on}
-use Rattle.pmem_tree.specs.Calls.{StagesAtMost, TooFew}
-use Rattle.pmem_tree.specs.Changes.{Inserts, Puts, Removes}
-use Rattle.pmem_tree_base.specs.Find.{value_of}
+use Rattle.vos_versions.specs.pmem_tree.Calls.{StagesAtMost, TooFew}
+use Rattle.vos_versions.specs.pmem_tree.Changes.{Inserts, Puts, Removes}
+use Rattle.vos_versions.specs.pmem_tree_base.Find.{value_of}
 use Rattle.vos_values.specs.declared.values.EntryMark.{EntryMark}
 use Rattle.vos_values.specs.Keys.{IsAttempt, attempt_key}
 use Rattle.vos_values.specs.Values.{IsEntryMark, entry_in, entry_value}
 use Rattle.vos_values.proofs.KeyLaws.{attempts_order}
 use Rattle.vos_values.proofs.ValueLaws.{entries_exact}
-use Rattle.vos_levels.specs.Calls.{Becomes}
-use Rattle.vos_levels.specs.Changes.{sum_those}
-use Rattle.vos_levels.specs.Levels.{HasMore, TellsKey, hung_root, map_those, things, without_those}
-use Rattle.vos_levels.proofs.Changing.{hung_less, hung_more, hung_other, hung_tree, stays}
-use Rattle.vos_levels.proofs.Settling.{Says, becomes_shown, given_part, made_part, missing_key, says, says_none, shown_changed, spot_apart, spot_at, spot_stands, stays_part, still_thing, sum_none, sum_spot}
-use Rattle.vos_levels.proofs.Spots.{Spot, mapped_none, value_found, without_none}
-use Rattle.vos_levels.proofs.Testing.{all_good, found_good, read_option}
-use Rattle.vos_chain.specs.Chains.{chain_owner}
-use Rattle.vos_chain.specs.Made.{HasFewer, MadeChain}
+use Rattle.vos_versions.specs.vos_levels.Calls.{Becomes}
+use Rattle.vos_versions.specs.vos_levels.Changes.{sum_those}
+use Rattle.vos_versions.specs.vos_levels.Levels.{HasMore, TellsKey, hung_root, map_those, things, without_those}
+use Rattle.vos_versions.proofs.vos_levels.Changing.{hung_less, hung_more, hung_other, hung_tree, stays}
+use Rattle.vos_versions.proofs.vos_levels.Settling.{Says, becomes_shown, given_part, made_part, missing_key, says, says_none, shown_changed, spot_apart, spot_at, spot_stands, stays_part, still_thing, sum_none, sum_spot}
+use Rattle.vos_versions.proofs.vos_levels.Spots.{Spot, mapped_none, value_found, without_none}
+use Rattle.vos_versions.proofs.vos_levels.Testing.{all_good, found_good, read_option}
+use Rattle.vos_versions.specs.vos_chain.Chains.{chain_owner}
+use Rattle.vos_versions.specs.vos_chain.Made.{HasFewer, MadeChain}
 use Rattle.vos_entries.specs.Entries.{AreListed, Entries, IsCommittedAt, IsConfirmedAt, IsGoneAt, IsStored, Listing, Stored, committed, committed_mark, confirmed_by, confirmed_mark, entries_owner, entry_level, has_entry_at, is_at, is_listing_at, list_bytes, list_of, listing_of, listings, mark_of, mark_with}
 use Rattle.vos_entries.specs.Lists.{FewerThan, FewerToRemove, IsListAt, StagesToRemove}
 

@@ -12,9 +12,9 @@ use Rattle.pmem_pages.specs.Owners.{Changed, maybe, times}
 use Rattle.vos_values.specs.Fields.{padded}
 use Rattle.vos_values.specs.Links.{is_zero, link_bytes, next_in}
 use Rattle.vos_values.proofs.Reading.{chosen_again, length_padded}
-use Rattle.vos_chain.specs.Chains.{Chain, Links, chain_owner, first_of}
-use Rattle.vos_chain.specs.Made.{chain_blocks}
-use Rattle.vos_chain.proofs.Reading.{FirstLeft, Left, left_first, left_none, left_whole}
+use Rattle.vos_versions.specs.vos_chain.Chains.{Chain, Links, chain_owner, first_of}
+use Rattle.vos_versions.specs.vos_chain.Made.{chain_blocks}
+use Rattle.vos_versions.proofs.vos_chain.Reading.{FirstLeft, Left, left_first, left_none, left_whole}
 use Rattle.vos_entries.specs.Entries.{list_bytes}
 use Rattle.vos_entries.specs.Lists.{IsListAt}
 

@@ -10,9 +10,9 @@ use Rattle.pmem_pages.specs.declared.node.Value.{Value}
 use Rattle.vos_values.specs.declared.values.EntryMark.{EntryMark}
 use Rattle.vos_values.specs.Keys.{IsAttempt, attempt_key}
 use Rattle.vos_values.specs.Values.{IsEntryMark, entry_value}
-use Rattle.vos_levels.specs.Changes.{same_attempt, sum_those}
-use Rattle.vos_levels.specs.Levels.{Hung, Level, hung, in_part, map_those, things, without_those}
-use Rattle.vos_chain.specs.Chains.{Chain, chain_owner, first_of}
+use Rattle.vos_versions.specs.vos_levels.Changes.{same_attempt, sum_those}
+use Rattle.vos_versions.specs.vos_levels.Levels.{Hung, Level, hung, in_part, map_those, things, without_those}
+use Rattle.vos_versions.specs.vos_chain.Chains.{Chain, chain_owner, first_of}
 
 -- an entry, the blocks of the nodes that its attempt has in other trees, and the blocks of the chain that lists them
 pub record Stored : Type 0 where

@@ -3,7 +3,7 @@ use Rattle.std.specs.Prelude.{◌≡◌, ◌⊎◌, ◌<◌, ◌+◌, ◌*◌, �
 use Rattle.pmem_pages.specs.Blocks.{Blocks, Budget, IsSpent}
 use Rattle.pmem_pages.specs.Shape.{Shape, entries}
 use Rattle.pmem_pages.specs.Owners.{Holds}
-use Rattle.vos_chain.specs.Chains.{Chain, chain_owner, first_of}
+use Rattle.vos_versions.specs.vos_chain.Chains.{Chain, chain_owner, first_of}
 
 -- a chain begins at this block, however many bytes it has
 pub record IsListAt (m : Blocks) (first : ℕ) (c : Chain) : Type 0 where

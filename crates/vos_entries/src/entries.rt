@@ -5,15 +5,15 @@ ghost use Rattle.std.specs.Option.{option_and_then, option_map};
 ghost use Rattle.pmem_pages.specs.Blocks.{IsSpent};
 ghost use Rattle.pmem_pages.specs.Node.{IsKey};
 ghost use Rattle.pmem_pages.specs.Shape.{Entry as Pair, entries, entry_at};
-ghost use Rattle.pmem_tree.specs.Calls.{HasTree, OfTree, StepsAtMost};
-ghost use Rattle.pmem_tree.specs.Changes.{Puts};
-ghost use Rattle.pmem_tree_base.specs.Calls.{Goes};
-ghost use Rattle.pmem_tree_base.specs.declared.refusal.TreeNo.{TreeNo};
+ghost use Rattle.vos_versions.specs.pmem_tree.Calls.{HasTree, OfTree, StepsAtMost};
+ghost use Rattle.vos_versions.specs.pmem_tree.Changes.{Puts};
+ghost use Rattle.vos_versions.specs.pmem_tree_base.Calls.{Goes};
+ghost use Rattle.vos_versions.specs.pmem_tree_base.declared.refusal.TreeNo.{TreeNo};
 ghost use Rattle.vos_values.specs.Keys.{IsAttempt, attempt_key};
 ghost use Rattle.vos_values.specs.Values.{IsEntryMark, entry_in, entry_value};
-ghost use Rattle.vos_levels.specs.Calls.{Becomes, HasThing, OfThing};
-ghost use Rattle.vos_levels.specs.Levels.{HasMore, hung_root, things};
-ghost use Rattle.vos_chain.specs.Made.{chain_blocks};
+ghost use Rattle.vos_versions.specs.vos_levels.Calls.{Becomes, HasThing, OfThing};
+ghost use Rattle.vos_versions.specs.vos_levels.Levels.{HasMore, hung_root, things};
+ghost use Rattle.vos_versions.specs.vos_chain.Made.{chain_blocks};
 ghost use Rattle.vos_versions.specs.Marks.{StagesFor, TooFewFor};
 ghost use Rattle.vos_entries.specs.Entries.{AreListed, IsCommittedAt, IsConfirmedAt, IsGoneAt, committed_mark, confirmed_mark, entries_owner, entry_blocks_at, has_entry_at, is_at, list_blocks_at, listings, mark_of, mark_with};
 ghost use Rattle.vos_entries.specs.Lists.{FewerThan, FewerToRemove, StagesToRemove};
@@ -25,11 +25,11 @@ use base_types::id::AttemptId;
 use pmem_pages::pages::Pages;
 use pmem_pages::refusal::Stopped;
 use pmem_pages::steps::Steps;
-use pmem_tree::tree::Tree;
-use pmem_tree::{TreeKey, TreeNo, Value};
 use std::sync::ledger::Ledger;
 use vos_values::keys::attempt_key;
 use vos_values::values::{EntryMark, entry_value, read_entry};
+use vos_versions::below::tree::tree::Tree;
+use vos_versions::below::tree::{TreeKey, TreeNo, Value};
 
 /// The entries of a target: a tree of the kind of entries.
 #[derive(Clone, Copy)]

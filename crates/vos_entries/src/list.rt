@@ -3,11 +3,11 @@ ghost use Rattle.std.specs.Prelude.{◌≡◌, ◌≤◌, ◌<◌, ◌+◌, ◌*
 ghost use Rattle.byteorder.specs.Endian.{big_bytes};
 ghost use Rattle.pmem_pages.specs.Blocks.{IsSpent, IsTaken, put};
 ghost use Rattle.pmem_pages.specs.Owners.{Changed, maybe};
-ghost use Rattle.pmem_tree_base.specs.Calls.{Goes, Rests};
-ghost use Rattle.pmem_tree_base.specs.declared.refusal.TreeNo.{TreeNo};
+ghost use Rattle.vos_versions.specs.pmem_tree_base.Calls.{Goes, Rests};
+ghost use Rattle.vos_versions.specs.pmem_tree_base.declared.refusal.TreeNo.{TreeNo};
 ghost use Rattle.vos_values.specs.Links.{link_bytes};
-ghost use Rattle.vos_chain.specs.Chains.{chain_owner};
-ghost use Rattle.vos_chain.specs.Made.{HasFewer, MadeChain, chain_blocks};
+ghost use Rattle.vos_versions.specs.vos_chain.Chains.{chain_owner};
+ghost use Rattle.vos_versions.specs.vos_chain.Made.{HasFewer, MadeChain, chain_blocks};
 ghost use Rattle.vos_entries.specs.Entries.{list_bytes};
 ghost use Rattle.vos_entries.specs.Lists.{HasList, OfList};
 
@@ -15,10 +15,10 @@ use byteorder::{BigEndian, ByteOrder};
 use pmem_pages::BLOCK;
 use pmem_pages::pages::Pages;
 use pmem_pages::steps::Steps;
-use pmem_tree_base::refusal::TreeNo;
 use std::sync::ledger::Ledger;
-use vos_chain::chain::write_chain;
 use vos_values::links::{PART, read_next};
+use vos_versions::below::chain::chain::write_chain;
+use vos_versions::below::tree_base::refusal::TreeNo;
 
 /// How many nodes an entry can list: as many as the 64 writes of a transaction have.
 pub const MOST_NODES: usize = 256;

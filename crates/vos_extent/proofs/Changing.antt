@@ -9,11 +9,11 @@ use Rattle.pmem_pages.specs.declared.node.TreeKey.{TreeKey}
 use Rattle.vos_values.specs.declared.keys.ExtentKey.{ExtentKey}
 use Rattle.vos_values.specs.Keys.{IsAttempt, IsExtentKey, extent_key}
 use Rattle.vos_values.specs.Values.{is_length}
-use Rattle.vos_levels.specs.declared.change.Change.{Change}
-use Rattle.vos_levels.specs.Calls.{Becomes}
-use Rattle.vos_levels.specs.Changes.{changed_by, keeps}
-use Rattle.vos_levels.specs.Levels.{HasMore, hung_root, things}
-use Rattle.vos_levels.proofs.Settling.{becomes_shown, missing_key, shown_changed, shown_freed}
+use Rattle.vos_moments.specs.vos_levels.declared.change.Change.{Change}
+use Rattle.vos_moments.specs.vos_levels.Calls.{Becomes}
+use Rattle.vos_moments.specs.vos_levels.Changes.{changed_by, keeps}
+use Rattle.vos_moments.specs.vos_levels.Levels.{HasMore, hung_root, things}
+use Rattle.vos_moments.proofs.vos_levels.Settling.{becomes_shown, missing_key, shown_changed, shown_freed}
 use Rattle.vos_versions.specs.Marks.{Adds, Changes, HasBytesAt, freed_of, mark_at}
 use Rattle.vos_versions.proofs.Levels.{HasMade, Versions, has_bytes, taken_of, versions_changed, versions_freed, versions_more}
 use Rattle.vos_extent.specs.Extents.{IsChangedAt, IsStored, Extents, Stored, blocks_of_extent, chain_of, done_stored, done_extent, freed_at, has_extent_at, is_at, is_taken, key_of_stored, mark_of, new_extent, extent_level, extent_owner, extent_of, extents}

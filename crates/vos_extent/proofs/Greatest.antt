@@ -5,8 +5,8 @@ use Rattle.std.specs.List.{list_any}
 use Rattle.std.specs.Option.{option_map}
 use Rattle.std.proofs.lemmas.Bool.Decides.{nat_tests}
 use Rattle.vos_values.specs.declared.keys.Moment.{Moment}
-use Rattle.vos_levels.specs.Moments.{is_earlier}
-use Rattle.vos_levels.proofs.Spots.{first_false, then_false}
+use Rattle.vos_moments.specs.vos_levels.Moments.{is_earlier}
+use Rattle.vos_moments.proofs.vos_levels.Spots.{first_false, then_false}
 use Rattle.vos_extent.specs.declared.extent.ExtentVersion.{ExtentVersion}
 use Rattle.vos_extent.specs.Shown.{covers, greatest, greatest_with, if_passes, is_hidden, is_seen, later_of, moment_of, record_at, record_in, shown_of, shows}
 use Rattle.vos_extent.specs.Cells.{dated_with, painted}

@@ -11,8 +11,8 @@ use Rattle.pmem_pages.specs.declared.node.TreeKey.{TreeKey}
 use Rattle.vos_values.specs.declared.keys.ExtentKey.{ExtentKey}
 use Rattle.vos_values.specs.Keys.{IsExtentKey, extent_key}
 use Rattle.vos_values.proofs.KeyLaws.{extents_order}
-use Rattle.vos_levels.specs.Levels.{LeadToAll, TellsKey, hung_root}
-use Rattle.vos_levels.proofs.Changing.{hung_tree}
+use Rattle.vos_moments.specs.vos_levels.Levels.{LeadToAll, TellsKey, hung_root}
+use Rattle.vos_moments.proofs.vos_levels.Changing.{hung_tree}
 use Rattle.vos_extent.specs.Extents.{AllBehind, Extents, IsStored, Rise, Stored, extent_level, extent_owner, is_at, is_before, place_of}
 
 three_level : (a b c x y z : ℕ) → ((x == a) && (y == b) && (z == c)) ≡ chosen (ordering_then (nat_cmp a x) (ordering_then (nat_cmp b y) (ordering_then (nat_cmp c z) Equal))) false true false

@@ -13,18 +13,18 @@ use Rattle.pmem_pages.specs.Owners.{Holds}
 use Rattle.pmem_pages.specs.Shape.{Entry, chosen, entries, first_above}
 use Rattle.pmem_pages.specs.declared.node.TreeKey.{TreeKey}
 use Rattle.pmem_pages.proofs.Lists.{key_total}
-use Rattle.pmem_tree.specs.Calls.{TooFew}
-use Rattle.pmem_tree_base.specs.Find.{pair_of}
+use Rattle.vos_moments.specs.pmem_tree.Calls.{TooFew}
+use Rattle.vos_moments.specs.pmem_tree_base.Find.{pair_of}
 use Rattle.vos_values.specs.declared.keys.ExtentKey.{ExtentKey}
 use Rattle.vos_values.specs.declared.keys.Moment.{Moment}
 use Rattle.vos_values.specs.Keys.{extent_key}
-use Rattle.vos_levels.specs.declared.change.Change.{Change}
-use Rattle.vos_levels.specs.Changes.{changed_by, keeps, takes}
-use Rattle.vos_levels.specs.Calls.{Becomes}
-use Rattle.vos_levels.specs.Levels.{LeadToAll, hung_root, map_those, things, without_those}
-use Rattle.vos_levels.proofs.Spots.{first_false, then_false}
-use Rattle.vos_levels.proofs.Testing.{Agree, AllGood, AllHigher, AllLower, agree_append, all_good, around, few_things}
-use Rattle.vos_punches.specs.Moments.{has_moment}
+use Rattle.vos_moments.specs.vos_levels.declared.change.Change.{Change}
+use Rattle.vos_moments.specs.vos_levels.Changes.{changed_by, keeps, takes}
+use Rattle.vos_moments.specs.vos_levels.Calls.{Becomes}
+use Rattle.vos_moments.specs.vos_levels.Levels.{LeadToAll, hung_root, map_those, things, without_those}
+use Rattle.vos_moments.proofs.vos_levels.Spots.{first_false, then_false}
+use Rattle.vos_moments.proofs.vos_levels.Testing.{Agree, AllGood, AllHigher, AllLower, agree_append, all_good, around, few_things}
+use Rattle.vos_moments.specs.vos_punches.Moments.{has_moment}
 use Rattle.vos_moments.specs.Taking.{TooFewToRemove, number_of}
 use Rattle.vos_moments.proofs.Forms.{Form, not_again, took_nothing, took_one}
 use Rattle.vos_moments.proofs.Taking.{agree_all, lacked_then, length_shown, spent_at_most, took_same, took_then}

@@ -4,7 +4,7 @@ use Rattle.std.specs.Prelude.{if◌then◌else◌}
 use Rattle.std.specs.List.{list_any}
 use Rattle.std.proofs.lemmas.Bool.Decides.{nat_tests}
 use Rattle.vos_values.specs.declared.keys.Moment.{Moment}
-use Rattle.vos_levels.specs.Moments.{is_earlier}
+use Rattle.vos_moments.specs.vos_levels.Moments.{is_earlier}
 use Rattle.vos_extent.specs.declared.extent.ExtentVersion.{ExtentVersion}
 use Rattle.vos_extent.specs.Shown.{Among, IsGreatest, greatest, greatest_with, if_passes, later_of, moment_of}
 

@@ -19,7 +19,7 @@ use Rattle.pmem_pages.specs.Shape.{AllAbove, Entry, Rises, chosen, entries, firs
 use Rattle.pmem_pages.specs.declared.node.TreeKey.{TreeKey}
 use Rattle.pmem_pages.proofs.Lists.{AllAbove-lower}
 use Rattle.pmem_pages.proofs.Walks.{above_next, above_none}
-use Rattle.pmem_tree_base.specs.Find.{pair_of}
+use Rattle.vos_moments.specs.pmem_tree_base.Find.{pair_of}
 use Rattle.vos_values.specs.declared.keys.ExtentKey.{ExtentKey}
 use Rattle.vos_values.specs.declared.keys.Moment.{Moment}
 use Rattle.vos_values.specs.Fields.{key_of, packed}
@@ -29,11 +29,11 @@ use Rattle.vos_values.proofs.KeyLaws.{extents_exact, extents_order, keys_cmp}
 use Rattle.vos_values.proofs.Orders.{packed_cmp}
 use Rattle.vos_values.proofs.Reading.{first_holds, then_holds}
 use Rattle.vos_values.proofs.ValueLaws.{singles_exact}
-use Rattle.vos_levels.specs.Levels.{LeadToAll, pair_of_thing, things}
-use Rattle.vos_levels.proofs.Changing.{holds_each, holds_spot}
-use Rattle.vos_levels.proofs.Testing.{few_things}
-use Rattle.vos_levels.specs.Moments.{is_earlier}
-use Rattle.vos_chain.specs.Made.{IsChainAt}
+use Rattle.vos_moments.specs.vos_levels.Levels.{LeadToAll, pair_of_thing, things}
+use Rattle.vos_moments.proofs.vos_levels.Changing.{holds_each, holds_spot}
+use Rattle.vos_moments.proofs.vos_levels.Testing.{few_things}
+use Rattle.vos_moments.specs.vos_levels.Moments.{is_earlier}
+use Rattle.vos_versions.specs.vos_chain.Made.{IsChainAt}
 use Rattle.vos_extent.specs.declared.cells.Cell.{Cell}
 use Rattle.vos_extent.specs.declared.extent.ExtentVersion.{ExtentVersion}
 use Rattle.vos_extent.specs.declared.pieces.Look.{Look}

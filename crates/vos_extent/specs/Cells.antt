@@ -1,7 +1,7 @@
 -- Indexes on the way: what each holds so far, and when that was written.
 use Rattle.std.specs.Prelude.{◌&&◌, ◌+◌, ◌-◌, ◌*◌, ◌/◌, ℕ, nat_le, nat_lt, List, length, take, drop, Option, Some, None, if◌then◌else◌}
 use Rattle.vos_values.specs.declared.keys.Moment.{Moment}
-use Rattle.vos_levels.specs.Moments.{is_earlier}
+use Rattle.vos_moments.specs.vos_levels.Moments.{is_earlier}
 use Rattle.vos_extent.specs.declared.cells.Cell.{Cell}
 
 -- a record, and when it was written

@@ -10,11 +10,11 @@ use Rattle.vos_values.specs.declared.keys.ExtentKey.{ExtentKey}
 use Rattle.vos_values.specs.declared.values.VersionMark.{VersionMark}
 use Rattle.vos_values.specs.Keys.{IsExtentKey, extent_in, extent_key}
 use Rattle.vos_values.specs.Values.{IsVersionMark, version_in, version_value}
-use Rattle.vos_levels.specs.declared.change.Change.{Change}
-use Rattle.vos_levels.specs.Changes.{changed_by, freed_by, keeps, takes}
-use Rattle.vos_levels.specs.Levels.{Hung, Level, hung, in_part, things}
-use Rattle.vos_chain.specs.Chains.{Chain, chain_owner, first_of}
-use Rattle.vos_chain.specs.Made.{chain_blocks}
+use Rattle.vos_moments.specs.vos_levels.declared.change.Change.{Change}
+use Rattle.vos_moments.specs.vos_levels.Changes.{changed_by, freed_by, keeps, takes}
+use Rattle.vos_moments.specs.vos_levels.Levels.{Hung, Level, hung, in_part, things}
+use Rattle.vos_versions.specs.vos_chain.Chains.{Chain, chain_owner, first_of}
+use Rattle.vos_versions.specs.vos_chain.Made.{chain_blocks}
 use Rattle.vos_extent.specs.declared.extent.ExtentVersion.{ExtentVersion}
 use Rattle.vos_extent.specs.declared.pieces.Placed.{Placed}
 

@@ -1,7 +1,7 @@
 -- A look at a stretch of an array, and what an extent makes of it.
 use Rattle.std.specs.Prelude.{◌≡◌, ◌&&◌, ◌+◌, ◌/◌, ◌<◌, ℕ, Bool, not, nat_lt, List, length, map, take, get_or, Option, Some, None}
 use Rattle.vos_values.specs.declared.keys.Moment.{Moment}
-use Rattle.vos_levels.specs.Moments.{is_earlier}
+use Rattle.vos_moments.specs.vos_levels.Moments.{is_earlier}
 use Rattle.vos_extent.specs.declared.cells.Cell.{Cell}
 use Rattle.vos_extent.specs.declared.extent.ExtentVersion.{ExtentVersion}
 use Rattle.vos_extent.specs.declared.pieces.Look.{Look}

@@ -8,10 +8,10 @@ use Rattle.pmem_pages.specs.Shape.{chosen}
 use Rattle.pmem_pages.specs.declared.node.TreeKey.{TreeKey}
 use Rattle.vos_values.specs.declared.keys.Moment.{Moment}
 use Rattle.vos_values.specs.Keys.{extent_key}
-use Rattle.vos_levels.specs.declared.change.Change.{Change}
-use Rattle.vos_levels.specs.Changes.{changed_by, freed_by, keeps, same_attempt, sum_those, takes}
-use Rattle.vos_levels.specs.Levels.{without_those}
-use Rattle.vos_punches.specs.Moments.{has_moment}
+use Rattle.vos_moments.specs.vos_levels.declared.change.Change.{Change}
+use Rattle.vos_moments.specs.vos_levels.Changes.{changed_by, freed_by, keeps, same_attempt, sum_those, takes}
+use Rattle.vos_moments.specs.vos_levels.Levels.{without_those}
+use Rattle.vos_moments.specs.vos_punches.Moments.{has_moment}
 use Rattle.vos_moments.specs.Steps.{change_of}
 use Rattle.vos_moments.specs.Taking.{Took}
 use Rattle.vos_extent.specs.declared.extent.ExtentVersion.{ExtentVersion}

@@ -8,7 +8,7 @@ use Rattle.pmem_pages.specs.Shape.{Shape, entries}
 use Rattle.pmem_pages.specs.declared.node.TreeKey.{TreeKey}
 use Rattle.vos_values.specs.declared.keys.Moment.{Moment}
 use Rattle.vos_values.specs.Keys.{name_key}
-use Rattle.vos_levels.specs.Moments.{is_earlier}
+use Rattle.vos_moments.specs.vos_levels.Moments.{is_earlier}
 use Rattle.vos_extent.specs.declared.extent.ExtentVersion.{ExtentVersion}
 
 abbrev pub moment_of : ExtentVersion → Moment

@@ -1,6 +1,6 @@
 // What each index holds so far.
 ghost use Rattle.std.specs.Prelude.{◌≡◌, ◌≤◌, ◌<◌, ◌+◌, ◌*◌, ◌^◌, ℕ, None, length, take, drop, get_or};
-ghost use Rattle.vos_levels.specs.Moments.{is_earlier};
+ghost use Rattle.vos_moments.specs.vos_levels.Moments.{is_earlier};
 ghost use Rattle.vos_extent.specs.Cells.{dated_in, dated_with, painted};
 
 use vos_values::keys::Moment;

@@ -2,14 +2,14 @@
 ghost use Rattle.std.specs.Prelude.{◌≡◌, ◌≤◌, ◌<◌, ◌+◌, true, false, OnOk, IsErrOf, ⊤, length};
 ghost use Rattle.pmem_pages.specs.Blocks.{IsSpent};
 ghost use Rattle.pmem_pages.specs.Node.{IsKey};
-ghost use Rattle.pmem_tree.specs.Calls.{StepsAtMost, TooFew};
-ghost use Rattle.pmem_tree_base.specs.Calls.{Goes};
-ghost use Rattle.pmem_tree_base.specs.declared.refusal.TreeNo.{TreeNo};
+ghost use Rattle.vos_moments.specs.pmem_tree.Calls.{StepsAtMost, TooFew};
+ghost use Rattle.vos_moments.specs.pmem_tree_base.Calls.{Goes};
+ghost use Rattle.vos_moments.specs.pmem_tree_base.declared.refusal.TreeNo.{TreeNo};
 ghost use Rattle.vos_values.specs.Keys.{IsExtentKey, extent_key};
-ghost use Rattle.vos_levels.specs.Calls.{Becomes, HasThing, OfThing};
-ghost use Rattle.vos_levels.specs.Changes.{keeps};
-ghost use Rattle.vos_levels.specs.Levels.{HasMore, hung_root, things};
-ghost use Rattle.vos_chain.specs.Made.{chain_blocks};
+ghost use Rattle.vos_moments.specs.vos_levels.Calls.{Becomes, HasThing, OfThing};
+ghost use Rattle.vos_moments.specs.vos_levels.Changes.{keeps};
+ghost use Rattle.vos_moments.specs.vos_levels.Levels.{HasMore, hung_root, things};
+ghost use Rattle.vos_versions.specs.vos_chain.Made.{chain_blocks};
 ghost use Rattle.vos_versions.specs.Marks.{StagesFor, StagesLess, TooFewFor};
 ghost use Rattle.vos_extent.specs.Extents.{IsChangedAt, extent_owner, extents, freed_at, has_extent_at, new_extent};
 
@@ -18,10 +18,10 @@ use base_types::id::AttemptId;
 use base_types::items::Vec8;
 use pmem_pages::pages::Pages;
 use pmem_pages::steps::Steps;
-use pmem_tree::tree::Tree;
-use pmem_tree::{TreeKey, TreeNo};
 use std::sync::ledger::Ledger;
-use vos_levels::change::Change;
+use vos_moments::below::levels::change::Change;
+use vos_moments::below::tree::tree::Tree;
+use vos_moments::below::tree::{TreeKey, TreeNo};
 use vos_values::keys::{ExtentKey, extent_key};
 use vos_versions::versions::{add, change_at};
 

@@ -1,7 +1,7 @@
 // The order in which extents stand, and what the greatest of them is.
 ghost use Rattle.pmem_pages.specs.Blocks.{Blocks};
 ghost use Rattle.pmem_pages.specs.Owners.{Holds};
-ghost use Rattle.vos_levels.specs.Levels.{things};
+ghost use Rattle.vos_moments.specs.vos_levels.Levels.{things};
 ghost use Rattle.std.specs.Prelude.{◌≡◌, Bool, false, List, Some, None};
 ghost use Rattle.std.specs.List.{list_any};
 ghost use Rattle.vos_extent.specs.declared.extent.ExtentVersion.{ExtentVersion as ExtentOf};

@@ -5,9 +5,9 @@ use Rattle.std.specs.List.{find}
 use Rattle.std.proofs.lemmas.List.Elements.{All-cons, All-head, All-nil, All-same, All-tail}
 use Rattle.vos_levels.specs.Changes.{changed_by}
 use Rattle.vos_levels.specs.Levels.{HasMore, map_those, without_those}
-use Rattle.vos_path.specs.Calls.{IsPut, Swapped}
-use Rattle.vos_path.specs.Nodes.{OnePut}
-use Rattle.vos_path.specs.Objects.{or_none, together}
+use Rattle.vos_image.specs.vos_path.Calls.{IsPut, Swapped}
+use Rattle.vos_image.specs.vos_path.Nodes.{OnePut}
+use Rattle.vos_image.specs.vos_path.Objects.{or_none, together}
 use Rattle.vos_settle.specs.Nodes.{ChangesOne}
 
 pub on_all : {A : Type 0} (P Q : A → Type 0) → ((a : A) → P a → Q a) → (xs : List A) → All P xs → All Q xs

@@ -14,7 +14,7 @@ use Rattle.vos_image.specs.Content.{Content}
 use Rattle.vos_image.specs.Fits.{AllFit, EntryFits}
 use Rattle.vos_image.specs.Nodes.{Node, is_of, nodes_in}
 use Rattle.vos_levels.specs.Levels.{things}
-use Rattle.vos_path.specs.Objects.{Objects}
+use Rattle.vos_image.specs.vos_path.Objects.{Objects}
 use Rattle.vos_fitting.specs.Fitting.{EntryMayStand, FitsCommitted, FitsConfirmed, FitsWithEntry, FitsWithoutEntry, ListNothing, MembersAreTargets, StillFit}
 use Rattle.vos_fitting.proofs.Alls.{from_map, of_map, of_others, of_those, on_all, on_both, with_more}
 

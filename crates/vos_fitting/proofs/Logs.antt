@@ -5,25 +5,25 @@ use Rattle.std.specs.List.{find}
 use Rattle.std.proofs.lemmas.List.Elements.{All-nil, All-same}
 use Rattle.base_types.specs.declared.operation.Write.{Write}
 use Rattle.base_types.specs.declared.path.Path.{Path}
-use Rattle.vos_extent.specs.Extents.{extents}
+use Rattle.vos_image.specs.vos_extent.Extents.{extents}
 use Rattle.vos_ilog.specs.declared.ilog.LogEntry.{LogEntry}
 use Rattle.vos_ilog.specs.Logs.{done_entry, is_at, moment_of}
 use Rattle.vos_image.specs.Content.{Content}
 use Rattle.vos_image.specs.Fits.{AkeyFits, DkeyFits, LogFits, ObjectFits}
 use Rattle.vos_levels.specs.Changes.{keeps}
 use Rattle.vos_levels.specs.Levels.{Hung, is_level, things}
-use Rattle.vos_path.specs.declared.stamp.Stamp.{Stamp}
-use Rattle.vos_path.specs.Nodes.{AkeysNoted, DkeyNoted, DkeysNoted, ObjectNoted, ObjectsNoted, ValuesNoted, noted}
-use Rattle.vos_path.specs.Objects.{Akey, Below, Dkey, Object, Objects, Values, akey_level, akey_path, akey_versions, dkey_level, dkey_path, dkey_versions, extent_version, held_below, held_values, no_below, no_values, object_level, object_path, object_versions, objects_versions, punches, single_version}
+use Rattle.vos_image.specs.vos_path.declared.stamp.Stamp.{Stamp}
+use Rattle.vos_image.specs.vos_path.Nodes.{AkeysNoted, DkeyNoted, DkeysNoted, ObjectNoted, ObjectsNoted, ValuesNoted, noted}
+use Rattle.vos_image.specs.vos_path.Objects.{Akey, Below, Dkey, Object, Objects, Values, akey_level, akey_path, akey_versions, dkey_level, dkey_path, dkey_versions, extent_version, held_below, held_values, no_below, no_values, object_level, object_path, object_versions, objects_versions, punches, single_version}
 use Rattle.base_types.specs.declared.operation.Write.TheVariants.{PunchAkey, PunchDkey, PunchObject}
-use Rattle.vos_path.specs.Writes.{IsNoted, IsNotedIf, is_update}
+use Rattle.vos_image.specs.vos_path.Writes.{IsNoted, IsNotedIf, is_update}
 use Rattle.vos_settle.specs.declared.task.Task.{Task}
 use Rattle.vos_settle.specs.declared.task.Which.{Which}
 use Rattle.vos_settle.specs.declared.task.Which.TheVariants.{Creation, Punch}
 use Rattle.vos_settle.specs.Nodes.{AkeyTurn, AkeysTurn, BranchTurn, DkeyTurn, DkeysTurn, ObjectTurn, OneObjectTurn, is_akey, is_dkey, is_object}
 use Rattle.vos_settle.specs.Tasks.{is_taken, log_after, noted_after, punched_after}
 use Rattle.vos_settle.specs.Tasks as tasks
-use Rattle.vos_single.specs.Singles.{versions}
+use Rattle.vos_image.specs.vos_single.Singles.{versions}
 use Rattle.vos_values.specs.declared.keys.ObjectKey.{ObjectKey}
 use Rattle.vos_values.specs.Keys.{is_size, name_key, object_key}
 use Rattle.std.specs.Prelude.{map, if◌then◌else◌}

@@ -7,18 +7,18 @@ use Rattle.base_types.specs.declared.path.Path.{Path}
 use Rattle.base_types.specs.Paths.{record_size}
 use Rattle.daos_model.specs.declared.durable.Version.{Version}
 use Rattle.daos_model.specs.Forms.{ends_at_akey, fits_records, is_length, is_write_in_form}
-use Rattle.vos_extent.specs.Extents.{Stored as StoredExtent, extent_of, extents}
+use Rattle.vos_image.specs.vos_extent.Extents.{Stored as StoredExtent, extent_of, extents}
 use Rattle.vos_ilog.specs.declared.ilog.LogEntry.{LogEntry}
 use Rattle.vos_image.specs.Content.{Content}
 use Rattle.vos_image.specs.Fits.{AkeyFits, DkeyFits, ExtentFits, LogFits, ObjectFits, SingleFits}
 use Rattle.vos_levels.specs.Changes.{keeps}
 use Rattle.vos_levels.specs.Levels.{HasMore, things}
-use Rattle.vos_path.specs.declared.stamp.Stamp.{Stamp}
-use Rattle.vos_path.specs.Objects.{Akey, Dkey, Object, Objects, akey_path, akey_versions, dkey_path, dkey_versions, extent_version, is_punch, object_path, object_versions, objects_versions, punch_version, punches, single_version}
-use Rattle.vos_path.specs.Writes.{fresh}
+use Rattle.vos_image.specs.vos_path.declared.stamp.Stamp.{Stamp}
+use Rattle.vos_image.specs.vos_path.Objects.{Akey, Dkey, Object, Objects, akey_path, akey_versions, dkey_path, dkey_versions, extent_version, is_punch, object_path, object_versions, objects_versions, punch_version, punches, single_version}
+use Rattle.vos_image.specs.vos_path.Writes.{fresh}
 use Rattle.vos_settle.specs.declared.task.Task.{Task}
 use Rattle.vos_settle.specs.Versions.{done_version, is_version_taken, versions_after}
-use Rattle.vos_single.specs.Singles.{Stored as StoredSingle, version_of, versions}
+use Rattle.vos_image.specs.vos_single.Singles.{Stored as StoredSingle, version_of, versions}
 use Rattle.vos_values.specs.declared.keys.ObjectKey.{ObjectKey}
 use Rattle.vos_fitting.specs.Fitting.{MayStand}
 use Rattle.vos_fitting.proofs.Alls.{all_together, from_map, joined, of_changed, of_filter, of_map, on_all, with_more}

@@ -12,7 +12,7 @@ use Rattle.vos_image.specs.Content.{Content}
 use Rattle.vos_image.specs.Fits.{AllFit, EntryFits, ObjectFits}
 use Rattle.vos_image.specs.Nodes.{Node, is_of, nodes_in}
 use Rattle.vos_levels.specs.Levels.{things}
-use Rattle.vos_path.specs.Objects.{Objects, objects_versions}
+use Rattle.vos_image.specs.vos_path.Objects.{Objects, objects_versions}
 use Rattle.vos_settle.specs.Versions.{object_in, versions_after}
 use Rattle.vos_values.specs.declared.keys.Layout.{Layout}
 use Rattle.vos_values.specs.declared.keys.Layout.TheVariants.{Two}

@@ -15,11 +15,11 @@ use Rattle.vos_image.specs.Fits.{AllFit}
 use Rattle.vos_image.specs.Kinds.{fits_targets}
 use Rattle.vos_levels.specs.Calls.{Becomes}
 use Rattle.vos_levels.specs.Levels.{HasMore, hung_root, things}
-use Rattle.vos_path.specs.declared.stamp.Stamp.{Stamp}
-use Rattle.vos_path.specs.Calls.{Turns}
-use Rattle.vos_path.specs.Nodes.{ObjectsNoted}
-use Rattle.vos_path.specs.Objects.{Objects, objects_owner, objects_versions}
-use Rattle.vos_path.specs.Writes.{IsAtObject, fresh}
+use Rattle.vos_image.specs.vos_path.declared.stamp.Stamp.{Stamp}
+use Rattle.vos_image.specs.vos_path.Calls.{Turns}
+use Rattle.vos_image.specs.vos_path.Nodes.{ObjectsNoted}
+use Rattle.vos_image.specs.vos_path.Objects.{Objects, objects_owner, objects_versions}
+use Rattle.vos_image.specs.vos_path.Writes.{IsAtObject, fresh}
 use Rattle.vos_settle.specs.declared.task.Task.{Task}
 use Rattle.vos_settle.specs.Versions.{WriteTurn}
 use Rattle.vos_values.specs.declared.keys.Layout.TheVariants.{Two}

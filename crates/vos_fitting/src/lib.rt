@@ -1,4 +1,5 @@
 // What fits the layout stays fitting where a write or an entry comes, is settled or goes.
 #![tactic(auto)]
 
+pub mod below;
 pub mod laws;

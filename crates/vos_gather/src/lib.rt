@@ -2,6 +2,7 @@
 #![tactic(auto)]
 
 mod akeys;
+pub mod below;
 mod dkeys;
 mod log;
 pub mod objects;

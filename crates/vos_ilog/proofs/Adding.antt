@@ -5,14 +5,14 @@ use Rattle.pmem_pages.specs.Owners.{Holds}
 use Rattle.pmem_pages.specs.Shape.{entries, entry_at}
 use Rattle.pmem_pages.specs.declared.node.TreeKey.{TreeKey}
 use Rattle.pmem_pages.specs.declared.node.Value.{Value}
-use Rattle.pmem_tree.specs.Changes.{Inserts}
+use Rattle.vos_moments.specs.pmem_tree.Changes.{Inserts}
 use Rattle.vos_values.specs.declared.keys.Moment.{Moment}
 use Rattle.vos_values.specs.Keys.{IsMoment, moment_key}
-use Rattle.vos_levels.specs.Calls.{Becomes}
-use Rattle.vos_levels.specs.Levels.{HasMore, TellsKey, hung_root, things}
-use Rattle.vos_levels.proofs.Changing.{hung_more, none_made}
-use Rattle.vos_levels.proofs.Moments.{moment_level}
-use Rattle.vos_levels.proofs.Spots.{look, some_not_none}
+use Rattle.vos_moments.specs.vos_levels.Calls.{Becomes}
+use Rattle.vos_moments.specs.vos_levels.Levels.{HasMore, TellsKey, hung_root, things}
+use Rattle.vos_moments.proofs.vos_levels.Changing.{hung_more, none_made}
+use Rattle.vos_moments.proofs.vos_levels.Moments.{moment_level}
+use Rattle.vos_moments.proofs.vos_levels.Spots.{look, some_not_none}
 use Rattle.vos_ilog.specs.declared.ilog.LogEntry.{LogEntry}
 use Rattle.vos_ilog.specs.Logs.{IsLogEntry, Log, has_entry_at, is_at, key_of_entry, log_level, log_owner, moment_of, value_of_entry}
 

@@ -7,19 +7,19 @@ use Rattle.pmem_pages.specs.Owners.{Changed, Holds}
 use Rattle.pmem_pages.specs.Shape.{Entry, entries, entry_at}
 use Rattle.pmem_pages.specs.declared.node.TreeKey.{TreeKey}
 use Rattle.pmem_pages.specs.declared.node.Value.{Value}
-use Rattle.pmem_tree.specs.Changes.{Puts, Removes}
+use Rattle.vos_moments.specs.pmem_tree.Changes.{Puts, Removes}
 use Rattle.vos_values.specs.declared.keys.Moment.{Moment}
 use Rattle.vos_values.specs.declared.values.LogMark.{LogMark}
 use Rattle.vos_values.specs.Keys.{IsMoment, moment_key}
 use Rattle.vos_values.specs.Values.{log_value}
-use Rattle.vos_levels.specs.declared.change.Change.{Change}
-use Rattle.vos_levels.specs.Calls.{Becomes}
-use Rattle.vos_levels.specs.Changes.{keeps, takes}
-use Rattle.vos_levels.specs.Levels.{hung_root, things}
-use Rattle.vos_levels.proofs.Changing.{hung_less, hung_other, none_changes, none_given, stays}
-use Rattle.vos_levels.proofs.Settling.{Says, becomes_shown, kept_freed, list_freed, list_gone, list_kept, list_same, none_freed, says, says_none, spot_at}
-use Rattle.vos_levels.proofs.Spots.{Spot}
-use Rattle.vos_levels.proofs.Testing.{fewer_none, spot_none}
+use Rattle.vos_moments.specs.vos_levels.declared.change.Change.{Change}
+use Rattle.vos_moments.specs.vos_levels.Calls.{Becomes}
+use Rattle.vos_moments.specs.vos_levels.Changes.{keeps, takes}
+use Rattle.vos_moments.specs.vos_levels.Levels.{hung_root, things}
+use Rattle.vos_moments.proofs.vos_levels.Changing.{hung_less, hung_other, none_changes, none_given, stays}
+use Rattle.vos_moments.proofs.vos_levels.Settling.{Says, becomes_shown, kept_freed, list_freed, list_gone, list_kept, list_same, none_freed, says, says_none, spot_at}
+use Rattle.vos_moments.proofs.vos_levels.Spots.{Spot}
+use Rattle.vos_moments.proofs.vos_levels.Testing.{fewer_none, spot_none}
 use Rattle.vos_ilog.specs.Logs.{IsChangedAt, IsDoneAt, IsGoneAt, Log, SaysAt, done_entry, freed_at, is_at, is_taken, log_level, log_owner, mark_of, one_block, value_of_entry}
 use Rattle.vos_ilog.proofs.Adding.{tells_at}
 

@@ -7,17 +7,17 @@ use Rattle.pmem_pages.specs.Blocks.{Blocks}
 use Rattle.pmem_pages.specs.Owners.{Holds}
 use Rattle.pmem_pages.specs.Shape.{IsTree, entries, entry_at, last_under}
 use Rattle.pmem_pages.specs.declared.node.TreeKey.{TreeKey}
-use Rattle.pmem_tree_base.specs.Find.{pair_of, value_of}
+use Rattle.vos_moments.specs.pmem_tree_base.Find.{pair_of, value_of}
 use Rattle.vos_values.specs.declared.keys.Moment.{Moment}
 use Rattle.vos_values.specs.Keys.{IsMoment, moment_key}
 use Rattle.vos_values.specs.Values.{log_in, log_value}
 use Rattle.vos_values.proofs.KeyLaws.{moments_exact}
 use Rattle.vos_values.proofs.ValueLaws.{logs_exact}
-use Rattle.vos_levels.specs.Levels.{TellsAbove, find_last, hung_root, pair_of_thing, things}
-use Rattle.vos_levels.proofs.Changing.{hung_tree}
-use Rattle.vos_levels.proofs.Moments.{moment_below}
-use Rattle.vos_levels.proofs.Spots.{last_found, value_found}
-use Rattle.vos_levels.proofs.Testing.{all_good, count_most, count_of, few_things, found_good, last_good, map_same, none_counts, none_wanted_there, read_option, walk_end, walk_found, walk_less, walk_on}
+use Rattle.vos_moments.specs.vos_levels.Levels.{TellsAbove, find_last, hung_root, pair_of_thing, things}
+use Rattle.vos_moments.proofs.vos_levels.Changing.{hung_tree}
+use Rattle.vos_moments.proofs.vos_levels.Moments.{moment_below}
+use Rattle.vos_moments.proofs.vos_levels.Spots.{last_found, value_found}
+use Rattle.vos_moments.proofs.vos_levels.Testing.{all_good, count_most, count_of, few_things, found_good, last_good, map_same, none_counts, none_wanted_there, read_option, walk_end, walk_found, walk_less, walk_on}
 use Rattle.vos_ilog.specs.declared.ilog.LogEntry.{LogEntry}
 use Rattle.vos_ilog.specs.Logs.{IsLogEntry, Log, entry_in_pair, entry_when, entry_with, is_at, is_punch_below, is_under, log_level, log_owner, mark_of, moment_of, value_of_entry}
 use Rattle.vos_ilog.proofs.Adding.{tells_at}

@@ -9,10 +9,10 @@ use Rattle.pmem_pages.specs.Shape.{entries}
 use Rattle.vos_values.specs.declared.keys.Moment.{Moment}
 use Rattle.vos_values.specs.declared.values.LogMark.{LogMark}
 use Rattle.vos_values.specs.Keys.{IsMoment}
-use Rattle.vos_levels.specs.declared.change.Change.{Change}
-use Rattle.vos_levels.specs.Changes.{takes}
-use Rattle.vos_levels.specs.Levels.{things}
-use Rattle.vos_levels.proofs.Testing.{AllGood, all_good}
+use Rattle.vos_moments.specs.vos_levels.declared.change.Change.{Change}
+use Rattle.vos_moments.specs.vos_levels.Changes.{takes}
+use Rattle.vos_moments.specs.vos_levels.Levels.{things}
+use Rattle.vos_moments.proofs.vos_levels.Testing.{AllGood, all_good}
 use Rattle.vos_moments.proofs.Forms.{Form}
 use Rattle.vos_moments.proofs.Taking.{taken_is}
 use Rattle.vos_ilog.specs.declared.ilog.LogEntry.{LogEntry}

@@ -12,10 +12,10 @@ use Rattle.vos_values.specs.declared.keys.Moment.{Moment}
 use Rattle.vos_values.specs.declared.values.LogMark.{LogMark}
 use Rattle.vos_values.specs.Keys.{IsAttempt, IsMoment, moment_in, moment_key}
 use Rattle.vos_values.specs.Values.{log_in, log_value}
-use Rattle.vos_levels.specs.declared.change.Change.{Change}
-use Rattle.vos_levels.specs.Changes.{changed_by, freed_by, keeps, takes}
-use Rattle.vos_levels.specs.Levels.{Hung, Level, hung, in_none, map_those, things, without_those}
-use Rattle.vos_levels.specs.Moments.{is_earlier, same_moment}
+use Rattle.vos_moments.specs.vos_levels.declared.change.Change.{Change}
+use Rattle.vos_moments.specs.vos_levels.Changes.{changed_by, freed_by, keeps, takes}
+use Rattle.vos_moments.specs.vos_levels.Levels.{Hung, Level, hung, in_none, map_those, things, without_those}
+use Rattle.vos_moments.specs.vos_levels.Moments.{is_earlier, same_moment}
 use Rattle.vos_ilog.specs.declared.ilog.LogEntry.{LogEntry}
 
 abbrev pub moment_of : LogEntry → Moment

@@ -5,10 +5,10 @@ use Rattle.base_types.specs.declared.id.AttemptId.{AttemptId}
 use Rattle.pmem_pages.specs.Blocks.{Blocks, Budget}
 use Rattle.vos_values.specs.declared.keys.Moment.{Moment}
 use Rattle.vos_values.specs.declared.values.LogMark.{LogMark}
-use Rattle.vos_levels.specs.declared.change.Change.{Change}
-use Rattle.vos_levels.specs.Changes.{changed_by, freed_by, keeps, same_attempt, sum_those, takes}
-use Rattle.vos_levels.specs.Levels.{things, without_those}
-use Rattle.vos_punches.specs.Moments.{has_moment}
+use Rattle.vos_moments.specs.vos_levels.declared.change.Change.{Change}
+use Rattle.vos_moments.specs.vos_levels.Changes.{changed_by, freed_by, keeps, same_attempt, sum_those, takes}
+use Rattle.vos_moments.specs.vos_levels.Levels.{things, without_those}
+use Rattle.vos_moments.specs.vos_punches.Moments.{has_moment}
 use Rattle.vos_moments.specs.Steps.{change_of}
 use Rattle.vos_moments.specs.Taking.{Took, takes_one}
 use Rattle.vos_ilog.specs.declared.ilog.LogEntry.{LogEntry}

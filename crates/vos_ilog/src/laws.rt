@@ -1,8 +1,8 @@
 // The order in which entries of a log stand.
 ghost use Rattle.pmem_pages.specs.Blocks.{Blocks};
 ghost use Rattle.pmem_pages.specs.Owners.{Holds};
-ghost use Rattle.vos_levels.specs.Levels.{things};
-ghost use Rattle.vos_levels.specs.Moments.{Rise};
+ghost use Rattle.vos_moments.specs.vos_levels.Levels.{things};
+ghost use Rattle.vos_moments.specs.vos_levels.Moments.{Rise};
 ghost use Rattle.vos_ilog.specs.Logs.{Log as LogOf, log_owner, moment_of};
 
 /// Entries of a log stand in the order of their moments, no two of one moment: so the last that passes a

@@ -13,8 +13,8 @@ use Rattle.vos_values.specs.Fields.{padded}
 use Rattle.vos_values.specs.Links.{is_link, is_zero, link_bytes, next_in}
 use Rattle.vos_values.proofs.LinkLaws.{link_again, part_again}
 use Rattle.vos_values.proofs.Reading.{chosen_test}
-use Rattle.vos_chain.specs.Chains.{Chain, Links, first_of}
-use Rattle.vos_chain.proofs.Reading.{first_low}
+use Rattle.vos_entries.specs.vos_chain.Chains.{Chain, Links, first_of}
+use Rattle.vos_entries.proofs.vos_chain.Reading.{first_low}
 use Rattle.vos_entries.proofs.Lists.{blocks_counted}
 use Rattle.vos_image.specs.Steps.{give}
 use Rattle.vos_image.specs.Content.{Content, is_taken, link, shown}

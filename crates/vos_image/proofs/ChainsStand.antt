@@ -11,8 +11,8 @@ use Rattle.pmem_pages.specs.Owners.{times}
 use Rattle.vos_values.specs.Links.{is_link, is_zero, link_bytes, next_in}
 use Rattle.vos_values.proofs.LinkLaws.{link_back}
 use Rattle.vos_values.proofs.Reading.{chosen_again}
-use Rattle.vos_chain.specs.Chains.{Chain, Links, first_of}
-use Rattle.vos_chain.specs.Made.{chain_blocks}
+use Rattle.vos_entries.specs.vos_chain.Chains.{Chain, Links, first_of}
+use Rattle.vos_entries.specs.vos_chain.Made.{chain_blocks}
 use Rattle.vos_image.specs.Laws.{IsOfBytes}
 use Rattle.vos_image.specs.Content.{Content, block, shown}
 use Rattle.vos_image.specs.Kinds.{read_chain, read_links}

@@ -14,8 +14,8 @@ use Rattle.vos_values.specs.Values.{IsEntryMark, entry_in, entry_value, is_state
 use Rattle.vos_values.proofs.KeyLaws.{attempts_exact}
 use Rattle.vos_values.proofs.Reading.{chosen_is, chosen_test, length_packed}
 use Rattle.vos_values.proofs.ValueLaws.{entries_exact}
-use Rattle.vos_levels.specs.Levels.{hung_root, things}
-use Rattle.vos_chain.specs.Chains.{chain_owner, chain_taken, first_of}
+use Rattle.vos_entries.specs.vos_levels.Levels.{hung_root, things}
+use Rattle.vos_entries.specs.vos_chain.Chains.{chain_owner, chain_taken, first_of}
 use Rattle.vos_entries.specs.Entries.{Entries, Stored, entries_owner, entry_level, list_bytes, list_of, mark_of}
 use Rattle.vos_image.specs.Steps.{says}
 use Rattle.vos_image.specs.Content.{Content, is_taken, shown}

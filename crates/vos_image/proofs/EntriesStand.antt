@@ -16,7 +16,7 @@ use Rattle.vos_values.specs.Values.{IsEntryMark, entry_in, entry_value}
 use Rattle.vos_values.proofs.KeyLaws.{attempts_exact}
 use Rattle.vos_values.proofs.Reading.{chosen_is}
 use Rattle.vos_values.proofs.ValueLaws.{entries_exact}
-use Rattle.vos_chain.specs.Chains.{Links, first_of}
+use Rattle.vos_entries.specs.vos_chain.Chains.{Links, first_of}
 use Rattle.vos_entries.specs.Entries.{AreListed, entries_owner, entry_level, list_bytes}
 use Rattle.vos_image.specs.Laws.{IsOfBytes}
 use Rattle.vos_image.specs.Content.{Content, shown}

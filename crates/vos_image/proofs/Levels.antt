@@ -7,11 +7,11 @@ use Rattle.pmem_pages.specs.Counts.{times_none}
 use Rattle.pmem_pages.specs.Owners.{Holds, Owner, both, times, times-append}
 use Rattle.pmem_pages.proofs.Shapes.{root_fits}
 use Rattle.vos_values.specs.Values.{is_length}
-use Rattle.vos_levels.specs.Levels.{Hung, Level, hung, hung_root, things}
-use Rattle.vos_chain.specs.Chains.{Chain, chain_owner, first_of}
-use Rattle.vos_ilog.specs.Logs.{Log, log_level, log_owner, mark_of as mark_of_entry, moment_of as moment_of_entry}
-use Rattle.vos_single.specs.Singles.{Stored as StoredSingle, chain_of as single_chain, mark_of as single_mark, moment_of as single_moment, single_level}
-use Rattle.vos_extent.specs.Extents.{Stored as StoredExtent, chain_of as extent_chain, extent_level, mark_of as extent_mark, place_of}
+use Rattle.vos_entries.specs.vos_levels.Levels.{Hung, Level, hung, hung_root, things}
+use Rattle.vos_entries.specs.vos_chain.Chains.{Chain, chain_owner, first_of}
+use Rattle.vos_path.specs.vos_ilog.Logs.{Log, log_level, log_owner, mark_of as mark_of_entry, moment_of as moment_of_entry}
+use Rattle.vos_path.specs.vos_single.Singles.{Stored as StoredSingle, chain_of as single_chain, mark_of as single_mark, moment_of as single_moment, single_level}
+use Rattle.vos_path.specs.vos_extent.Extents.{Stored as StoredExtent, chain_of as extent_chain, extent_level, mark_of as extent_mark, place_of}
 use Rattle.vos_path.specs.Objects.{Below}
 use Rattle.vos_image.specs.Steps.{Step, ◌>>=◌, give}
 use Rattle.vos_image.specs.Content.{Content, is_taken, shown}

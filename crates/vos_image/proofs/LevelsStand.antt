@@ -16,10 +16,10 @@ use Rattle.vos_values.specs.Values.{IsLogMark, IsVersionMark, log_value, version
 use Rattle.vos_values.proofs.KeyLaws.{extents_exact, moments_exact}
 use Rattle.vos_values.proofs.Reading.{chosen_is}
 use Rattle.vos_values.proofs.ValueLaws.{extents_exact as extent_marks_exact, logs_exact, singles_exact}
-use Rattle.vos_ilog.specs.Logs.{log_level}
-use Rattle.vos_single.specs.Singles.{single_level}
-use Rattle.vos_extent.specs.Extents.{extent_level}
-use Rattle.vos_chain.specs.Chains.{Chain, first_of}
+use Rattle.vos_path.specs.vos_ilog.Logs.{log_level}
+use Rattle.vos_path.specs.vos_single.Singles.{single_level}
+use Rattle.vos_path.specs.vos_extent.Extents.{extent_level}
+use Rattle.vos_entries.specs.vos_chain.Chains.{Chain, first_of}
 use Rattle.vos_image.specs.Laws.{IsOfBytes}
 use Rattle.vos_image.specs.Content.{Content}
 use Rattle.vos_image.specs.Fits.{ExtentFits, LogFits, SingleFits}

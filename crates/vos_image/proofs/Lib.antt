@@ -16,3 +16,5 @@ pub mod ListsStand
 pub mod EntriesStand
 pub mod PlacesRead
 pub mod WholeStands
+-- Lemmas of crates below, passed on to those above.
+pub use Rattle.vos_path.proofs as vos_path

@@ -12,8 +12,8 @@ use Rattle.pmem_pages.specs.Counts.{times_none, times_one, times_own}
 use Rattle.pmem_pages.specs.Owners.{times, times-append}
 use Rattle.vos_values.specs.Fields.{padded}
 use Rattle.vos_values.specs.Links.{link_bytes}
-use Rattle.vos_chain.specs.Chains.{Links, first_of}
-use Rattle.vos_chain.proofs.Reading.{first_low}
+use Rattle.vos_entries.specs.vos_chain.Chains.{Links, first_of}
+use Rattle.vos_entries.proofs.vos_chain.Reading.{first_low}
 use Rattle.vos_entries.specs.Entries.{AreListed, list_bytes}
 use Rattle.vos_entries.proofs.Lists.{length_list}
 use Rattle.vos_image.specs.Steps.{◌>>=◌, give, is_among, rule}

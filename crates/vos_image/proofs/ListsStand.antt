@@ -13,7 +13,7 @@ use Rattle.vos_values.specs.Fields.{AreBytes}
 use Rattle.vos_values.specs.Links.{link_bytes}
 use Rattle.vos_values.proofs.Orders.{drop_bytes, number_back}
 use Rattle.vos_values.proofs.Reading.{fits_in}
-use Rattle.vos_chain.specs.Chains.{Links, first_of}
+use Rattle.vos_entries.specs.vos_chain.Chains.{Links, first_of}
 use Rattle.vos_entries.specs.Entries.{AreListed, list_bytes}
 use Rattle.vos_entries.proofs.Lists.{length_list}
 use Rattle.vos_image.specs.Steps.{Step, ◌>>=◌, fail, give, is_among, rule, zeros}

@@ -4,11 +4,11 @@ use Rattle.std.specs.Prelude.{All}
 use Rattle.pmem_pages.specs.Owners.{Holds, both, times, times-append}
 use Rattle.vos_values.specs.Keys.{IsName}
 use Rattle.vos_values.specs.Values.{roots_value}
-use Rattle.vos_levels.specs.Levels.{Hung, Level, hung, hung_root, things}
-use Rattle.vos_ilog.specs.Logs.{Log, log_owner}
-use Rattle.vos_single.specs.Singles.{mark_of as single_mark, moment_of as single_moment, single_level, single_owner}
-use Rattle.vos_extent.specs.Extents.{extent_level, extent_owner, mark_of as extent_mark, place_of}
-use Rattle.vos_chain.specs.Chains.{first_of}
+use Rattle.vos_entries.specs.vos_levels.Levels.{Hung, Level, hung, hung_root, things}
+use Rattle.vos_path.specs.vos_ilog.Logs.{Log, log_owner}
+use Rattle.vos_path.specs.vos_single.Singles.{mark_of as single_mark, moment_of as single_moment, single_level, single_owner}
+use Rattle.vos_path.specs.vos_extent.Extents.{extent_level, extent_owner, mark_of as extent_mark, place_of}
+use Rattle.vos_entries.specs.vos_chain.Chains.{first_of}
 use Rattle.vos_path.specs.Objects.{Akey, Below, Dkey, Object, Objects, Values, akey_level, below_owner, below_roots, dkey_level, object_level, objects_owner, values_owner, values_roots}
 use Rattle.vos_image.specs.Steps.{Step, ◌>>=◌, give}
 use Rattle.vos_image.specs.Content.{Content, shown}

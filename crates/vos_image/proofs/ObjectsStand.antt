@@ -16,10 +16,10 @@ use Rattle.vos_values.specs.Values.{IsAkeyRoots, IsRoots, akey_value, roots_valu
 use Rattle.vos_values.proofs.KeyLaws.{names_exact}
 use Rattle.vos_values.proofs.ObjectLaws.{objects_exact}
 use Rattle.vos_values.proofs.ValueLaws.{akeys_exact, roots_exact}
-use Rattle.vos_levels.specs.Levels.{Hung, Level, hung, hung_root, things}
-use Rattle.vos_ilog.specs.Logs.{Log, log_level, log_owner}
-use Rattle.vos_single.specs.Singles.{single_level, single_owner}
-use Rattle.vos_extent.specs.Extents.{extent_level, extent_owner}
+use Rattle.vos_entries.specs.vos_levels.Levels.{Hung, Level, hung, hung_root, things}
+use Rattle.vos_path.specs.vos_ilog.Logs.{Log, log_level, log_owner}
+use Rattle.vos_path.specs.vos_single.Singles.{single_level, single_owner}
+use Rattle.vos_path.specs.vos_extent.Extents.{extent_level, extent_owner}
 use Rattle.vos_path.specs.Objects.{Below, akey_level, below_owner, below_roots, dkey_level, object_level, objects_owner}
 use Rattle.vos_image.specs.Steps.{Step, ◌>>=◌, give}
 use Rattle.vos_image.specs.Laws.{IsOfBytes}

@@ -21,7 +21,7 @@ use Rattle.pmem_pages.proofs.Lists.{AllAbove-lower, key_total}
 use Rattle.pmem_pages.proofs.Nodes.{node_back}
 use Rattle.vos_values.specs.Fields.{AreBytes, IsByteKey, IsByteValue}
 use Rattle.vos_values.proofs.Orders.{drop_bytes}
-use Rattle.vos_levels.specs.Levels.{Hung, LeadToAll, LeadsTo, Level, hung}
+use Rattle.vos_entries.specs.vos_levels.Levels.{Hung, LeadToAll, LeadsTo, Level, hung}
 use Rattle.vos_image.specs.Steps.{Step, ◌>>=◌, fail, give, rule}
 use Rattle.vos_image.specs.Laws.{IsOfBytes}
 use Rattle.vos_image.specs.Content.{Content, block, is_taken, shown}

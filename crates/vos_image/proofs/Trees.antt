@@ -18,7 +18,7 @@ use Rattle.pmem_pages.specs.Shape.{AllAbove, AllBelow, Balanced, Entry, Fork, Le
 use Rattle.pmem_pages.proofs.Lists.{Rises-back, Rises-below, Rises-front}
 use Rattle.pmem_pages.proofs.Nodes.{node_again}
 use Rattle.pmem_pages.proofs.Shapes.{node_fits, root_fits}
-use Rattle.vos_levels.specs.Levels.{Hung, LeadToAll, LeadsTo, Level, hung}
+use Rattle.vos_entries.specs.vos_levels.Levels.{Hung, LeadToAll, LeadsTo, Level, hung}
 use Rattle.vos_image.specs.Content.{Content, block, is_taken, link, shown}
 use Rattle.vos_image.specs.Trees.{Kind, is_above, is_below, is_height, read_below, read_fields, read_tree, stored_height}
 use Rattle.vos_image.proofs.Steps.{Passes, Tally, beside, given, kept, linked, none, recounted, root_tally, ruled, shown_there, go_on, zeros_hold}

@@ -4,10 +4,10 @@ use Rattle.std.specs.List.{list_any}
 use Rattle.daos_model.specs.Forms.{fits_records}
 use Rattle.pmem_pages.specs.Owners.{times}
 use Rattle.vos_values.specs.Keys.{is_size}
-use Rattle.vos_levels.specs.Levels.{things}
-use Rattle.vos_ilog.specs.declared.ilog.LogEntry.{LogEntry}
-use Rattle.vos_single.specs.Singles.{Stored as StoredSingle}
-use Rattle.vos_extent.specs.Extents.{Stored as StoredExtent}
+use Rattle.vos_entries.specs.vos_levels.Levels.{things}
+use Rattle.vos_path.specs.vos_ilog.declared.ilog.LogEntry.{LogEntry}
+use Rattle.vos_path.specs.vos_single.Singles.{Stored as StoredSingle}
+use Rattle.vos_path.specs.vos_extent.Extents.{Stored as StoredExtent}
 use Rattle.vos_path.specs.Objects.{Akey, Dkey, Object, Objects}
 use Rattle.vos_entries.specs.Entries.{Entries, Stored as StoredEntry}
 use Rattle.vos_image.specs.Content.{Content}

@@ -16,12 +16,12 @@ use Rattle.vos_values.specs.declared.values.Roots.{Roots}
 use Rattle.vos_values.specs.declared.values.VersionMark.{VersionMark}
 use Rattle.vos_values.specs.Keys.{attempt_in, extent_in, has_sizes, moment_in, name_in, object_in}
 use Rattle.vos_values.specs.Values.{akey_in, entry_in, is_state, log_in, roots_in, version_in}
-use Rattle.vos_chain.specs.Chains.{Chain}
-use Rattle.vos_chain.specs.Made.{chain_blocks}
-use Rattle.vos_ilog.specs.declared.ilog.LogEntry.{LogEntry}
-use Rattle.vos_ilog.specs.Logs.{entry_from}
-use Rattle.vos_single.specs.Singles.{Stored as StoredSingle}
-use Rattle.vos_extent.specs.Extents.{Stored as StoredExtent}
+use Rattle.vos_entries.specs.vos_chain.Chains.{Chain}
+use Rattle.vos_entries.specs.vos_chain.Made.{chain_blocks}
+use Rattle.vos_path.specs.vos_ilog.declared.ilog.LogEntry.{LogEntry}
+use Rattle.vos_path.specs.vos_ilog.Logs.{entry_from}
+use Rattle.vos_path.specs.vos_single.Singles.{Stored as StoredSingle}
+use Rattle.vos_path.specs.vos_extent.Extents.{Stored as StoredExtent}
 use Rattle.vos_path.specs.Objects.{Akey, Dkey, Object}
 use Rattle.vos_entries.specs.Entries.{Stored as StoredEntry}
 use Rattle.vos_image.specs.Steps.{Step, ◌>>=◌, fail, give, is_among, rule, says, zeros}

@@ -2,7 +2,7 @@
 use Rattle.std.specs.Prelude.{◌≡◌, ◌<◌, ◌==◌, ℕ, List, [], ◌∷◌, ◌++◌, Ok, if◌then◌else◌}
 use Rattle.base_outside.specs.Images.{Image}
 use Rattle.pmem_pages.specs.Owners.{Holds}
-use Rattle.vos_levels.specs.Levels.{hung_root}
+use Rattle.vos_entries.specs.vos_levels.Levels.{hung_root}
 use Rattle.vos_image.specs.Content.{content_of, shown}
 use Rattle.vos_image.specs.Fits.{AllFit}
 use Rattle.vos_image.specs.Kept.{IsOfLayout, Stored, Whole, durable_of, kept, read_content, stored_owner}

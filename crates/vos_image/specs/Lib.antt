@@ -7,3 +7,9 @@ pub mod Places
 pub mod Kept
 pub mod Fits
 pub mod Laws
+-- What crates above name of those below, passed on to them.
+pub use Rattle.vos_entries.specs as vos_entries
+pub use Rattle.vos_path.specs.vos_extent as vos_extent
+pub use Rattle.vos_path.specs.vos_ilog as vos_ilog
+pub use Rattle.vos_path.specs as vos_path
+pub use Rattle.vos_path.specs.vos_single as vos_single

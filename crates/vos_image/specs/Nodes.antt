@@ -4,10 +4,10 @@ use Rattle.base_types.specs.declared.epoch.Epoch.{Epoch}
 use Rattle.base_types.specs.declared.id.AttemptId.{AttemptId}
 use Rattle.daos_model.specs.Durables.{same_attempt}
 use Rattle.pmem_pages.specs.Shape.{Entry, entries as pairs}
-use Rattle.vos_levels.specs.Levels.{Hung}
-use Rattle.vos_ilog.specs.declared.ilog.LogEntry.{LogEntry}
-use Rattle.vos_single.specs.Singles.{Stored as StoredSingle}
-use Rattle.vos_extent.specs.Extents.{Stored as StoredExtent}
+use Rattle.vos_entries.specs.vos_levels.Levels.{Hung}
+use Rattle.vos_path.specs.vos_ilog.declared.ilog.LogEntry.{LogEntry}
+use Rattle.vos_path.specs.vos_single.Singles.{Stored as StoredSingle}
+use Rattle.vos_path.specs.vos_extent.Extents.{Stored as StoredExtent}
 use Rattle.vos_path.specs.Objects.{Akey, Dkey, Object, Objects, Values, together}
 
 pub record Node : Type 0 where

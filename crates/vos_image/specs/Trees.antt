@@ -6,7 +6,7 @@ use Rattle.pmem_pages.specs.declared.node.TreeKey.{TreeKey}
 use Rattle.pmem_pages.specs.declared.node.Value.{Value}
 use Rattle.pmem_pages.specs.Node.{key_cmp, node_of}
 use Rattle.pmem_pages.specs.Shape.{Fork, Leaf, chosen}
-use Rattle.vos_levels.specs.Levels.{Hung}
+use Rattle.vos_entries.specs.vos_levels.Levels.{Hung}
 use Rattle.vos_image.specs.Steps.{Step, ◌>>=◌, fail, give, rule, zeros}
 use Rattle.vos_image.specs.Content.{Content, block, link}
 

@@ -11,7 +11,7 @@ use Rattle.daos_model.specs.Changes.{committed_at, confirmed_at, is_other}
 use Rattle.daos_model.specs.declared.durable.Version.{Version}
 use Rattle.daos_model.specs.Durables.{same_attempt}
 use Rattle.daos_model.specs.Versions.{done_by, is_not_pending, is_pending}
-use Rattle.vos_image.specs.Kept.{counts, is_prepared_for}
+use Rattle.vos_tables.specs.vos_image.Kept.{counts, is_prepared_for}
 
 apart_numbers : (a b c x y z u v w : ℕ) → ((x == a) && (y == b) && (z == c)) ≡ true → ((u == a) && (v == b) && (w == c)) ≡ false → ((x == u) && (y == v) && (z == w)) ≡ false
 apart_numbers a b c x y z u v w one other = grind (arith, nat_tests)

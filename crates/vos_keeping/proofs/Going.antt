@@ -8,8 +8,8 @@ use Rattle.daos_model.specs.Durables.{entry_key, version_key}
 use Rattle.daos_model.specs.Ordered.{in_order}
 use Rattle.daos_model.specs.Versions.{is_pending}
 use Rattle.vos_entries.specs.Entries.{entries_in}
-use Rattle.vos_image.specs.Kept.{Stored, counts, durable_of}
-use Rattle.vos_image.specs.Places.{Places}
+use Rattle.vos_tables.specs.vos_image.Kept.{Stored, counts, durable_of}
+use Rattle.vos_tables.specs.vos_image.Places.{Places}
 use Rattle.vos_keeping.specs.Keeping.{AllAreKept, CountedGo, EachCounts, RestCounts, UncountedGo, kept_so, versions_in}
 use Rattle.vos_keeping.proofs.Lists.{fewer_left, filter_twice, filtered_in_order, of_filter, of_order, on_all}
 use Rattle.vos_keeping.proofs.Settling.{all_count, kept_parts, kept_versions}

@@ -9,8 +9,8 @@ use Rattle.daos_model.specs.Durables.{entry_key, entry_of, same_attempt, version
 use Rattle.daos_model.specs.Ordered.{in_order}
 use Rattle.daos_model.specs.Versions.{done_by, is_not_pending, is_pending}
 use Rattle.vos_entries.specs.Entries.{Entries, IsCommittedAt, IsConfirmedAt, IsGoneAt, Listing, Stored as StoredEntry, committed, confirmed_by, entries_in, entry_of as entry_of_stored, is_listing_at, listing_of, listings}
-use Rattle.vos_image.specs.Kept.{Stored, counts, durable_of}
-use Rattle.vos_image.specs.Places.{Places}
+use Rattle.vos_tables.specs.vos_image.Kept.{Stored, counts, durable_of}
+use Rattle.vos_tables.specs.vos_image.Places.{Places}
 use Rattle.vos_levels.specs.Levels.{things}
 use Rattle.vos_keeping.specs.Keeping.{AbortSettles, CommitSettles, ConfirmSettles, EachCounts, ForgetSettles, SameRows, kept_so, versions_in}
 use Rattle.vos_keeping.proofs.Attempts.{counts_committed, counts_confirmed, counts_forgotten, counts_other, waited}

@@ -12,9 +12,9 @@ use Rattle.daos_model.specs.Versions.{done_by, is_not_pending, is_pending}
 use Rattle.pmem_pages.specs.Blocks.{Blocks}
 use Rattle.pmem_pages.specs.Owners.{Holds}
 use Rattle.vos_entries.specs.Entries.{IsCommittedAt, IsConfirmedAt, IsGoneAt, entries_in, entries_owner, listings}
-use Rattle.vos_image.specs.Kept.{Stored, counts, durable_of}
-use Rattle.vos_image.specs.Places.{Places}
-use Rattle.vos_path.specs.Objects.{objects_versions}
+use Rattle.vos_tables.specs.vos_image.Kept.{Stored, counts, durable_of}
+use Rattle.vos_tables.specs.vos_image.Places.{Places}
+use Rattle.vos_tables.specs.vos_path.Objects.{objects_versions}
 
 -- fixed places with the same rows, the same lease and the same incarnation
 pub record SameRows (p q : Places) : Type 0 where

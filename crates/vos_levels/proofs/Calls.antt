@@ -1,7 +1,7 @@
 -- One call after another.
 use Rattle.std.proofs.Common.{ℕ, Bool, arith, inl, inr}
 use Rattle.std.specs.Prelude.{IfOk, OnOk, Result, Ok, Err}
-use Rattle.pmem_tree_base.specs.Calls.{Goes}
+use Rattle.pmem_tree.specs.pmem_tree_base.Calls.{Goes}
 
 pub goes_same : {S : Type 0} (stopped : S → Bool) (faults burns : S → ℕ) (a : S) → Goes stopped faults burns a a
 goes_same stopped faults burns a = record { later_faults = omega arith; later_burns = omega arith; once = λ h. h; cause = λ h. inl h }

@@ -1,15 +1,15 @@
 -- A thing is hung under a tree, becomes another, or goes.
 use Rattle.std.proofs.Common.{◌≡◌, ℕ, ◌<◌, Bool, List, [], ◌∷◌, ◌++◌, Some, None, refl, sym, ap, ◌∙◌, subst, arith, inl, inr}
 use Rattle.std.proofs.lemmas.Bool.{cases_lt}
-use Rattle.pmem_pages.specs.Blocks.{Blocks}
-use Rattle.pmem_pages.specs.Owners.{Changed, Holds, Owner, both, each, maybe, owned_each, times, times-append}
-use Rattle.pmem_pages.specs.Counts.{times_none}
-use Rattle.pmem_pages.specs.Owned.{tree_frame, tree_owner, tree_taken}
-use Rattle.pmem_pages.specs.Parts.{Between, with_value}
-use Rattle.pmem_pages.specs.Shape.{Entry, IsTree, blocks_of, count, entries, entry_at}
-use Rattle.pmem_pages.specs.declared.node.TreeKey.{TreeKey}
-use Rattle.pmem_pages.proofs.Owning.{changed_such, changed_under, changed_under_less, changed_under_more, not_free}
-use Rattle.pmem_pages.proofs.Parts.{inserted_between}
+use Rattle.pmem_tree.specs.pmem_pages.Blocks.{Blocks}
+use Rattle.pmem_tree.specs.pmem_pages.Owners.{Changed, Holds, Owner, both, each, maybe, owned_each, times, times-append}
+use Rattle.pmem_tree.specs.pmem_pages.Counts.{times_none}
+use Rattle.pmem_tree.specs.pmem_pages.Owned.{tree_frame, tree_owner, tree_taken}
+use Rattle.pmem_tree.specs.pmem_pages.Parts.{Between, with_value}
+use Rattle.pmem_tree.specs.pmem_pages.Shape.{Entry, IsTree, blocks_of, count, entries, entry_at}
+use Rattle.pmem_tree.specs.pmem_pages.declared.node.TreeKey.{TreeKey}
+use Rattle.pmem_tree.proofs.pmem_pages.Owning.{changed_such, changed_under, changed_under_less, changed_under_more, not_free}
+use Rattle.pmem_tree.proofs.pmem_pages.Parts.{inserted_between}
 use Rattle.pmem_tree.specs.Changes.{Inserts, Puts, Removes}
 use Rattle.vos_levels.specs.Levels.{HasMore, Hung, IsHung, LeadToAll, LeadsTo, Level, hung, hung_root, in_none, map_those, things, without_those}
 use Rattle.vos_levels.specs.Calls.{Becomes}

@@ -3,9 +3,9 @@ use Rattle.std.proofs.Common.{◌≡◌, ℕ, ◌==◌, ◌&&◌, ◌||◌, nat_
 use Rattle.std.proofs.lemmas.Bool.Decides.{nat_tests}
 use Rattle.std.specs.Ordering.{nat_cmp, ordering_then}
 use Rattle.std.specs.declared.cmp.Ordering.TheVariants.{Less, Equal}
-use Rattle.pmem_pages.specs.Node.{key_cmp}
-use Rattle.pmem_pages.specs.Shape.{AllAbove, Entry, Rises, chosen}
-use Rattle.pmem_pages.specs.declared.node.TreeKey.{TreeKey}
+use Rattle.pmem_tree.specs.pmem_pages.Node.{key_cmp}
+use Rattle.pmem_tree.specs.pmem_pages.Shape.{AllAbove, Entry, Rises, chosen}
+use Rattle.pmem_tree.specs.pmem_pages.declared.node.TreeKey.{TreeKey}
 use Rattle.vos_values.specs.declared.keys.Moment.{Moment}
 use Rattle.vos_values.specs.Keys.{IsMoment, moment_key}
 use Rattle.vos_values.proofs.KeyLaws.{moments_order}

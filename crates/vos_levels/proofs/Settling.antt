@@ -4,12 +4,12 @@ use Rattle.std.specs.Prelude.{if◌then◌else◌}
 use Rattle.std.specs.List.{find, list_any}
 use Rattle.std.specs.Option.{option_map}
 use Rattle.std.proofs.lemmas.Bool.{cases_lt}
-use Rattle.pmem_pages.specs.Blocks.{Blocks, Budget, IsSpent}
-use Rattle.pmem_pages.specs.Owned.{tree_owner}
-use Rattle.pmem_pages.specs.Owners.{Changed, Holds, Owner, each, maybe, owned_each, times, times-append}
-use Rattle.pmem_pages.specs.Shape.{Entry, Shape, blocks_of, entries, entry_at}
-use Rattle.pmem_pages.specs.declared.node.TreeKey.{TreeKey}
-use Rattle.pmem_pages.proofs.Owning.{not_free}
+use Rattle.pmem_tree.specs.pmem_pages.Blocks.{Blocks, Budget, IsSpent}
+use Rattle.pmem_tree.specs.pmem_pages.Owned.{tree_owner}
+use Rattle.pmem_tree.specs.pmem_pages.Owners.{Changed, Holds, Owner, each, maybe, owned_each, times, times-append}
+use Rattle.pmem_tree.specs.pmem_pages.Shape.{Entry, Shape, blocks_of, entries, entry_at}
+use Rattle.pmem_tree.specs.pmem_pages.declared.node.TreeKey.{TreeKey}
+use Rattle.pmem_tree.proofs.pmem_pages.Owning.{not_free}
 use Rattle.pmem_tree.specs.Calls.{StagesAtMost, TooFew}
 use Rattle.pmem_tree.specs.Changes.{Removes}
 use Rattle.vos_levels.specs.Calls.{Becomes}

@@ -4,13 +4,13 @@ use Rattle.std.specs.List.{find, list_any}
 use Rattle.std.specs.Option.{option_map}
 use Rattle.std.specs.declared.cmp.Ordering.{Ordering}
 use Rattle.std.specs.declared.cmp.Ordering.TheVariants.{Less, Equal, Greater}
-use Rattle.pmem_pages.specs.declared.node.TreeKey.{TreeKey}
-use Rattle.pmem_pages.specs.Node.{key_cmp}
-use Rattle.pmem_pages.specs.Shape.{AllAbove, Entry, Rises, chosen, entry_at, last_under, or_this, removed, valued}
-use Rattle.pmem_pages.specs.Parts.{with_value}
-use Rattle.pmem_pages.specs.declared.node.Value.{Value}
-use Rattle.pmem_pages.proofs.Lists.{key_total, AllAbove-lower}
-use Rattle.pmem_tree_base.specs.Find.{pair_of, value_of}
+use Rattle.pmem_tree.specs.pmem_pages.declared.node.TreeKey.{TreeKey}
+use Rattle.pmem_tree.specs.pmem_pages.Node.{key_cmp}
+use Rattle.pmem_tree.specs.pmem_pages.Shape.{AllAbove, Entry, Rises, chosen, entry_at, last_under, or_this, removed, valued}
+use Rattle.pmem_tree.specs.pmem_pages.Parts.{with_value}
+use Rattle.pmem_tree.specs.pmem_pages.declared.node.Value.{Value}
+use Rattle.pmem_tree.proofs.pmem_pages.Lists.{key_total, AllAbove-lower}
+use Rattle.pmem_tree.specs.pmem_tree_base.Find.{pair_of, value_of}
 use Rattle.vos_levels.specs.Levels.{LeadToAll, LeadsTo, Level, or_else, TellsAbove, TellsKey, find_last, map_those, pair_of_thing, without_those}
 
 -- ---- halves of a list

@@ -5,14 +5,14 @@ use Rattle.std.specs.List.{find, list_any}
 use Rattle.std.specs.declared.cmp.Ordering.{Ordering}
 use Rattle.std.specs.declared.cmp.Ordering.TheVariants.{Less, Equal, Greater}
 use Rattle.std.specs.Ordering.{ordering_reverse}
-use Rattle.pmem_pages.specs.declared.node.TreeKey.{TreeKey}
-use Rattle.pmem_pages.specs.Node.{key_cmp}
-use Rattle.pmem_pages.specs.Shape.{AllAbove, Entry, Rises, blocks_of, chosen, entries, root_of}
-use Rattle.pmem_pages.proofs.Lists.{key_total, length_blocks}
-use Rattle.pmem_pages.proofs.Shapes.{low_in}
-use Rattle.pmem_pages.specs.Blocks.{Blocks}
-use Rattle.pmem_pages.specs.Counts.{at_most}
-use Rattle.pmem_pages.specs.Owners.{Holds}
+use Rattle.pmem_tree.specs.pmem_pages.declared.node.TreeKey.{TreeKey}
+use Rattle.pmem_tree.specs.pmem_pages.Node.{key_cmp}
+use Rattle.pmem_tree.specs.pmem_pages.Shape.{AllAbove, Entry, Rises, blocks_of, chosen, entries, root_of}
+use Rattle.pmem_tree.proofs.pmem_pages.Lists.{key_total, length_blocks}
+use Rattle.pmem_tree.proofs.pmem_pages.Shapes.{low_in}
+use Rattle.pmem_tree.specs.pmem_pages.Blocks.{Blocks}
+use Rattle.pmem_tree.specs.pmem_pages.Counts.{at_most}
+use Rattle.pmem_tree.specs.pmem_pages.Owners.{Holds}
 use Rattle.std.specs.Option.{option_and_then, option_map}
 use Rattle.vos_levels.specs.Levels.{Hung, LeadToAll, Level, TellsAbove, TellsKey, find_last, hung, map_those, or_else, without_those}
 use Rattle.vos_levels.proofs.Spots.{Spot, find_none, find_spot, first_false, last_none, look, mapped_spot, same_length, then_false, without_spot}

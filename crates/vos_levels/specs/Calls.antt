@@ -1,7 +1,7 @@
 -- What is said of the calls that work on what stands in blocks.
 use Rattle.std.specs.Prelude.{◌≡◌, ℕ, Bool, IsTrue, List}
-use Rattle.pmem_pages.specs.Blocks.{Blocks}
-use Rattle.pmem_pages.specs.Owners.{Changed, Holds, Owner}
+use Rattle.pmem_tree.specs.pmem_pages.Blocks.{Blocks}
+use Rattle.pmem_tree.specs.pmem_pages.Owners.{Changed, Holds, Owner}
 
 -- where the blocks are told, such a thing stands below this root, and this holds of it
 abbrev pub HasThing : {G : Type 0} → Bool → Owner G → (G → ℕ) → Blocks → ℕ → (G → Type 0) → Type 0

@@ -1,14 +1,14 @@
 -- A level of a target: a tree, and the things that its values lead to.
 use Rattle.std.specs.Prelude.{◌≡◌, ℕ, Bool, true, false, ◌<◌, List, [], ◌∷◌, ◌++◌, Option, Some, None, if◌then◌else◌}
 use Rattle.std.proofs.Common.{arith}
-use Rattle.pmem_pages.specs.Blocks.{Blocks, IsTaken}
-use Rattle.pmem_pages.specs.declared.node.Pair.{Pair}
-use Rattle.pmem_pages.specs.declared.node.TreeKey.{TreeKey}
-use Rattle.pmem_pages.specs.declared.node.Value.{Value}
-use Rattle.pmem_pages.specs.Node.{key_cmp}
-use Rattle.pmem_pages.specs.Owned.{tree_owner}
-use Rattle.pmem_pages.specs.Owners.{Owner, both, each, such, times}
-use Rattle.pmem_pages.specs.Shape.{Balanced, Entry, Rises, Shape, chosen, entries, root_of}
+use Rattle.pmem_tree.specs.pmem_pages.Blocks.{Blocks, IsTaken}
+use Rattle.pmem_tree.specs.pmem_pages.declared.node.Pair.{Pair}
+use Rattle.pmem_tree.specs.pmem_pages.declared.node.TreeKey.{TreeKey}
+use Rattle.pmem_tree.specs.pmem_pages.declared.node.Value.{Value}
+use Rattle.pmem_tree.specs.pmem_pages.Node.{key_cmp}
+use Rattle.pmem_tree.specs.pmem_pages.Owned.{tree_owner}
+use Rattle.pmem_tree.specs.pmem_pages.Owners.{Owner, both, each, such, times}
+use Rattle.pmem_tree.specs.pmem_pages.Shape.{Balanced, Entry, Rises, Shape, chosen, entries, root_of}
 
 -- A level: the kind of its tree, what a thing stands in, the key and the value that a thing has in the tree, and what
 -- holds of each thing.

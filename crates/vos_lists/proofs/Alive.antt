@@ -28,8 +28,8 @@ use Rattle.vos_values.specs.declared.keys.ObjectKey.{ObjectKey}
 use Rattle.vos_values.specs.Keys.{IsName, IsObjectKey}
 use Rattle.vos_levels.specs.Levels.{find_last, things}
 use Rattle.vos_levels.specs.Moments.{is_earlier}
-use Rattle.vos_single.specs.declared.single.SingleVersion.{SingleVersion}
-use Rattle.vos_single.specs.Singles.{Stored as StoredSingle, is_under, moment_of as moment_of_stored, version_of}
+use Rattle.vos_path.specs.vos_single.declared.single.SingleVersion.{SingleVersion}
+use Rattle.vos_path.specs.vos_single.Singles.{Stored as StoredSingle, is_under, moment_of as moment_of_stored, version_of}
 use Rattle.vos_extent.specs.declared.extent.ExtentVersion.{ExtentVersion}
 use Rattle.vos_extent.specs.Extents.{Extents, extent_of, extents}
 use Rattle.vos_extent.specs.Shown.{covers, greatest, hides, is_hidden, is_seen, moment_of, record_in, shown_of}

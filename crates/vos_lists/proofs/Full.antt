@@ -27,7 +27,7 @@ use Rattle.vos_levels.proofs.Changing.{holds_each}
 use Rattle.vos_levels.proofs.Testing.{AllGood, all_good}
 use Rattle.vos_ilog.specs.declared.ilog.LogEntry.{LogEntry}
 use Rattle.vos_ilog.specs.Logs.{log_owner}
-use Rattle.vos_single.specs.Singles.{versions}
+use Rattle.vos_path.specs.vos_single.Singles.{versions}
 use Rattle.vos_extent.specs.Extents.{extents}
 use Rattle.vos_newest.specs.Newest.{later_of, newest, speaks, told}
 use Rattle.vos_newest.proofs.Speaking.{cell_holds}

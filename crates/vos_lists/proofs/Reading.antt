@@ -26,7 +26,7 @@ use Rattle.vos_levels.proofs.Moments.{moment_below}
 use Rattle.vos_levels.proofs.Spots.{last_found}
 use Rattle.vos_levels.proofs.Testing.{all_good, last_good, read_option}
 use Rattle.vos_ilog.specs.Logs.{log_level, log_owner}
-use Rattle.vos_single.specs.Singles.{Singles, is_under, moment_of as moment_of_single, single_level, single_owner}
+use Rattle.vos_path.specs.vos_single.Singles.{Singles, is_under, moment_of as moment_of_single, single_level, single_owner}
 use Rattle.vos_extent.specs.Extents.{IsStored, Stored, extent_level, key_of_stored, mark_of, place_of, placed_in_pair, placed_of, placed_when, placed_with}
 use Rattle.vos_path.specs.Objects.{Akey, Dkey, Object, akey_level, below_owner, below_roots, dkey_level, object_level, values_owner, values_roots}
 use Rattle.vos_path.proofs.Finding.{hung_low}

@@ -11,7 +11,7 @@ use Rattle.vos_values.specs.Keys.{name_key}
 use Rattle.vos_levels.specs.Levels.{Hung, find_last, things}
 use Rattle.vos_levels.specs.Moments.{is_earlier}
 use Rattle.vos_ilog.specs.Logs.{Log}
-use Rattle.vos_single.specs.Singles.{Singles, is_under, moment_of as moment_of_single}
+use Rattle.vos_path.specs.vos_single.Singles.{Singles, is_under, moment_of as moment_of_single}
 use Rattle.vos_extent.specs.Extents.{Extents, Stored}
 use Rattle.vos_extent.specs.Shown.{hides, moment_of}
 use Rattle.vos_path.specs.Objects.{Akey, Below, Dkey, Object, Objects, Values}

@@ -2,6 +2,7 @@
 #![tactic(auto)]
 
 pub mod akeys;
+pub mod below;
 pub mod conts;
 pub mod dkeys;
 pub mod entry;

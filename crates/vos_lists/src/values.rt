@@ -6,7 +6,7 @@ ghost use Rattle.pmem_tree_base.specs.Calls.{Goes};
 ghost use Rattle.vos_values.specs.Keys.{IsMoment, moment_key};
 ghost use Rattle.vos_levels.specs.Calls.{HasThing, OfThing};
 ghost use Rattle.vos_levels.specs.Levels.{hung_root};
-ghost use Rattle.vos_single.specs.Singles.{single_owner};
+ghost use Rattle.vos_path.specs.vos_single.Singles.{single_owner};
 ghost use Rattle.vos_extent.specs.Extents.{extent_owner};
 ghost use Rattle.vos_path.specs.Calls.{HasAt, OfAt};
 ghost use Rattle.vos_path.specs.Objects.{values_owner, values_roots};

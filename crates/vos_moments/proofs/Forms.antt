@@ -6,17 +6,17 @@ use Rattle.std.specs.List.{list_any}
 use Rattle.base_types.specs.declared.entry.Settle.{Settle}
 use Rattle.base_types.specs.declared.entry.Settle.TheVariants as step
 use Rattle.base_types.specs.declared.id.AttemptId.{AttemptId}
-use Rattle.pmem_pages.specs.Blocks.{Blocks, Budget, IsSpent}
-use Rattle.pmem_pages.specs.Owners.{Holds}
-use Rattle.pmem_pages.specs.Shape.{entries}
-use Rattle.pmem_tree.specs.Calls.{TooFew}
-use Rattle.vos_values.specs.declared.keys.Moment.{Moment}
-use Rattle.vos_levels.specs.declared.change.Change.{Change}
-use Rattle.vos_levels.specs.declared.change.Change.TheVariants.{Commit, Abort, Prune}
-use Rattle.vos_levels.specs.Calls.{Becomes}
-use Rattle.vos_levels.specs.Changes.{changed_by, freed_by, keeps, same_attempt, takes}
-use Rattle.vos_levels.specs.Levels.{Hung, Level, hung, hung_root, things}
-use Rattle.vos_levels.specs.Moments.{same_moment}
+use Rattle.vos_punches.specs.pmem_pages.Blocks.{Blocks, Budget, IsSpent}
+use Rattle.vos_punches.specs.pmem_pages.Owners.{Holds}
+use Rattle.vos_punches.specs.pmem_pages.Shape.{entries}
+use Rattle.vos_punches.specs.pmem_tree.Calls.{TooFew}
+use Rattle.vos_punches.specs.vos_values.declared.keys.Moment.{Moment}
+use Rattle.vos_punches.specs.vos_levels.declared.change.Change.{Change}
+use Rattle.vos_punches.specs.vos_levels.declared.change.Change.TheVariants.{Commit, Abort, Prune}
+use Rattle.vos_punches.specs.vos_levels.Calls.{Becomes}
+use Rattle.vos_punches.specs.vos_levels.Changes.{changed_by, freed_by, keeps, same_attempt, takes}
+use Rattle.vos_punches.specs.vos_levels.Levels.{Hung, Level, hung, hung_root, things}
+use Rattle.vos_punches.specs.vos_levels.Moments.{same_moment}
 use Rattle.vos_punches.specs.Moments.{has_moment}
 use Rattle.vos_moments.specs.Steps.{change_of, decides}
 use Rattle.vos_moments.specs.Taking.{TooFewToRemove, Took, number_of, one_each}

@@ -6,20 +6,20 @@ use Rattle.std.proofs.Math.Nat.{mul-le-mul_right}
 use Rattle.std.specs.List.{find, list_any}
 use Rattle.std.specs.Option.{option_map}
 use Rattle.std.proofs.lemmas.Bool.Decides.{nat_tests}
-use Rattle.pmem_pages.specs.Blocks.{Blocks, Budget, IsSpent}
-use Rattle.pmem_pages.specs.Owners.{Changed, Holds}
-use Rattle.pmem_pages.specs.Shape.{Entry, Shape, entries}
-use Rattle.pmem_pages.specs.declared.node.TreeKey.{TreeKey}
-use Rattle.pmem_pages.proofs.Owning.{changed_then}
-use Rattle.pmem_tree.specs.Calls.{TooFew}
-use Rattle.vos_values.specs.declared.keys.Moment.{Moment}
-use Rattle.vos_levels.specs.Changes.{changed_by, freed_by, sum_those}
-use Rattle.vos_levels.specs.Levels.{Hung, Level, TellsKey, hung, hung_root, map_those, things, without_those}
-use Rattle.vos_levels.specs.Moments.{same_moment}
-use Rattle.vos_levels.proofs.Changing.{stays}
-use Rattle.vos_levels.proofs.Settling.{list_same, none_freed, says, says_none, spot_at}
-use Rattle.vos_levels.proofs.Spots.{Spot, same_length, some_not_none}
-use Rattle.vos_levels.proofs.Testing.{Agree, fewer_none, spot_none}
+use Rattle.vos_punches.specs.pmem_pages.Blocks.{Blocks, Budget, IsSpent}
+use Rattle.vos_punches.specs.pmem_pages.Owners.{Changed, Holds}
+use Rattle.vos_punches.specs.pmem_pages.Shape.{Entry, Shape, entries}
+use Rattle.vos_punches.specs.pmem_pages.declared.node.TreeKey.{TreeKey}
+use Rattle.vos_punches.proofs.pmem_pages.Owning.{changed_then}
+use Rattle.vos_punches.specs.pmem_tree.Calls.{TooFew}
+use Rattle.vos_punches.specs.vos_values.declared.keys.Moment.{Moment}
+use Rattle.vos_punches.specs.vos_levels.Changes.{changed_by, freed_by, sum_those}
+use Rattle.vos_punches.specs.vos_levels.Levels.{Hung, Level, TellsKey, hung, hung_root, map_those, things, without_those}
+use Rattle.vos_punches.specs.vos_levels.Moments.{same_moment}
+use Rattle.vos_punches.proofs.vos_levels.Changing.{stays}
+use Rattle.vos_punches.proofs.vos_levels.Settling.{list_same, none_freed, says, says_none, spot_at}
+use Rattle.vos_punches.proofs.vos_levels.Spots.{Spot, same_length, some_not_none}
+use Rattle.vos_punches.proofs.vos_levels.Testing.{Agree, fewer_none, spot_none}
 use Rattle.vos_punches.specs.Moments.{has_moment}
 use Rattle.vos_moments.specs.Taking.{PutsAtMost, RemovesAtMost, TooFewToRemove, Took, number_of, one_each, takes_one}
 

@@ -3,8 +3,8 @@ use Rattle.std.specs.Prelude.{Bool, true, false}
 use Rattle.base_types.specs.declared.entry.Settle.{Settle}
 use Rattle.base_types.specs.declared.entry.Settle.TheVariants as step
 use Rattle.base_types.specs.declared.id.AttemptId.{AttemptId}
-use Rattle.vos_levels.specs.declared.change.Change.{Change}
-use Rattle.vos_levels.specs.declared.change.Change.TheVariants.{Commit, Abort}
+use Rattle.vos_punches.specs.vos_levels.declared.change.Change.{Change}
+use Rattle.vos_punches.specs.vos_levels.declared.change.Change.TheVariants.{Commit, Abort}
 
 -- a step decides an attempt: its versions become done, or go
 abbrev pub decides : Settle → Bool

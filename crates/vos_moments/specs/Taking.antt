@@ -1,11 +1,11 @@
 -- What many changes of one tree may stage, and what they make of its versions.
 use Rattle.std.specs.Prelude.{◌≡◌, ◌⊎◌, ◌<◌, ◌+◌, ◌*◌, ◌^◌, ℕ, Bool, true, false, List, length, Option, Some, None}
-use Rattle.pmem_pages.specs.Blocks.{Blocks, Budget, IsSpent}
-use Rattle.pmem_pages.specs.Owners.{Owner}
-use Rattle.pmem_pages.specs.Shape.{Shape, entries}
-use Rattle.vos_levels.specs.Calls.{Becomes}
-use Rattle.vos_levels.specs.Changes.{changed_by, freed_by, sum_those}
-use Rattle.vos_levels.specs.Levels.{Hung, hung_root}
+use Rattle.vos_punches.specs.pmem_pages.Blocks.{Blocks, Budget, IsSpent}
+use Rattle.vos_punches.specs.pmem_pages.Owners.{Owner}
+use Rattle.vos_punches.specs.pmem_pages.Shape.{Shape, entries}
+use Rattle.vos_punches.specs.vos_levels.Calls.{Becomes}
+use Rattle.vos_punches.specs.vos_levels.Changes.{changed_by, freed_by, sum_those}
+use Rattle.vos_punches.specs.vos_levels.Levels.{Hung, hung_root}
 
 -- how many pass a test
 abbrev pub one_each : {A : Type 0} → A → ℕ

@@ -2,8 +2,8 @@
 ghost use Rattle.std.specs.Prelude.{◌≡◌};
 ghost use Rattle.vos_punches.specs.Moments.{has_moment};
 
+use vos_punches::below::values::keys::Moment;
 use vos_punches::moments::same_moment;
-use vos_values::keys::Moment;
 
 /// Whether a moment is one of some.
 pub fn has_moment(moments: &[Moment], at: Moment) -> bool

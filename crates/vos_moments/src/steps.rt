@@ -4,7 +4,7 @@ ghost use Rattle.vos_moments.specs.Steps.{change_of};
 
 use base_types::entry::Settle;
 use base_types::id::AttemptId;
-use vos_levels::change::Change;
+use vos_punches::below::levels::change::Change;
 
 /// The change of an attempt's versions that a step makes.
 pub fn change_of(attempt: AttemptId, step: Settle) -> Change

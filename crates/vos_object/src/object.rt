@@ -24,8 +24,8 @@ ghost use Rattle.vos_path.specs.Small.{PathIsSmall};
 ghost use Rattle.vos_path.specs.Writes.{IsNewIn, NamesAreKeys, below_object_pairs, data_blocks, is_update, object_pairs};
 ghost use Rattle.vos_punches.specs.Punches.{ArePunchesOf};
 ghost use Rattle.vos_punches.specs.Rows.{moments_at};
-ghost use Rattle.vos_reads.specs.Cost.{OfNames, StepsToExtents, StepsToSingle};
-ghost use Rattle.vos_reads.specs.Ways.{IsSettled};
+ghost use Rattle.vos_gather.specs.vos_reads.Cost.{OfNames, StepsToExtents, StepsToSingle};
+ghost use Rattle.vos_gather.specs.vos_reads.Ways.{IsSettled};
 ghost use Rattle.vos_object.specs.Updates.{Added, IsWritable, is_value_read, listing, most_blocks, new_version};
 
 use base_types::answer::{Answer, Keys};
@@ -40,14 +40,14 @@ use pmem_tree::tree::Tree;
 use std::alloc::Global;
 use std::sync::ledger::Ledger;
 use vos_chain::refusal::PiecesNo;
+use vos_gather::below::lists::exists::fetch_exists;
+use vos_gather::below::lists::list::{list_akeys, list_dkeys};
+use vos_gather::below::reads::extent::fetch_extent;
+use vos_gather::below::reads::single::fetch_single;
 use vos_gather::punches::gather_punches;
-use vos_lists::exists::fetch_exists;
-use vos_lists::list::{list_akeys, list_dkeys};
 use vos_path::objects::write_objects;
 use vos_path::stamp::Stamp;
 use vos_punches::punches::Punches;
-use vos_reads::extent::fetch_extent;
-use vos_reads::single::fetch_single;
 use vos_values::keys::Moment;
 
 /// The objects of a target: a tree of the kind of objects.

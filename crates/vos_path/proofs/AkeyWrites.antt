@@ -14,7 +14,7 @@ use Rattle.vos_values.specs.declared.values.AkeyRoots.{AkeyRoots}
 use Rattle.vos_values.specs.Keys.{IsName, name_key}
 use Rattle.pmem_tree_base.specs.Find.{value_of}
 use Rattle.vos_values.specs.Values.{akey_in, akey_value}
-use Rattle.vos_levels.specs.Levels.{HasMore, Hung, hung, hung_root, is_level, things}
+use Rattle.vos_extent.specs.vos_levels.Levels.{HasMore, Hung, hung, hung_root, is_level, things}
 use Rattle.vos_path.specs.declared.stamp.Stamp.{Stamp}
 use Rattle.vos_path.specs.Calls.{LacksFor, SpendsAtMost, Turns, akey_or_zero, for_pair}
 use Rattle.pmem_tree.specs.Changes.{PutAt}

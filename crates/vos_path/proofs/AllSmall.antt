@@ -4,7 +4,7 @@ use Rattle.std.specs.Prelude.{All}
 use Rattle.std.proofs.lemmas.List.Elements.{All-cons, All-head, All-nil, All-tail}
 use Rattle.base_types.specs.declared.path.Path.{Path}
 use Rattle.vos_values.specs.Keys.{name_key, object_key}
-use Rattle.vos_levels.specs.Levels.{Hung, is_level, things}
+use Rattle.vos_extent.specs.vos_levels.Levels.{Hung, is_level, things}
 use Rattle.vos_path.specs.Objects.{Akey, Below, Dkey, Objects, akey_level, dkey_level, object_level}
 use Rattle.vos_path.specs.Small.{AkeysOnPathAreSmall, BelowDkeyOnPathIsSmall, BelowObjectOnPathIsSmall, DkeysOnPathAreSmall, PathIsSmall}
 use Rattle.vos_path.specs.Writes.{AkeyIsSmall, AkeysAreSmall, BelowDkeyIsSmall, BelowObjectIsSmall, DkeyIsSmall, DkeysAreSmall, ObjectIsSmall, ObjectsAreSmall}

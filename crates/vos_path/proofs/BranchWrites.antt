@@ -13,8 +13,8 @@ use Rattle.pmem_tree.specs.Calls.{TooFew}
 use Rattle.pmem_tree_base.specs.Find.{value_of}
 use Rattle.vos_values.specs.declared.values.Roots.{Roots}
 use Rattle.vos_values.specs.Values.{roots_in, roots_value}
-use Rattle.vos_levels.specs.Calls.{Becomes}
-use Rattle.vos_levels.specs.Levels.{HasMore, Hung, Level, hung, hung_root, is_level, things}
+use Rattle.vos_extent.specs.vos_levels.Calls.{Becomes}
+use Rattle.vos_extent.specs.vos_levels.Levels.{HasMore, Hung, Level, hung, hung_root, is_level, things}
 use Rattle.vos_ilog.specs.Logs.{log_owner}
 use Rattle.vos_path.specs.declared.stamp.Stamp.{Stamp}
 use Rattle.vos_path.specs.Calls.{LacksFor, SpendsAtMost, Turns, roots_or_zero}

@@ -13,7 +13,7 @@ use Rattle.vos_values.specs.declared.keys.ObjectKey.{ObjectKey}
 use Rattle.vos_values.specs.declared.values.Roots.{Roots}
 use Rattle.vos_values.specs.Keys.{IsName, IsObjectKey, name_key, object_key}
 use Rattle.vos_values.specs.Values.{roots_in, roots_value}
-use Rattle.vos_levels.specs.Levels.{HasMore, Hung, hung, hung_root, is_level}
+use Rattle.vos_extent.specs.vos_levels.Levels.{HasMore, Hung, hung, hung_root, is_level}
 use Rattle.vos_path.specs.declared.stamp.Stamp.{Stamp}
 use Rattle.vos_path.specs.Calls.{Turns, roots_or_zero}
 use Rattle.pmem_tree.specs.Changes.{PutAt}

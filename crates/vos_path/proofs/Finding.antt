@@ -11,10 +11,10 @@ use Rattle.pmem_pages.specs.declared.node.Value.{Value}
 use Rattle.pmem_tree_base.specs.Find.{value_of}
 use Rattle.vos_values.specs.Values.{akey_in, roots_in}
 use Rattle.vos_values.proofs.ValueLaws.{akeys_exact, roots_exact}
-use Rattle.vos_levels.specs.Levels.{Hung, Level, hung, hung_root, is_level, things}
-use Rattle.vos_levels.proofs.Settling.{spot_stands}
-use Rattle.vos_levels.proofs.Spots.{value_found}
-use Rattle.vos_levels.proofs.Testing.{AllGood, all_good, found_spot, read_option}
+use Rattle.vos_extent.specs.vos_levels.Levels.{Hung, Level, hung, hung_root, is_level, things}
+use Rattle.vos_extent.proofs.vos_levels.Settling.{spot_stands}
+use Rattle.vos_extent.proofs.vos_levels.Spots.{value_found}
+use Rattle.vos_extent.proofs.vos_levels.Testing.{AllGood, all_good, found_spot, read_option}
 use Rattle.vos_ilog.specs.Logs.{log_level, log_owner}
 use Rattle.vos_single.specs.Singles.{single_level}
 use Rattle.vos_extent.specs.Extents.{extent_level}

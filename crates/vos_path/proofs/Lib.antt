@@ -10,3 +10,5 @@ pub mod BranchWrites
 pub mod DkeyWrites
 pub mod NewVersions
 pub mod AllSmall
+-- Lemmas of crates below, passed on to those above.
+pub use Rattle.vos_extent.proofs.vos_versions as vos_versions

@@ -3,7 +3,7 @@ use Rattle.std.proofs.Common.{◌≡◌, Bool, true, false, List, [], ◌∷◌,
 use Rattle.std.specs.Prelude.{filter, All, if◌then◌else◌}
 use Rattle.std.specs.List.{find}
 use Rattle.std.proofs.lemmas.List.Elements.{All-head, All-tail}
-use Rattle.vos_levels.specs.Levels.{HasMore}
+use Rattle.vos_extent.specs.vos_levels.Levels.{HasMore}
 use Rattle.vos_path.specs.Calls.{IsPut}
 use Rattle.vos_path.specs.Objects.{listed, or_none, together}
 use Rattle.vos_path.specs.Writes.{MoreIf}

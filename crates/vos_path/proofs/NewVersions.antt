@@ -12,7 +12,7 @@ use Rattle.daos_model.specs.Durables.{object_key as object_order, version_key}
 use Rattle.vos_values.specs.declared.keys.Layout.TheVariants.{Two}
 use Rattle.vos_values.specs.declared.keys.ObjectKey.{ObjectKey}
 use Rattle.vos_values.specs.Keys.{IsObjectKey, object_key}
-use Rattle.vos_levels.specs.Levels.{is_level, things}
+use Rattle.vos_extent.specs.vos_levels.Levels.{is_level, things}
 use Rattle.vos_ilog.specs.declared.ilog.LogEntry.{LogEntry}
 use Rattle.vos_ilog.specs.Logs.{is_at as is_entry_at, moment_of as moment_of_entry}
 use Rattle.vos_single.specs.Singles.{Stored as StoredSingle, is_at as is_single_at, moment_of as moment_of_single, version_of}

@@ -10,14 +10,14 @@ use Rattle.pmem_pages.specs.declared.node.TreeKey.{TreeKey}
 use Rattle.pmem_pages.specs.declared.node.Value.{Value}
 use Rattle.vos_values.specs.declared.keys.Moment.{Moment}
 use Rattle.vos_values.specs.Keys.{IsAttempt, IsMoment, moment_key}
-use Rattle.vos_levels.specs.Calls.{Becomes}
-use Rattle.vos_levels.specs.Levels.{hung_root, in_none, is_level, things}
-use Rattle.vos_levels.specs.Moments.{same_moment}
-use Rattle.vos_levels.proofs.Changing.{hung_tree}
-use Rattle.vos_levels.proofs.Moments.{moment_level}
-use Rattle.vos_levels.proofs.Settling.{becomes_shown}
-use Rattle.vos_levels.proofs.Spots.{first_false, then_false}
-use Rattle.vos_levels.proofs.Testing.{AllGood, all_good}
+use Rattle.vos_extent.specs.vos_levels.Calls.{Becomes}
+use Rattle.vos_extent.specs.vos_levels.Levels.{hung_root, in_none, is_level, things}
+use Rattle.vos_extent.specs.vos_levels.Moments.{same_moment}
+use Rattle.vos_extent.proofs.vos_levels.Changing.{hung_tree}
+use Rattle.vos_extent.proofs.vos_levels.Moments.{moment_level}
+use Rattle.vos_extent.proofs.vos_levels.Settling.{becomes_shown}
+use Rattle.vos_extent.proofs.vos_levels.Spots.{first_false, then_false}
+use Rattle.vos_extent.proofs.vos_levels.Testing.{AllGood, all_good}
 use Rattle.vos_ilog.specs.declared.ilog.LogEntry.{LogEntry}
 use Rattle.vos_ilog.specs.Logs.{IsLogEntry, Log, is_at, log_level, log_owner, moment_of, value_of_entry}
 use Rattle.vos_path.specs.declared.stamp.Stamp.{Stamp}

@@ -15,11 +15,11 @@ use Rattle.pmem_pages.specs.declared.node.TreeKey.{TreeKey}
 use Rattle.pmem_pages.specs.declared.node.Value.{Value}
 use Rattle.pmem_pages.proofs.Owning.{not_free}
 use Rattle.pmem_tree.specs.Changes.{Inserts, Puts}
-use Rattle.vos_levels.specs.Calls.{Becomes}
-use Rattle.vos_levels.specs.Levels.{HasMore, Hung, Level, TellsKey, hung, hung_root, in_part, is_level, map_those, things}
-use Rattle.vos_levels.proofs.Changing.{count_is, hung_more, hung_other, hung_tree}
-use Rattle.vos_levels.proofs.Settling.{becomes_shown}
-use Rattle.vos_levels.proofs.Spots.{find_none, find_spot, look, mapped_spot}
+use Rattle.vos_extent.specs.vos_levels.Calls.{Becomes}
+use Rattle.vos_extent.specs.vos_levels.Levels.{HasMore, Hung, Level, TellsKey, hung, hung_root, in_part, is_level, map_those, things}
+use Rattle.vos_extent.proofs.vos_levels.Changing.{count_is, hung_more, hung_other, hung_tree}
+use Rattle.vos_extent.proofs.vos_levels.Settling.{becomes_shown}
+use Rattle.vos_extent.proofs.vos_levels.Spots.{find_none, find_spot, look, mapped_spot}
 use Rattle.vos_path.specs.Calls.{IsPut, Turns}
 use Rattle.pmem_tree.specs.Changes.{PutAt, PutBy}
 use Rattle.vos_path.specs.Nodes.{OnePut}

@@ -8,9 +8,9 @@ use Rattle.pmem_pages.specs.Blocks.{Blocks, Budget, IsSpent}
 use Rattle.pmem_pages.specs.Owners.{Changed, Holds, Owner, both, times-append}
 use Rattle.pmem_pages.proofs.Owning.{changed_first, changed_second, changed_then}
 use Rattle.vos_values.specs.declared.values.AkeyRoots.{AkeyRoots}
-use Rattle.vos_levels.specs.Calls.{Becomes}
-use Rattle.vos_levels.specs.Levels.{HasMore, Hung, hung_root, things}
-use Rattle.vos_chain.specs.Made.{HasFewer}
+use Rattle.vos_extent.specs.vos_levels.Calls.{Becomes}
+use Rattle.vos_extent.specs.vos_levels.Levels.{HasMore, Hung, hung_root, things}
+use Rattle.vos_extent.specs.vos_chain.Made.{HasFewer}
 use Rattle.vos_ilog.specs.Logs.{Log, log_owner}
 use Rattle.vos_single.specs.Singles.{Singles, new_version, single_owner, versions}
 use Rattle.vos_extent.specs.Extents.{Extents, extent_owner, extents, new_extent}
@@ -20,7 +20,7 @@ use Rattle.vos_path.specs.Nodes.{ValuesNoted}
 use Rattle.vos_path.specs.Objects.{Values, extent_version, is_punch, punch_version, punches, single_version, values_owner, values_roots, values_versions}
 use Rattle.vos_path.specs.Writes.{IsNoted, IsNotedIf, IsSmall, fresh, fresh_entry, place_at}
 use Rattle.pmem_tree.specs.Calls.{StagesAtMost, TooFew}
-use Rattle.vos_versions.specs.Marks.{StagesFor, TooFewFor}
+use Rattle.vos_extent.specs.vos_versions.Marks.{StagesFor, TooFewFor}
 use Rattle.vos_path.proofs.Lists.{more_after, more_before, more_map}
 
 pub holds_first : {A B : Type 0} (O : Owner A) (P : Owner B) (m : Blocks) (g : A × B) → Holds (both O P) m g → Holds O m g.0

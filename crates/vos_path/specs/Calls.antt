@@ -4,8 +4,8 @@ use Rattle.pmem_pages.specs.Blocks.{Blocks, Budget, IsSpent}
 use Rattle.pmem_pages.specs.Owners.{Changed, Holds, Owner}
 use Rattle.vos_values.specs.declared.values.AkeyRoots.{AkeyRoots}
 use Rattle.vos_values.specs.declared.values.Roots.{Roots}
-use Rattle.vos_levels.specs.Levels.{HasMore}
-use Rattle.vos_chain.specs.Made.{HasFewer}
+use Rattle.vos_extent.specs.vos_levels.Levels.{HasMore}
+use Rattle.vos_extent.specs.vos_chain.Made.{HasFewer}
 
 -- where the blocks are told, a thing stands that these roots lead to, and this holds of it
 abbrev pub HasAt : {G R : Type 0} → Bool → Owner G → (G → R) → Blocks → R → (G → Type 0) → Type 0

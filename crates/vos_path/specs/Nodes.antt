@@ -4,7 +4,7 @@ use Rattle.std.specs.List.{find}
 use Rattle.base_types.specs.declared.operation.Write.{Write}
 use Rattle.vos_values.specs.declared.keys.ObjectKey.{ObjectKey}
 use Rattle.vos_values.specs.Keys.{name_key, object_key}
-use Rattle.vos_levels.specs.Levels.{Hung, is_level, things}
+use Rattle.vos_extent.specs.vos_levels.Levels.{Hung, is_level, things}
 use Rattle.vos_ilog.specs.declared.ilog.LogEntry.{LogEntry}
 use Rattle.vos_path.specs.declared.stamp.Stamp.{Stamp}
 use Rattle.vos_path.specs.Calls.{IsPut}

@@ -14,7 +14,7 @@ use Rattle.vos_values.specs.declared.values.AkeyRoots.{AkeyRoots}
 use Rattle.vos_values.specs.declared.values.Roots.{Roots}
 use Rattle.vos_values.specs.Keys.{IsName, IsObjectKey, name_key, object_key}
 use Rattle.vos_values.specs.Values.{akey_value, roots_value}
-use Rattle.vos_levels.specs.Levels.{Hung, Level, hung, hung_root, in_part, things}
+use Rattle.vos_extent.specs.vos_levels.Levels.{Hung, Level, hung, hung_root, in_part, things}
 use Rattle.vos_ilog.specs.declared.ilog.LogEntry.{LogEntry}
 use Rattle.vos_ilog.specs.Logs.{Log, log_owner}
 use Rattle.vos_single.specs.declared.single.SingleVersion.{SingleVersion}

@@ -3,7 +3,7 @@ use Rattle.std.specs.Prelude.{◌≡◌, ℕ, true, List, Option, Some, None, Al
 use Rattle.base_types.specs.declared.path.Path.{Path}
 use Rattle.vos_values.specs.declared.keys.ObjectKey.{ObjectKey}
 use Rattle.vos_values.specs.Keys.{name_key, object_key}
-use Rattle.vos_levels.specs.Levels.{Hung, is_level, things}
+use Rattle.vos_extent.specs.vos_levels.Levels.{Hung, is_level, things}
 use Rattle.vos_path.specs.Objects.{Akey, Below, Dkey, Object, Objects, akey_level, dkey_level, object_level}
 use Rattle.vos_path.specs.Writes.{AkeyIsSmall, IsAtObject, IsSmall}
 

@@ -11,8 +11,8 @@ use Rattle.vos_values.specs.declared.keys.ExtentKey.{ExtentKey}
 use Rattle.vos_values.specs.declared.keys.Moment.{Moment}
 use Rattle.vos_values.specs.declared.keys.ObjectKey.{ObjectKey}
 use Rattle.vos_values.specs.Keys.{IsName}
-use Rattle.vos_levels.specs.Levels.{HasMore, Hung, things}
-use Rattle.vos_chain.specs.Made.{chain_blocks}
+use Rattle.vos_extent.specs.vos_levels.Levels.{HasMore, Hung, things}
+use Rattle.vos_extent.specs.vos_chain.Made.{chain_blocks}
 use Rattle.vos_ilog.specs.declared.ilog.LogEntry.{LogEntry}
 use Rattle.vos_ilog.specs.Logs.{is_at, moment_of}
 use Rattle.vos_single.specs.Singles.{has_version_at}

@@ -2,6 +2,7 @@
 #![tactic(auto)]
 
 pub mod akeys;
+pub mod below;
 pub mod dkeys;
 pub mod find;
 pub mod laws;

@@ -2,8 +2,8 @@
 use Rattle.std.specs.Prelude.{◌≡◌, ℕ, List, [], ◌∷◌, refl}
 use Rattle.std.proofs.Common.{◌∙◌}
 use Rattle.base_outside.specs.Images.{Image, all_over, over}
-use Rattle.vos_image.specs.Kept.{Stored}
-use Rattle.vos_places.specs.Tables.{Table}
+use Rattle.vos_standing.specs.vos_image.Kept.{Stored}
+use Rattle.vos_standing.specs.vos_places.Tables.{Table}
 use Rattle.vos_pool_base.specs.Pool.{ranges_of}
 use Rattle.vos_standing.specs.Standing.{Stand}
 use Rattle.vos_standing.proofs.Standing.{stands_after_conts, stands_after_snaps, stands_without_snaps}

@@ -9,8 +9,8 @@ use Rattle.daos_model.specs.declared.durable.Version.{Version}
 use Rattle.daos_model.specs.BoolLaws.{clash}
 use Rattle.pmem_undo.specs.Layout.{gate}
 use Rattle.vos_commits.specs.Kept.{kept_in}
-use Rattle.vos_image.specs.Kept.{durable_of, kept}
-use Rattle.vos_places.specs.Tables.{Table}
+use Rattle.vos_standing.specs.vos_image.Kept.{durable_of, kept}
+use Rattle.vos_standing.specs.vos_places.Tables.{Table}
 use Rattle.vos_pool_base.specs.Pool.{ChangesTo, HasStood, kept_by}
 use Rattle.vos_standing.proofs.Committed.{closed_it_is_kept}
 use Rattle.vos_store.specs.Calls.{Makes}

@@ -11,12 +11,12 @@ use Rattle.pmem_alloc.specs.Sets.{count_below}
 use Rattle.pmem_undo.specs.Layout.{SameContent, gate, is_content}
 use Rattle.pmem_undo.specs.Settled.{settled}
 use Rattle.vos_commits.specs.Kept.{IsCommit}
-use Rattle.vos_image.specs.Kept.{Stored}
-use Rattle.vos_image.specs.Places.{Header}
-use Rattle.vos_places.specs.declared.codec.Counters.{Counters}
-use Rattle.vos_places.specs.Laws.{counted, counter_range}
-use Rattle.vos_places.specs.Tables.{Table}
-use Rattle.vos_places.proofs.Writing.{length_cont, length_counters, length_snap}
+use Rattle.vos_standing.specs.vos_image.Kept.{Stored}
+use Rattle.vos_standing.specs.vos_image.Places.{Header}
+use Rattle.vos_standing.specs.vos_places.declared.codec.Counters.{Counters}
+use Rattle.vos_standing.specs.vos_places.Laws.{counted, counter_range}
+use Rattle.vos_standing.specs.vos_places.Tables.{Table}
+use Rattle.vos_standing.proofs.vos_places.Writing.{length_cont, length_counters, length_snap}
 use Rattle.vos_pool_base.specs.Pool.{HasStood, OpenedState, ranges_of}
 use Rattle.vos_pool_base.specs.Tidy.{IfTidy, IsLeftStanding, IsSamePool, IsTidy, LeavesBut, LeavesStanding}
 use Rattle.vos_pool_base.proofs.Changing.{headers_stay}

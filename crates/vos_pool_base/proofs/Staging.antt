@@ -8,7 +8,7 @@ use Rattle.pmem_alloc.proofs.Staging.{total-push}
 use Rattle.pmem_undo.specs.Layout.{total_bytes}
 use Rattle.pmem_undo.specs.Undo.{IsTooMuch}
 use Rattle.vos_pool_base.specs.Pool.{ranges_of}
-use Rattle.vos_places.proofs.Writing.{length_cont, length_snap}
+use Rattle.vos_standing.proofs.vos_places.Writing.{length_cont, length_snap}
 use Rattle.vos_tables.specs.declared.change.Change.{Change}
 use Rattle.vos_tables.specs.declared.change.Change.TheVariants.{Cont, Snapshot, Unused}
 use Rattle.vos_tables.specs.Changes.{range_of}

@@ -5,8 +5,8 @@ use Rattle.base_outside.specs.Images.{Image, Range, all_over}
 use Rattle.daos_model.specs.declared.durable.Durable.{Durable}
 use Rattle.daos_model.specs.BoolLaws.{clash}
 use Rattle.vos_commits.specs.Kept.{IsCommit, MayFind, kept_in}
-use Rattle.vos_image.specs.Kept.{Stored, durable_of, kept}
-use Rattle.vos_places.specs.Tables.{Table}
+use Rattle.vos_standing.specs.vos_image.Kept.{Stored, durable_of, kept}
+use Rattle.vos_standing.specs.vos_places.Tables.{Table}
 use Rattle.pmem_alloc.specs.Blocks.{BlocksState}
 use Rattle.vos_pool_base.specs.Pool.{ChangesTo, HasStood, IsOpened, MayBeFound, OpenedState, kept_by, kept_of, may_of}
 use Rattle.vos_pool_base.proofs.Staging.{with_ranges}

@@ -8,9 +8,9 @@ use Rattle.daos_model.specs.declared.durable.Version.{Version}
 use Rattle.pmem_alloc.specs.Blocks.{BlocksState}
 use Rattle.pmem_alloc.specs.Map.{MapState}
 use Rattle.vos_commits.specs.Kept.{MayFind, kept_in}
-use Rattle.vos_image.specs.Kept.{Stored, kept}
-use Rattle.vos_places.specs.declared.codec.Counters.{Counters}
-use Rattle.vos_places.specs.Tables.{Table}
+use Rattle.vos_standing.specs.vos_image.Kept.{Stored, kept}
+use Rattle.vos_standing.specs.vos_places.declared.codec.Counters.{Counters}
+use Rattle.vos_standing.specs.vos_places.Tables.{Table}
 use Rattle.vos_standing.specs.Standing.{Stand}
 use Rattle.vos_tables.specs.declared.change.Change.{Change}
 use Rattle.vos_tables.specs.Changes.{range_of}

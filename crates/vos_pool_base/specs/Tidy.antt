@@ -6,11 +6,11 @@ use Rattle.daos_model.specs.Versions.{is_pending}
 use Rattle.pmem_alloc.specs.Map.{blocks_end, free_blocks}
 use Rattle.pmem_alloc.specs.Sets.{count_below}
 use Rattle.pmem_undo.specs.Settled.{settled}
-use Rattle.vos_entries.specs.Entries.{entries_in}
-use Rattle.vos_image.specs.Kept.{Stored, counts}
+use Rattle.vos_standing.specs.vos_entries.Entries.{entries_in}
+use Rattle.vos_standing.specs.vos_image.Kept.{Stored, counts}
 use Rattle.vos_levels.specs.Levels.{things}
-use Rattle.vos_path.specs.Objects.{objects_versions}
-use Rattle.vos_places.specs.Tables.{Table}
+use Rattle.vos_standing.specs.vos_path.Objects.{objects_versions}
+use Rattle.vos_standing.specs.vos_places.Tables.{Table}
 use Rattle.vos_pool_base.specs.Pool.{OpenedState}
 use Rattle.vos_standing.specs.Standing.{Stand}
 

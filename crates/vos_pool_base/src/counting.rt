@@ -4,7 +4,7 @@ ghost use Rattle.std.specs.Option.{ForSome};
 ghost use Rattle.daos_model.specs.declared.durable.Durable.{Durable};
 ghost use Rattle.daos_model.specs.Changes.{leased};
 ghost use Rattle.pmem_pages.specs.Blocks.{Stops};
-ghost use Rattle.vos_places.specs.Laws.{counted};
+ghost use Rattle.vos_standing.specs.vos_places.Laws.{counted};
 ghost use Rattle.vos_pool_base.specs.Pool.{ChangesTo, HasRoots, IfRunning, kept_of, may_of};
 ghost use Rattle.vos_pool_base.specs.Tidy.{IfTidy, LeavesBut};
 ghost use Rattle.vos_store.specs.Calls.{Makes};
@@ -14,7 +14,7 @@ ghost use Rattle.vos_tables.specs.Tables.{AreNext};
 use crate::committing::commit;
 use crate::opened::Opened;
 use base_outside::region::Region;
-use vos_places::codec::{Counters, counter_bytes};
+use vos_standing::below::places::codec::{Counters, counter_bytes};
 use vos_store::refusal::Stopped;
 
 impl<R: Region> Opened<R> {

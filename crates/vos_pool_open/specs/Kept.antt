@@ -11,7 +11,7 @@ use Rattle.vos_check_base.specs.declared.refusal.CheckNo.TheVariants.{Stopped, M
 use Rattle.vos_check_content.specs.declared.content.ContentFound.{ContentFound}
 use Rattle.vos_check_content.specs.Region.{IsLooked, health_of, region_content}
 use Rattle.vos_check_content.specs.Whole.{IsFaulty, IsHeldSomewhere, IsWholeFound}
-use Rattle.vos_check_places.specs.Fixed.{table_of}
+use Rattle.vos_check_content.specs.vos_check_places.Fixed.{table_of}
 
 -- why nothing was attached to
 abbrev pub cause_of : UndoCause → CheckNo

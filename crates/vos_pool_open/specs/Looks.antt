@@ -4,12 +4,12 @@ use Rattle.base_outside.specs.Images.{Image, NoMore}
 use Rattle.pmem_undo.specs.Settled.{settled}
 use Rattle.pmem_undo.specs.Undo.{IsUndo, UndoState}
 use Rattle.vos_check_content.specs.declared.content.ContentFound.{ContentFound}
-use Rattle.vos_image.specs.Kept.{read_content}
+use Rattle.vos_check_base.specs.vos_image.Kept.{read_content}
 use Rattle.vos_check_base.specs.declared.refusal.CheckNo.{CheckNo}
 use Rattle.vos_check_base.specs.declared.refusal.CheckNo.TheVariants.{Stopped, Foreign, Memory}
 use Rattle.vos_check_content.specs.Region.{region_content}
 use Rattle.vos_check_content.specs.Whole.{IsHeldSomewhere, IsWholeFound}
-use Rattle.vos_check_places.specs.Fixed.{table_of}
+use Rattle.vos_check_content.specs.vos_check_places.Fixed.{table_of}
 use Rattle.vos_check_region.specs.Blank.{IsBlank}
 use Rattle.vos_check_region.specs.Fault.{raw_fault}
 use Rattle.vos_pool_open.specs.Kept.{IsKeptFrom}

@@ -5,7 +5,7 @@ ghost use Rattle.pmem_undo.specs.Settled.{IsAttachable, StandsFor, settled};
 ghost use Rattle.pmem_undo.specs.Undo.{IsUndo};
 ghost use Rattle.vos_check_content.specs.Region.{region_content};
 ghost use Rattle.vos_check_content.specs.Whole.{IsFaulty, IsHeldSomewhere, IsWholeFound};
-ghost use Rattle.vos_check_places.specs.Fixed.{table_of};
+ghost use Rattle.vos_check_content.specs.vos_check_places.Fixed.{table_of};
 ghost use Rattle.vos_pool_open.specs.Kept.{IsFoundFrom, IsGivenUp, IsKeptFrom, IsRefusedFrom, cause_of};
 
 use base_outside::region::Region;

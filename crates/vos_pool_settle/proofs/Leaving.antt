@@ -20,22 +20,22 @@ use Rattle.vos_keeping.proofs.Settling.{abort_settles}
 use Rattle.vos_keeping.specs.Keeping.{IsAborted, SameRows, kept_so, versions_in}
 use Rattle.vos_levels.specs.declared.change.Change.TheVariants.{Abort}
 use Rattle.vos_levels.specs.Levels.{without_those}
-use Rattle.vos_places.specs.Tables.{places_of}
+use Rattle.vos_pool_base.specs.vos_places.Tables.{places_of}
 use Rattle.vos_pool_base.specs.Pool.{OpenedState, kept_of, may_of}
 use Rattle.vos_pool_base.specs.Tidy.{IfTidy, LeavesBut}
 use Rattle.vos_pool_settle.specs.Aborting.{IsLeftAfter, IsLeftOver, IsTakenOut}
 use Rattle.vos_pool_settle.specs.Settling.{HaveAllOf, IsSettling, OfItsKept}
 use Rattle.vos_pool_settle.proofs.Made.{can_turn, each_counts, kept_is, same_stored}
 use Rattle.vos_pool_settle.proofs.Named.{all_named, is_one_of, is_same, waits, waits_is}
-use Rattle.vos_pool_stage.proofs.Lifting.{leaves_then, none_leaves, quiet_then_quiet, still_same}
-use Rattle.vos_pool_stage.specs.Staged.{IsQuietCall}
+use Rattle.vos_pool_turns.proofs.vos_pool_stage.Lifting.{leaves_then, none_leaves, quiet_then_quiet, still_same}
+use Rattle.vos_pool_turns.specs.vos_pool_stage.Staged.{IsQuietCall}
 use Rattle.vos_pool_turns.specs.Pool.{CanTurn, HasTurned, IsOneTurn, StandsIn, TurnsKept}
 use Rattle.vos_store.specs.Calls.{Makes}
 use Rattle.vos_store.specs.declared.refusal.Stopped.{Stopped}
 use Rattle.vos_store.specs.Refusals.{always_stop, refuses}
-use Rattle.vos_turns.specs.declared.entries.EntryStep.TheVariants as step
-use Rattle.vos_turns.proofs.Turning.{take_next}
-use Rattle.vos_turns.specs.Turns.{AreFew, IsTurned, after_each, after_one}
+use Rattle.vos_pool_turns.specs.vos_turns.declared.entries.EntryStep.TheVariants as step
+use Rattle.vos_pool_turns.proofs.vos_turns.Turning.{take_next}
+use Rattle.vos_pool_turns.specs.vos_turns.Turns.{AreFew, IsTurned, after_each, after_one}
 use Rattle.vos_pool_turns.proofs.Making.{stops_then}
 
 -- ---- versions that go

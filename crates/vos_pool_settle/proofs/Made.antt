@@ -15,7 +15,7 @@ use Rattle.daos_model.specs.Ordered.{in_order, put, puts}
 use Rattle.daos_model.specs.Versions.{is_pending}
 use Rattle.pmem_undo.specs.Undo.{IsUndo}
 use Rattle.vos_entries.specs.Entries.{Stored as StoredEntry, entries_in, entries_owner, entry_of as entry_of_stored}
-use Rattle.vos_fitting.proofs.Entries.{members_are_targets}
+use Rattle.vos_pool_turns.proofs.vos_fitting.Entries.{members_are_targets}
 use Rattle.vos_image.proofs.Levels.{second_holds}
 use Rattle.vos_image.proofs.Whole.{no_other_stands}
 use Rattle.vos_image.specs.Content.{Content, shown}
@@ -30,21 +30,21 @@ use Rattle.vos_keeping.specs.Keeping.{EachCounts, IsSettled, SameRows, kept_so, 
 use Rattle.vos_levels.specs.declared.change.Change.{Change}
 use Rattle.vos_levels.specs.declared.change.Change.TheVariants as change
 use Rattle.vos_levels.specs.Levels.{things}
-use Rattle.vos_path.specs.Objects.{objects_owner}
-use Rattle.vos_places.specs.Tables.{Table, places_of}
+use Rattle.vos_image.specs.vos_path.Objects.{objects_owner}
+use Rattle.vos_pool_base.specs.vos_places.Tables.{Table, places_of}
 use Rattle.vos_pool_base.specs.Pool.{OpenedState, kept_of}
 use Rattle.vos_pool_base.specs.Tidy.{IfTidy}
 use Rattle.vos_pool_settle.specs.Settling.{HaveAllOf, IsSettling, OfItsKept}
 use Rattle.vos_pool_settle.proofs.Named.{all_named, committed_all, few_taken, is_one_of}
 use Rattle.vos_pool_turns.specs.Pool.{CanTurn, HasTurned, IsOneTurn, StandsIn}
-use Rattle.vos_standing.proofs.Committed.{closed_it_is_kept}
-use Rattle.vos_standing.proofs.Standing.{what_stands_stands}
-use Rattle.vos_standing.specs.Standing.{Stand, content}
+use Rattle.vos_pool_base.proofs.vos_standing.Committed.{closed_it_is_kept}
+use Rattle.vos_pool_base.proofs.vos_standing.Standing.{what_stands_stands}
+use Rattle.vos_pool_base.specs.vos_standing.Standing.{Stand, content}
 use Rattle.vos_store.specs.Conditions.{CanSettle}
 use Rattle.vos_store.specs.declared.refusal.Stopped.{Stopped}
-use Rattle.vos_turns.specs.declared.entries.EntryStep.{EntryStep}
-use Rattle.vos_turns.specs.declared.entries.EntryStep.TheVariants as step
-use Rattle.vos_turns.specs.Turns.{AreFew, IsTurned, StepMayStand}
+use Rattle.vos_pool_turns.specs.vos_turns.declared.entries.EntryStep.{EntryStep}
+use Rattle.vos_pool_turns.specs.vos_turns.declared.entries.EntryStep.TheVariants as step
+use Rattle.vos_pool_turns.specs.vos_turns.Turns.{AreFew, IsTurned, StepMayStand}
 
 -- no two things stand with one table
 pub same_stored : (target size : ℕ) (f : Image) (t : Table) (x y : Stored) → Stand target size f t x → Stand target size f t y → x ≡ y

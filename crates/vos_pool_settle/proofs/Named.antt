@@ -19,10 +19,10 @@ use Rattle.vos_keeping.proofs.Lists.{filtered_in_order, on_all, same_filter}
 use Rattle.vos_levels.specs.declared.change.Change.TheVariants.{Commit}
 use Rattle.vos_levels.specs.Changes as changes
 use Rattle.vos_levels.specs.Levels.{map_those}
-use Rattle.vos_settle.specs.Names.{kind_of}
-use Rattle.vos_settle.specs.Versions.{done_version, is_version_of, is_write}
-use Rattle.vos_tables.proofs.Places.{length_in_order}
-use Rattle.vos_turns.specs.Turns.{after_each, after_one, takes_version}
+use Rattle.vos_pool_turns.specs.vos_settle.Names.{kind_of}
+use Rattle.vos_pool_turns.specs.vos_settle.Versions.{done_version, is_version_of, is_write}
+use Rattle.vos_pool_base.proofs.vos_tables.Places.{length_in_order}
+use Rattle.vos_pool_turns.specs.vos_turns.Turns.{after_each, after_one, takes_version}
 
 -- an unsettled version of the attempt
 abbrev pub waits : AttemptId → Version → Bool

@@ -10,7 +10,7 @@ use Rattle.vos_image.specs.Places.{Places}
 use Rattle.vos_keeping.proofs.Going.{counted_go}
 use Rattle.vos_keeping.specs.Keeping.{AreGone, SameRows, versions_in}
 use Rattle.vos_levels.specs.declared.change.Change.TheVariants.{Prune}
-use Rattle.vos_places.specs.Tables.{places_of}
+use Rattle.vos_pool_base.specs.vos_places.Tables.{places_of}
 use Rattle.vos_pool_base.specs.Pool.{OpenedState}
 use Rattle.vos_pool_base.specs.Tidy.{IfTidy}
 use Rattle.vos_pool_settle.specs.Removing.{IsRemoval, goes_with, without_version}
@@ -19,8 +19,8 @@ use Rattle.vos_pool_settle.proofs.Made.{can_turn, each_counts}
 use Rattle.vos_pool_settle.proofs.Named.{is_same}
 use Rattle.vos_pool_turns.specs.Pool.{CanTurn, HasTurned, IsOneTurn, TurnsKept}
 use Rattle.vos_store.specs.declared.refusal.Stopped.{Stopped}
-use Rattle.vos_turns.specs.declared.entries.EntryStep.TheVariants as step
-use Rattle.vos_turns.specs.Turns.{AreFew, CanBeNamed, IsTurned, after_each, after_one}
+use Rattle.vos_pool_turns.specs.vos_turns.declared.entries.EntryStep.TheVariants as step
+use Rattle.vos_pool_turns.specs.vos_turns.Turns.{AreFew, CanBeNamed, IsTurned, after_each, after_one}
 
 -- those of the name go where the version is done
 one_gone : (u : Version) (vs : List Version) → after_each Prune (u ∷ []) vs ≡ filter (λ v. not (goes_with u v)) vs

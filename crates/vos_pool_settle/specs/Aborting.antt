@@ -7,16 +7,16 @@ use Rattle.daos_model.specs.Versions.{is_not_pending}
 use Rattle.pmem_alloc.specs.Blocks.{free_count}
 use Rattle.pmem_pages.specs.Blocks.{Stops}
 use Rattle.vos_entries.specs.Entries.{entries_in}
-use Rattle.vos_fitting.specs.Fitting.{ListNothing}
+use Rattle.vos_pool_turns.specs.vos_fitting.Fitting.{ListNothing}
 use Rattle.vos_image.specs.Kept.{Stored, counts}
 use Rattle.vos_keeping.specs.Keeping.{versions_in}
 use Rattle.vos_levels.specs.declared.change.Change.TheVariants.{Abort}
 use Rattle.vos_pool_base.specs.Pool.{OpenedState, kept_of, may_of}
 use Rattle.vos_pool_base.specs.Tidy.{LeavesBut}
-use Rattle.vos_pool_stage.specs.Staged.{IsQuietCall}
+use Rattle.vos_pool_turns.specs.vos_pool_stage.Staged.{IsQuietCall}
 use Rattle.vos_pool_turns.specs.Pool.{StandsIn}
 use Rattle.vos_store.specs.declared.refusal.Stopped.{Stopped}
-use Rattle.vos_turns.specs.Turns.{after_each}
+use Rattle.vos_pool_turns.specs.vos_turns.Turns.{after_each}
 
 -- This stands in a pool, no entry lists nodes, and the versions that don't count are the unsettled ones of the attempt.
 pub record IsLeftOver {R : Type 0} (extent : R → ℕ) (image : R → Image) (a : AttemptId) (p : OpenedState R) (x : Stored) : Type 0 where

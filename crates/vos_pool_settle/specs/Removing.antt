@@ -9,8 +9,8 @@ use Rattle.pmem_alloc.specs.Blocks.{free_count}
 use Rattle.pmem_pages.specs.Blocks.{Stops}
 use Rattle.vos_pool_base.specs.Pool.{OpenedState, kept_of, may_of}
 use Rattle.vos_pool_base.specs.Tidy.{IfTidy, LeavesBut}
-use Rattle.vos_settle.specs.Names.{kind_of}
-use Rattle.vos_settle.specs.Versions.{is_version_of}
+use Rattle.vos_pool_turns.specs.vos_settle.Names.{kind_of}
+use Rattle.vos_pool_turns.specs.vos_settle.Versions.{is_version_of}
 use Rattle.vos_store.specs.Calls.{Makes}
 use Rattle.vos_store.specs.declared.refusal.Stopped.{Stopped}
 use Rattle.vos_store.specs.Refusals.{always_stop}

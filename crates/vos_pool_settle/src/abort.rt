@@ -5,7 +5,7 @@ ghost use Rattle.vos_image.specs.Kept.{Stored};
 ghost use Rattle.vos_pool_base.specs.Tidy.{IfTidy};
 ghost use Rattle.vos_pool_settle.specs.Aborting.{IsLeftOver, IsTakenOut};
 ghost use Rattle.vos_pool_settle.specs.Settling.{HaveAllOf, IsSettling, OfItsKept};
-ghost use Rattle.vos_turns.specs.Turns.{CanBeNamed};
+ghost use Rattle.vos_pool_turns.specs.vos_turns.Turns.{CanBeNamed};
 
 use base_outside::region::Region;
 use base_types::id::AttemptId;
@@ -13,9 +13,9 @@ use daos_model::durable::Version;
 use std::slice::from_ref;
 use vos_levels::change::Change;
 use vos_pool_base::opened::Opened;
+use vos_pool_turns::below::turns::entries::EntryStep;
 use vos_pool_turns::pool::turn_pool;
 use vos_store::refusal::Stopped;
-use vos_turns::entries::EntryStep;
 
 // Takes the versions of an attempt out that are left of it, each by a quiet commit.
 fn take_out<R: Region>(

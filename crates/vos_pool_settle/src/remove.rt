@@ -1,16 +1,16 @@
 // One version goes from an open pool.
 ghost use Rattle.vos_pool_base.specs.Tidy.{IfTidy};
 ghost use Rattle.vos_pool_settle.specs.Removing.{IsRemoval};
-ghost use Rattle.vos_turns.specs.Turns.{CanBeNamed};
+ghost use Rattle.vos_pool_turns.specs.vos_turns.Turns.{CanBeNamed};
 
 use base_outside::region::Region;
 use daos_model::durable::Version;
 use std::slice::from_ref;
 use vos_levels::change::Change;
 use vos_pool_base::opened::Opened;
+use vos_pool_turns::below::turns::entries::EntryStep;
 use vos_pool_turns::pool::turn_pool;
 use vos_store::refusal::Stopped;
-use vos_turns::entries::EntryStep;
 
 /// Removes a version that is done, by one commit. Of one that isn't nothing changes.
 ///

@@ -3,7 +3,7 @@ ghost use Rattle.std.specs.Prelude.{All};
 ghost use Rattle.vos_pool_base.specs.Tidy.{IfTidy};
 ghost use Rattle.vos_pool_settle.specs.Settling.{HaveAllOf, IsSettling, NamesMember, OfItsKept};
 ghost use Rattle.vos_store.specs.Conditions.{CanSettle};
-ghost use Rattle.vos_turns.specs.Turns.{CanBeNamed};
+ghost use Rattle.vos_pool_turns.specs.vos_turns.Turns.{CanBeNamed};
 
 use crate::abort::abort;
 use crate::steps::{commit, confirm, forget};

@@ -4,7 +4,7 @@ ghost use Rattle.base_types.specs.declared.entry.Settle.TheVariants.{Commit as c
 ghost use Rattle.vos_pool_base.specs.Tidy.{IfTidy};
 ghost use Rattle.vos_pool_settle.specs.Settling.{HaveAllOf, IsSettling, OfItsKept};
 ghost use Rattle.vos_store.specs.Conditions.{CanSettle};
-ghost use Rattle.vos_turns.specs.Turns.{CanBeNamed};
+ghost use Rattle.vos_pool_turns.specs.vos_turns.Turns.{CanBeNamed};
 
 use base_outside::region::Region;
 use base_types::epoch::TargetId;
@@ -12,9 +12,9 @@ use base_types::id::AttemptId;
 use daos_model::durable::Version;
 use vos_levels::change::Change;
 use vos_pool_base::opened::Opened;
+use vos_pool_turns::below::turns::entries::EntryStep;
 use vos_pool_turns::pool::turn_pool;
 use vos_store::refusal::Stopped;
-use vos_turns::entries::EntryStep;
 
 /// Commits an attempt: its versions, which these have, are done, and its entry is committed, all of that by one commit.
 ///

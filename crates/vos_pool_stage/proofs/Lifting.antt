@@ -7,7 +7,7 @@ use Rattle.daos_model.specs.declared.durable.Durable.{Durable}
 use Rattle.daos_model.specs.BoolLaws.{clash}
 use Rattle.pmem_alloc.specs.Blocks.{BlocksState}
 use Rattle.pmem_alloc.specs.Still.{IsStill}
-use Rattle.vos_places.specs.Tables.{Table}
+use Rattle.vos_pool_base.specs.vos_places.Tables.{Table}
 use Rattle.vos_pool_base.specs.Pool.{MayBeFound, OpenedState, kept_by, kept_of, may_of}
 use Rattle.vos_pool_base.specs.Tidy.{IsSamePool, Leaves, LeavesBut, LeavesStanding}
 use Rattle.vos_pool_base.proofs.Leaving.{left_no_more, same_pool}

@@ -10,10 +10,10 @@ use Rattle.pmem_alloc.specs.Map.{free_blocks}
 use Rattle.pmem_alloc.specs.Sets.{count_below}
 use Rattle.vos_commits.specs.Kept.{IsCommit, IsQuiet, MayFind, kept_in}
 use Rattle.vos_commits.specs.Found.{quiet-finds, quiet-keeps}
-use Rattle.vos_image.specs.Kept.{Stored, durable_of, kept}
-use Rattle.vos_places.specs.declared.codec.Counters.{Counters}
-use Rattle.vos_places.specs.Laws.{counted, counter_range}
-use Rattle.vos_places.specs.Tables.{Table, places_of}
+use Rattle.vos_pool_base.specs.vos_image.Kept.{Stored, durable_of, kept}
+use Rattle.vos_pool_base.specs.vos_places.declared.codec.Counters.{Counters}
+use Rattle.vos_pool_base.specs.vos_places.Laws.{counted, counter_range}
+use Rattle.vos_pool_base.specs.vos_places.Tables.{Table, places_of}
 use Rattle.vos_pool_base.specs.Pool.{HasStood, IsOpened, MayBeFound, kept_by, kept_of, may_of}
 use Rattle.vos_pool_base.specs.Tidy.{IsSamePool, LeavesBut, LeavesStanding}
 use Rattle.vos_pool_base.proofs.Leaving.{counted_same, counters_free, free_at, leaves_at, left_after, left_no_more}
@@ -21,13 +21,13 @@ use Rattle.vos_pool_base.proofs.Staging.{with_ranges}
 use Rattle.vos_pool_base.proofs.Writing.{IsCallOf}
 use Rattle.vos_pool_stage.specs.Staged.{IsQuietCall, IsToStandOn, WhereTold, free_then, pool_of}
 use Rattle.vos_pool_stage.proofs.Staging.{staged_stands}
-use Rattle.vos_standing.specs.Standing.{Stand}
-use Rattle.vos_standing.proofs.Committed.{closed_it_is_kept, commits_change, contents_stand}
-use Rattle.vos_standing.proofs.Standing.{what_stands_is_kept}
+use Rattle.vos_pool_base.specs.vos_standing.Standing.{Stand}
+use Rattle.vos_pool_base.proofs.vos_standing.Committed.{closed_it_is_kept, commits_change, contents_stand}
+use Rattle.vos_pool_base.proofs.vos_standing.Standing.{what_stands_is_kept}
 use Rattle.vos_store.specs.declared.refusal.Stopped.{Stopped}
 use Rattle.vos_store.specs.Calls.{Makes}
 use Rattle.vos_store.specs.Refusals.{always_stop, refuses}
-use Rattle.vos_tables.specs.Tables.{AreNext}
+use Rattle.vos_pool_base.specs.vos_tables.Tables.{AreNext}
 
 -- no answer of a call that may only stop is a refusal
 never_refused : (result : Result (Unit {0}) Stopped) → refuses always_stop result ≡ false

@@ -1,11 +1,11 @@
 -- What a content says of itself is what its table's header says.
 use Rattle.std.proofs.Common.{◌≡◌, ℕ, ◌+◌, ◌*◌, List, [], Result, Ok, Err, ap}
-use Rattle.vos_image.specs.Content.{Content, layout_of}
-use Rattle.vos_image.specs.Places.{Header, header_in, read_header}
-use Rattle.vos_image.specs.Steps.{Step, ◌>>=◌, give, onward}
+use Rattle.vos_pool_base.specs.vos_image.Content.{Content, layout_of}
+use Rattle.vos_pool_base.specs.vos_image.Places.{Header, header_in, read_header}
+use Rattle.vos_pool_base.specs.vos_image.Steps.{Step, ◌>>=◌, give, onward}
 use Rattle.vos_pool_stage.specs.Laws.{ContentsSayTheirHeaders}
 use Rattle.vos_commits.specs.Kept.{content_of as bytes_of}
-use Rattle.vos_standing.specs.Standing.{content}
+use Rattle.vos_pool_base.specs.vos_standing.Standing.{content}
 
 -- what a reading in two steps gave its second step gave
 then_was : {A B : Type 0} (a : Step A) (k : A → Step B) (led : List ℕ) (r : B × List ℕ) → (a >>= k) led ≡ Ok r → (x : A × List ℕ) × (k x.0 x.1 ≡ Ok r)

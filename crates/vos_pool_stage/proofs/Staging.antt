@@ -5,14 +5,14 @@ use Rattle.base_outside.specs.ImageLaws.{all_over-push}
 use Rattle.pmem_alloc.specs.Map.{MapState, is_block}
 use Rattle.pmem_pages.proofs.Owning.{changed_first, changed_second}
 use Rattle.vos_entries.specs.Entries.{entries_owner}
-use Rattle.vos_image.specs.Content.{shown}
-use Rattle.vos_path.specs.Objects.{objects_owner}
-use Rattle.vos_path.proofs.Written.{holds_first, holds_second}
-use Rattle.vos_places.specs.Laws.{counted, counter_range}
+use Rattle.vos_pool_base.specs.vos_image.Content.{shown}
+use Rattle.vos_pool_base.specs.vos_path.Objects.{objects_owner}
+use Rattle.vos_pool_base.proofs.vos_path.Written.{holds_first, holds_second}
+use Rattle.vos_pool_base.specs.vos_places.Laws.{counted, counter_range}
 use Rattle.vos_pool_stage.specs.Laws.{EntriesAreStaged, ObjectsAreStaged, StagedAreShown, StagedStands, StagingBegins}
-use Rattle.vos_standing.specs.Standing.{Stand, StaysBeside, content}
-use Rattle.vos_standing.proofs.Changing.{blocks_are_shown, blocks_change}
-use Rattle.vos_standing.proofs.Standing.{allows_after_blocks, fits_stay, stands_after_blocks}
+use Rattle.vos_pool_base.specs.vos_standing.Standing.{Stand, StaysBeside, content}
+use Rattle.vos_pool_base.proofs.vos_standing.Changing.{blocks_are_shown, blocks_change}
+use Rattle.vos_pool_base.proofs.vos_standing.Standing.{allows_after_blocks, fits_stay, stands_after_blocks}
 
 pub staging_begins : StagingBegins
 staging_begins target size f m t x s read = record {

@@ -4,16 +4,16 @@ use Rattle.base_outside.specs.Images.{Image, Range, all_over}
 use Rattle.pmem_alloc.specs.Map.{MapState, shown_in}
 use Rattle.pmem_pages.specs.Owners.{Changed, Holds}
 use Rattle.vos_entries.specs.Entries.{Entries, entries_owner}
-use Rattle.vos_image.specs.Content.{Content, layout_of}
-use Rattle.vos_image.specs.Kept.{Stored}
-use Rattle.vos_image.specs.Places.{Header}
-use Rattle.vos_path.specs.Objects.{Objects, objects_owner}
-use Rattle.vos_places.specs.declared.codec.Counters.{Counters}
-use Rattle.vos_places.specs.Laws.{counted, counter_range, covered_by}
-use Rattle.vos_places.specs.Tables.{Table}
+use Rattle.vos_pool_base.specs.vos_image.Content.{Content, layout_of}
+use Rattle.vos_pool_base.specs.vos_image.Kept.{Stored}
+use Rattle.vos_pool_base.specs.vos_image.Places.{Header}
+use Rattle.vos_pool_base.specs.vos_path.Objects.{Objects, objects_owner}
+use Rattle.vos_pool_base.specs.vos_places.declared.codec.Counters.{Counters}
+use Rattle.vos_pool_base.specs.vos_places.Laws.{counted, counter_range, covered_by}
+use Rattle.vos_pool_base.specs.vos_places.Tables.{Table}
 use Rattle.vos_pool_stage.specs.Staged.{IsStaged, IsToStand}
-use Rattle.vos_standing.specs.Standing.{IsReadOf, Stand, content}
-use Rattle.vos_tables.specs.Tables.{AreNext}
+use Rattle.vos_pool_base.specs.vos_standing.Standing.{IsReadOf, Stand, content}
+use Rattle.vos_pool_base.specs.vos_tables.Tables.{AreNext}
 
 -- with nothing staged that is staged which stands
 abbrev pub StagingBegins : Type 0

@@ -6,14 +6,14 @@ use Rattle.pmem_alloc.specs.Blocks.{BlocksState}
 use Rattle.pmem_alloc.specs.Map.{MapState, free_of}
 use Rattle.pmem_alloc.specs.Sets.{count_below}
 use Rattle.pmem_pages.specs.Owners.{Holds}
-use Rattle.vos_image.specs.Content.{shown}
-use Rattle.vos_image.specs.Fits.{AllFit}
-use Rattle.vos_image.specs.Kept.{Stored, stored_owner}
+use Rattle.vos_pool_base.specs.vos_image.Content.{shown}
+use Rattle.vos_pool_base.specs.vos_image.Fits.{AllFit}
+use Rattle.vos_pool_base.specs.vos_image.Kept.{Stored, stored_owner}
 use Rattle.vos_levels.specs.Levels.{hung_root}
-use Rattle.vos_places.specs.declared.codec.Counters.{Counters}
-use Rattle.vos_places.specs.Tables.{Table}
+use Rattle.vos_pool_base.specs.vos_places.declared.codec.Counters.{Counters}
+use Rattle.vos_pool_base.specs.vos_places.Tables.{Table}
 use Rattle.vos_pool_base.specs.Pool.{OpenedState}
-use Rattle.vos_standing.specs.Standing.{IsReadOf, Stand, StaysBeside, content}
+use Rattle.vos_pool_base.specs.vos_standing.Standing.{IsReadOf, Stand, StaysBeside, content}
 
 -- The first map is read of an image, and the second of that image with the staged ranges over it. All this stands in the blocks then,
 -- and what stands beside them is as it was.

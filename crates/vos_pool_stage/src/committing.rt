@@ -5,25 +5,25 @@ ghost use Rattle.pmem_alloc.specs.Blocks.{free_count};
 ghost use Rattle.pmem_alloc.specs.Still.{IsStill};
 ghost use Rattle.pmem_pages.specs.Blocks.{Stops};
 ghost use Rattle.pmem_undo.specs.Undo.{HasRoom};
-ghost use Rattle.vos_image.specs.Kept.{Stored, durable_of, kept};
+ghost use Rattle.vos_pool_base.specs.vos_image.Kept.{Stored, durable_of, kept};
 ghost use Rattle.vos_commits.specs.Kept.{kept_in};
-ghost use Rattle.vos_places.specs.Laws.{counted};
-ghost use Rattle.vos_places.specs.Tables.{places_of};
+ghost use Rattle.vos_pool_base.specs.vos_places.Laws.{counted};
+ghost use Rattle.vos_pool_base.specs.vos_places.Tables.{places_of};
 ghost use Rattle.vos_pool_base.specs.Pool.{kept_of, may_of};
 ghost use Rattle.vos_pool_base.specs.Tidy.{LeavesBut};
 ghost use Rattle.vos_pool_stage.specs.Staged.{IsQuietCall, IsToStandOn, WhereTold, free_then, pool_of};
-ghost use Rattle.vos_standing.specs.Standing.{Stand};
+ghost use Rattle.vos_pool_base.specs.vos_standing.Standing.{Stand};
 ghost use Rattle.vos_store.specs.Calls.{Makes};
 ghost use Rattle.vos_store.specs.Refusals.{always_stop};
-ghost use Rattle.vos_tables.specs.Tables.{AreNext};
+ghost use Rattle.vos_pool_base.specs.vos_tables.Tables.{AreNext};
 
 use base_outside::region::Region;
 use pmem_alloc::blocks::Blocks;
-use vos_places::codec::{Counters, counter_bytes};
+use vos_pool_base::below::places::codec::{Counters, counter_bytes};
+use vos_pool_base::below::tables::table::Tables;
 use vos_pool_base::committing::commit;
 use vos_pool_base::opened::Opened;
 use vos_store::refusal::Stopped;
-use vos_tables::table::Tables;
 
 /// Commits what is staged together with the counters, which have the roots of all that is staged. What stands
 /// then is what was staged. A change of what is kept that this makes is made whole or not at all; where it

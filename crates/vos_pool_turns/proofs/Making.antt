@@ -18,28 +18,28 @@ use Rattle.pmem_tree_base.specs.declared.refusal.TreeNo.TheVariants as tree
 use Rattle.pmem_undo.specs.Layout.{total_bytes}
 use Rattle.pmem_undo.specs.Undo.{IsUndo}
 use Rattle.vos_commits.specs.Kept.{kept_in}
-use Rattle.vos_fitting.specs.Fitting.{ListNothing}
-use Rattle.vos_image.specs.Kept.{Stored, durable_of, kept, stored_owner}
+use Rattle.vos_turns.specs.vos_fitting.Fitting.{ListNothing}
+use Rattle.vos_turns.specs.vos_image.Kept.{Stored, durable_of, kept, stored_owner}
 use Rattle.vos_keeping.specs.Keeping.{SameRows, kept_so}
 use Rattle.vos_levels.specs.declared.change.Change.{Change}
-use Rattle.vos_places.specs.declared.codec.Counters.{Counters}
-use Rattle.vos_places.specs.Laws.{counted}
-use Rattle.vos_places.specs.Tables.{Table, places_of}
-use Rattle.vos_pool_base.proofs.Commits.{when_ok}
-use Rattle.vos_pool_base.specs.Pool.{OpenedState, kept_of, may_of}
-use Rattle.vos_pool_base.specs.Tidy.{LeavesBut}
+use Rattle.vos_keeping.specs.vos_places.declared.codec.Counters.{Counters}
+use Rattle.vos_keeping.specs.vos_places.Laws.{counted}
+use Rattle.vos_keeping.specs.vos_places.Tables.{Table, places_of}
+use Rattle.vos_pool_stage.proofs.vos_pool_base.Commits.{when_ok}
+use Rattle.vos_pool_stage.specs.vos_pool_base.Pool.{OpenedState, kept_of, may_of}
+use Rattle.vos_pool_stage.specs.vos_pool_base.Tidy.{LeavesBut}
 use Rattle.vos_pool_stage.proofs.Lifting.{leaves_from, makes_from, none_leaves, none_made, none_quiet, quiet_from, still_then}
 use Rattle.vos_pool_stage.specs.Staged.{IsQuietCall, IsToStand, IsToStandOn, WhereTold, free_then, pool_of}
 use Rattle.vos_pool_turns.specs.Pool.{CanTurn, HasTurned, IsOneTurn, StandsIn, TurnsKept}
-use Rattle.vos_small.proofs.Smallness.{maps_are_of_regions, stored_in_regions_are_small}
-use Rattle.vos_small.specs.Rooms.{HasLeft}
-use Rattle.vos_standing.proofs.Changing.{blocks_are_shown, blocks_change}
-use Rattle.vos_standing.proofs.Committed.{closed_it_is_kept}
-use Rattle.vos_standing.specs.Standing.{IsReadOf, Stand, content}
+use Rattle.vos_turns.proofs.vos_small.Smallness.{maps_are_of_regions, stored_in_regions_are_small}
+use Rattle.vos_turns.specs.vos_small.Rooms.{HasLeft}
+use Rattle.vos_pool_stage.proofs.vos_standing.Changing.{blocks_are_shown, blocks_change}
+use Rattle.vos_pool_stage.proofs.vos_standing.Committed.{closed_it_is_kept}
+use Rattle.vos_pool_stage.specs.vos_standing.Standing.{IsReadOf, Stand, content}
 use Rattle.vos_store.specs.Calls.{Makes}
 use Rattle.vos_store.specs.declared.refusal.Stopped.{Stopped}
 use Rattle.vos_store.specs.Refusals.{always_stop}
-use Rattle.vos_tables.specs.Kept as tables
+use Rattle.vos_keeping.specs.vos_tables.Kept as tables
 use Rattle.vos_turns.specs.declared.entries.EntryStep.{EntryStep}
 use Rattle.vos_turns.specs.Turns.{IsTurned, StandsBelow, StepMayStand, TurnsTo}
 

@@ -6,16 +6,16 @@ use Rattle.daos_model.specs.declared.durable.Durable.{Durable}
 use Rattle.daos_model.specs.declared.durable.Version.{Version}
 use Rattle.pmem_alloc.specs.Blocks.{free_count}
 use Rattle.pmem_pages.specs.Blocks.{Stops}
-use Rattle.vos_fitting.specs.Fitting.{ListNothing}
-use Rattle.vos_image.specs.Kept.{Stored}
-use Rattle.vos_image.specs.Places.{Places}
+use Rattle.vos_turns.specs.vos_fitting.Fitting.{ListNothing}
+use Rattle.vos_turns.specs.vos_image.Kept.{Stored}
+use Rattle.vos_turns.specs.vos_image.Places.{Places}
 use Rattle.vos_keeping.specs.Keeping.{SameRows, kept_so}
 use Rattle.vos_levels.specs.declared.change.Change.{Change}
-use Rattle.vos_places.specs.Tables.{places_of}
-use Rattle.vos_pool_base.specs.Pool.{OpenedState, kept_of, may_of}
-use Rattle.vos_pool_base.specs.Tidy.{LeavesBut}
+use Rattle.vos_keeping.specs.vos_places.Tables.{places_of}
+use Rattle.vos_pool_stage.specs.vos_pool_base.Pool.{OpenedState, kept_of, may_of}
+use Rattle.vos_pool_stage.specs.vos_pool_base.Tidy.{LeavesBut}
 use Rattle.vos_pool_stage.specs.Staged.{IsQuietCall}
-use Rattle.vos_standing.specs.Standing.{Stand, content}
+use Rattle.vos_pool_stage.specs.vos_standing.Standing.{Stand, content}
 use Rattle.vos_store.specs.Calls.{Makes}
 use Rattle.vos_store.specs.declared.refusal.Stopped.{Stopped}
 use Rattle.vos_store.specs.Refusals.{always_stop}

@@ -3,10 +3,10 @@ ghost use Rattle.std.specs.Prelude.{◌≡◌, ◌≤◌, [], false, true, All, 
 ghost use Rattle.pmem_alloc.specs.Blocks.{free_count};
 ghost use Rattle.pmem_alloc.specs.Pages.{left};
 ghost use Rattle.pmem_undo.specs.Undo.{HasRoom};
-ghost use Rattle.vos_image.specs.Kept.{Stored};
+ghost use Rattle.vos_turns.specs.vos_image.Kept.{Stored};
 ghost use Rattle.vos_pool_stage.specs.Staged.{pool_of};
 ghost use Rattle.vos_pool_turns.specs.Pool.{CanTurn, IsOneTurn};
-ghost use Rattle.vos_small.specs.Rooms.{HasLeft};
+ghost use Rattle.vos_turns.specs.vos_small.Rooms.{HasLeft};
 ghost use Rattle.vos_turns.specs.Turns.{AreFew, CanBeNamed, IsEntryStep};
 
 use crate::staging::stage_turn;
@@ -17,11 +17,11 @@ use pmem_alloc::blocks::Blocks;
 use pmem_tree::TreeNo;
 use pmem_tree::tree::Tree;
 use vos_entries::entries::EntryTree;
+use vos_keeping::below::tables::table::Tables;
 use vos_levels::change::Change;
-use vos_pool_base::opened::Opened;
+use vos_pool_stage::below::pool_base::opened::Opened;
 use vos_pool_stage::committing::{commit_staged, give_up};
 use vos_store::refusal::Stopped;
-use vos_tables::table::Tables;
 use vos_turns::entries::EntryStep;
 
 // Whether what was staged can be committed: it was staged whole, there is room for the counters, and no fewer blocks

@@ -4,8 +4,8 @@ ghost use Rattle.pmem_alloc.specs.Pages.{left, shown};
 ghost use Rattle.pmem_alloc.specs.Still.{IsSince, IsStill};
 ghost use Rattle.pmem_tree_base.specs.Calls.{Goes};
 ghost use Rattle.pmem_tree_base.specs.declared.refusal.TreeNo.{TreeNo};
-ghost use Rattle.vos_image.specs.Kept.{Stored};
-ghost use Rattle.vos_small.specs.Rooms.{HasLeft};
+ghost use Rattle.vos_turns.specs.vos_image.Kept.{Stored};
+ghost use Rattle.vos_turns.specs.vos_small.Rooms.{HasLeft};
 ghost use Rattle.vos_turns.specs.Turns.{AreFew, CanBeNamed, IsEntryStep, StandsBelow, TurnsTo};
 
 use base_outside::region::Region;

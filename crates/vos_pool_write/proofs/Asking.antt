@@ -33,7 +33,7 @@ use Rattle.vos_pool_write.specs.Preparing.{HasNoneOf}
 use Rattle.vos_pool_write.specs.Several.{sum_at_most}
 use Rattle.vos_pool_write.specs.Written.{blocks_at_most}
 use Rattle.vos_pool_write.proofs.Lists.{filter_all}
-use Rattle.vos_standing.proofs.Committed.{closed_it_is_kept}
+use Rattle.vos_pool_base.proofs.vos_standing.Committed.{closed_it_is_kept}
 use Rattle.vos_tables.proofs.Places.{any_in_order}
 
 -- ---- entries

@@ -31,7 +31,7 @@ use Rattle.vos_pool_stage.proofs.Saying.{contents_say}
 use Rattle.vos_pool_stage.proofs.Staging.{entries_are_staged, objects_are_staged, staged_are_shown, staging_begins}
 use Rattle.vos_pool_write.specs.Coming.{MayCome, MayEnter, StandsNow}
 use Rattle.vos_pool_write.specs.Written.{EntryComes, MayBeStaged, WriteComes}
-use Rattle.vos_standing.specs.Standing.{IsReadOf, content}
+use Rattle.vos_pool_base.specs.vos_standing.Standing.{IsReadOf, content}
 use Rattle.vos_values.specs.declared.keys.ObjectKey.{ObjectKey}
 
 -- ---- the object of a write

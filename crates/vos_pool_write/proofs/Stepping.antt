@@ -31,8 +31,8 @@ use Rattle.vos_pool_write.specs.Coming.{EntryMakes, HasCome, HasEntered, MayCome
 use Rattle.vos_pool_write.specs.Written.{EntryComes, MayBeStaged, WriteComes}
 use Rattle.vos_pool_write.proofs.Coming.{entries_here, entry_to_stand, objects_here, version_to_stand}
 use Rattle.vos_pool_write.proofs.Lists.{filter_none}
-use Rattle.vos_standing.specs.Standing.{Stand}
-use Rattle.vos_standing.proofs.Committed.{closed_it_is_kept}
+use Rattle.vos_pool_base.specs.vos_standing.Standing.{Stand}
+use Rattle.vos_pool_base.proofs.vos_standing.Committed.{closed_it_is_kept}
 use Rattle.vos_tables.specs.Kept.{Makes, kept_with}
 
 -- what was free at the last commit is what was free

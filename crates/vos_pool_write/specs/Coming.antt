@@ -14,7 +14,7 @@ use Rattle.vos_path.specs.Writes.{IsNewIn, fresh}
 use Rattle.vos_places.specs.Laws.{covered_by}
 use Rattle.vos_places.specs.Tables.{Table, places_of}
 use Rattle.vos_pool_base.specs.Pool.{OpenedState}
-use Rattle.vos_standing.specs.Standing.{Stand}
+use Rattle.vos_pool_base.specs.vos_standing.Standing.{Stand}
 
 -- this stands in a pool now
 abbrev pub StandsNow : {R : Type 0} → (R → ℕ) → (R → Image) → OpenedState R → Stored → Type 0

@@ -10,7 +10,7 @@ use Rattle.base_types.specs.Paths.{same_path}
 use Rattle.daos_model.specs.declared.durable.Version.{Version}
 use Rattle.daos_model.specs.Prunes.{is_punch}
 use Rattle.daos_model.specs.Versions.{done_by, version_path}
-use Rattle.vos_values.specs.declared.keys.Moment.{Moment}
+use Rattle.vos_levels.specs.vos_values.declared.keys.Moment.{Moment}
 use Rattle.vos_levels.specs.Levels.{HasMore, map_those, without_those}
 use Rattle.vos_levels.specs.Moments.{same_moment}
 use Rattle.vos_punches.specs.Moments.{AreInOrder, has_moment, with_moment, without_moment}

@@ -19,7 +19,7 @@ use Rattle.daos_model.specs.Forms.{is_write_in_form}
 use Rattle.daos_model.specs.Prunes.{is_punch}
 use Rattle.daos_model.specs.Versions.{version_path}
 use Rattle.daos_model.specs.declared.durable.Version.{Version}
-use Rattle.vos_values.specs.declared.keys.Moment.{Moment}
+use Rattle.vos_levels.specs.vos_values.declared.keys.Moment.{Moment}
 use Rattle.vos_levels.specs.Levels.{or_else}
 use Rattle.vos_levels.specs.Moments.{AllLater, is_earlier, same_moment}
 use Rattle.vos_punches.specs.Moments.{AreInOrder, has_moment, is_below, itself, last_below, later_moment}

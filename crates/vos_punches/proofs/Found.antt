@@ -6,7 +6,7 @@ use Rattle.std.specs.List.{position, position_or_len}
 use Rattle.base_types.specs.PathLaws.{same_path-Decides}
 use Rattle.base_types.specs.Paths.{same_path}
 use Rattle.base_types.specs.declared.path.Path.{Path}
-use Rattle.vos_values.specs.declared.keys.Moment.{Moment}
+use Rattle.vos_levels.specs.vos_values.declared.keys.Moment.{Moment}
 use Rattle.vos_punches.specs.declared.bucket.Row.{Row}
 use Rattle.vos_punches.specs.Rows.{in_rows, is_row_of}
 use Rattle.vos_punches.specs.Moments.{with_moment, without_moment}

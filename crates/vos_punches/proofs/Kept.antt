@@ -5,7 +5,7 @@ use Rattle.std.proofs.lemmas.Bool.Decides.{nat_tests}
 use Rattle.base_types.specs.PathLaws.{same_path-Decides}
 use Rattle.base_types.specs.Paths.{same_path}
 use Rattle.base_types.specs.declared.path.Path.{Path}
-use Rattle.vos_values.specs.declared.keys.Moment.{Moment}
+use Rattle.vos_levels.specs.vos_values.declared.keys.Moment.{Moment}
 use Rattle.vos_punches.specs.declared.bucket.Bucket.{Bucket}
 use Rattle.vos_punches.specs.Moments.{without_moment}
 use Rattle.base_types.specs.Tags.{tag}

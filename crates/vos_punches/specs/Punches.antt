@@ -8,7 +8,7 @@ use Rattle.base_types.specs.Paths.{cut_at, leads_to, same_path}
 use Rattle.daos_model.specs.declared.durable.Version.{Version}
 use Rattle.daos_model.specs.Prunes.{is_punch}
 use Rattle.daos_model.specs.Versions.{version_path}
-use Rattle.vos_values.specs.declared.keys.Moment.{Moment}
+use Rattle.vos_levels.specs.vos_values.declared.keys.Moment.{Moment}
 use Rattle.vos_levels.specs.Moments.{is_earlier, same_moment}
 use Rattle.vos_punches.specs.Moments.{AreInOrder, has_moment, last_below, later_moment, with_moment, without_moment}
 

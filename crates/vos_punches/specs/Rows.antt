@@ -3,7 +3,7 @@ use Rattle.std.specs.Prelude.{nat_eq, Bool, List, [], ◌∷◌, Option, Some, N
 use Rattle.std.specs.HashMap.{get}
 use Rattle.base_types.specs.declared.path.Path.{Path}
 use Rattle.base_types.specs.Paths.{same_path}
-use Rattle.vos_values.specs.declared.keys.Moment.{Moment}
+use Rattle.vos_levels.specs.vos_values.declared.keys.Moment.{Moment}
 use Rattle.vos_punches.specs.declared.bucket.Bucket.{Bucket}
 use Rattle.vos_punches.specs.declared.bucket.Row.{Row}
 use Rattle.vos_punches.specs.declared.punches.Punches.{Punches}

@@ -12,7 +12,7 @@ use base_types::epoch::Epoch;
 use base_types::items::Memory;
 use base_types::path::{Level, Path};
 use std::alloc::Global;
-use vos_values::keys::Moment;
+use vos_levels::below::values::keys::Moment;
 
 /// A path and the moments of its punches.
 #[derive(Drop)]

@@ -7,7 +7,7 @@ ghost use Rattle.daos_model.specs.declared.durable.Version.{Version as VersionOf
 ghost use Rattle.daos_model.specs.Forms.{is_write_in_form};
 ghost use Rattle.daos_model.specs.Prunes.{is_punch};
 ghost use Rattle.daos_model.specs.Versions.{done_by, version_path};
-ghost use Rattle.vos_values.specs.declared.keys.Moment.{Moment as MomentOf};
+ghost use Rattle.vos_levels.specs.vos_values.declared.keys.Moment.{Moment as MomentOf};
 ghost use Rattle.vos_levels.specs.Levels.{HasMore, map_those, without_those};
 ghost use Rattle.vos_punches.specs.Punches.{ArePunchesOf, IsAdded, IsLastOver, IsRemoved, PunchesAt, covering, is_punch_of, made_done, moment_of};
 

@@ -14,7 +14,7 @@ use base_types::path::{Level, Path};
 use base_types::tag::tag_at;
 use std::alloc::Global;
 use std::collections::HashMap;
-use vos_values::keys::Moment;
+use vos_levels::below::values::keys::Moment;
 
 /// The punches of a store, whether they are settled or not: for each path the moments of its punches, in
 /// order.

@@ -22,8 +22,8 @@ use Rattle.vos_levels.proofs.Settling.{none_freed, spot_stands}
 use Rattle.vos_levels.proofs.Spots.{find_spot, look}
 use Rattle.vos_ilog.specs.declared.ilog.LogEntry.{LogEntry}
 use Rattle.vos_ilog.specs.Logs.{is_at, log_owner, one_block}
-use Rattle.vos_single.specs.Singles as single
-use Rattle.vos_extent.specs.Extents as extent
+use Rattle.vos_path.specs.vos_single.Singles as single
+use Rattle.vos_path.specs.vos_extent.Extents as extent
 use Rattle.vos_path.specs.Objects.{Akey, Below, Dkey, Objects, Values, akey_level, akey_path, akey_versions, akeys_versions, below_dkey_versions, below_object_versions, below_owner, dkey_level, dkey_path, dkey_versions, dkeys_versions, extent_version, is_punch, object_level, object_path, object_versions, objects_owner, objects_versions, or_none, punch_version, punches, single_version, together, values_versions}
 use Rattle.vos_path.specs.Writes.{IsAtObject, NamesAreKeys}
 use Rattle.vos_path.proofs.Lists.{together_append}

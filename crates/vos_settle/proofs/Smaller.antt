@@ -16,10 +16,10 @@ use Rattle.vos_levels.proofs.Changing.{holds_each, holds_spot}
 use Rattle.vos_levels.proofs.Spots.{same_length}
 use Rattle.vos_ilog.specs.declared.ilog.LogEntry.{LogEntry}
 use Rattle.vos_ilog.specs.Logs.{Log, done_entry, log_level, log_owner}
-use Rattle.vos_single.specs.declared.single.SingleVersion.{SingleVersion}
-use Rattle.vos_single.specs.Singles as single
-use Rattle.vos_extent.specs.declared.extent.ExtentVersion.{ExtentVersion}
-use Rattle.vos_extent.specs.Extents as extent
+use Rattle.vos_path.specs.vos_single.declared.single.SingleVersion.{SingleVersion}
+use Rattle.vos_path.specs.vos_single.Singles as single
+use Rattle.vos_path.specs.vos_extent.declared.extent.ExtentVersion.{ExtentVersion}
+use Rattle.vos_path.specs.vos_extent.Extents as extent
 use Rattle.vos_path.specs.Objects.{Akey, Below, Dkey, Objects, Values, akey_level, below_owner, dkey_level, held_below, held_values, object_level, objects_owner, values_owner}
 use Rattle.vos_path.specs.Small.{AkeysOnPathAreSmall, BelowDkeyOnPathIsSmall, BelowObjectOnPathIsSmall, DkeysOnPathAreSmall, NamedAkeyIsSmall, NamedDkeyIsSmall, NamedObjectIsSmall, PathIsSmall}
 use Rattle.vos_path.specs.Writes.{AkeyIsSmall, AkeysAreSmall, BelowDkeyIsSmall, BelowObjectIsSmall, DkeyIsSmall, DkeysAreSmall, IsSmall, ObjectIsSmall, ObjectsAreSmall, ValuesAreSmall}

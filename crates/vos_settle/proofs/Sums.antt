@@ -5,7 +5,7 @@ use Rattle.pmem_tree.specs.Calls.{StagesAtMost, TooFew}
 use Rattle.vos_levels.specs.Levels.{Hung}
 use Rattle.vos_path.specs.Writes.{IsSmall}
 use Rattle.vos_path.proofs.Written.{fewer_than, lacked_before, spent_at_most, spent_then}
-use Rattle.vos_versions.specs.Marks.{StagesLess}
+use Rattle.vos_path.specs.vos_versions.Marks.{StagesLess}
 use Rattle.vos_settle.specs.Costs.{Lacks, Spends, for_one}
 
 pub spends_most : (r s : ℕ) (x y : Budget) → r ≤ s → Spends r x y → Spends s x y

@@ -6,8 +6,8 @@ use Rattle.vos_values.specs.declared.values.AkeyRoots.{AkeyRoots}
 use Rattle.vos_levels.specs.Calls.{Becomes}
 use Rattle.vos_levels.specs.Levels.{hung_root, things}
 use Rattle.vos_ilog.specs.Logs.{log_owner}
-use Rattle.vos_single.specs.Singles as single
-use Rattle.vos_extent.specs.Extents as extent
+use Rattle.vos_path.specs.vos_single.Singles as single
+use Rattle.vos_path.specs.vos_extent.Extents as extent
 use Rattle.vos_path.specs.Objects.{Values, values_owner, values_roots}
 use Rattle.vos_path.proofs.Written.{both_change, extent_changes, first_changes, single_changes}
 use Rattle.vos_settle.specs.declared.task.Task.{Task}

@@ -29,10 +29,10 @@ use Rattle.vos_levels.specs.Moments.{same_moment}
 use Rattle.vos_levels.proofs.Settling.{list_same}
 use Rattle.vos_ilog.specs.declared.ilog.LogEntry.{LogEntry}
 use Rattle.vos_ilog.specs.Logs.{done_entry, is_at}
-use Rattle.vos_single.specs.declared.single.SingleVersion.{SingleVersion}
-use Rattle.vos_single.specs.Singles as single
-use Rattle.vos_extent.specs.declared.extent.ExtentVersion.{ExtentVersion}
-use Rattle.vos_extent.specs.Extents as extent
+use Rattle.vos_path.specs.vos_single.declared.single.SingleVersion.{SingleVersion}
+use Rattle.vos_path.specs.vos_single.Singles as single
+use Rattle.vos_path.specs.vos_extent.declared.extent.ExtentVersion.{ExtentVersion}
+use Rattle.vos_path.specs.vos_extent.Extents as extent
 use Rattle.vos_path.specs.Objects.{Akey, Below, Dkey, Objects, Values, akey_level, akey_path, akey_versions, akeys_versions, below_dkey_versions, below_object_versions, below_owner, dkey_level, dkey_path, dkey_versions, dkeys_versions, extent_version, is_punch, object_level, object_path, object_versions, objects_owner, objects_versions, punch_version, punches, single_version, values_versions}
 use Rattle.vos_path.specs.Writes.{IsAtObject, NamesAreKeys}
 use Rattle.vos_path.proofs.Naming.{name_exact, object_exact}

@@ -1,7 +1,7 @@
 -- What a change of one write may stage.
 use Rattle.std.specs.Prelude.{◌+◌, ◌*◌, ℕ, List, Option, Some, None, if◌then◌else◌}
 use Rattle.pmem_pages.specs.Blocks.{Budget, IsSpent}
-use Rattle.vos_chain.specs.Made.{HasFewer}
+use Rattle.vos_path.specs.vos_chain.Made.{HasFewer}
 use Rattle.vos_settle.specs.declared.task.WriteKind.{WriteKind}
 use Rattle.vos_settle.specs.declared.task.WriteKind.TheVariants as kind
 use Rattle.vos_settle.specs.Tasks.{is_update}

@@ -10,8 +10,8 @@ use Rattle.vos_values.specs.declared.values.Roots.{Roots}
 use Rattle.vos_values.specs.Keys.{name_key, object_key}
 use Rattle.vos_levels.specs.Levels.{Hung, is_level, things}
 use Rattle.vos_ilog.specs.declared.ilog.LogEntry.{LogEntry}
-use Rattle.vos_single.specs.Singles as single
-use Rattle.vos_extent.specs.Extents as extent
+use Rattle.vos_path.specs.vos_single.Singles as single
+use Rattle.vos_path.specs.vos_extent.Extents as extent
 use Rattle.vos_path.specs.Objects.{Akey, Below, Branch, Dkey, Object, Values, akey_level, dkey_level, object_level, or_none}
 use Rattle.vos_settle.specs.declared.task.Task.{Task}
 use Rattle.vos_settle.specs.declared.task.WriteKind.{WriteKind}

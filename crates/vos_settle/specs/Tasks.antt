@@ -8,10 +8,10 @@ use Rattle.vos_levels.specs.Changes.{changed_by, freed_by, keeps, takes}
 use Rattle.vos_levels.specs.Changes as changes
 use Rattle.vos_ilog.specs.declared.ilog.LogEntry.{LogEntry}
 use Rattle.vos_ilog.specs.Logs.{done_entry, is_at, one_block}
-use Rattle.vos_single.specs.declared.single.SingleVersion.{SingleVersion}
-use Rattle.vos_single.specs.Singles as single
-use Rattle.vos_extent.specs.declared.extent.ExtentVersion.{ExtentVersion}
-use Rattle.vos_extent.specs.Extents as extent
+use Rattle.vos_path.specs.vos_single.declared.single.SingleVersion.{SingleVersion}
+use Rattle.vos_path.specs.vos_single.Singles as single
+use Rattle.vos_path.specs.vos_extent.declared.extent.ExtentVersion.{ExtentVersion}
+use Rattle.vos_path.specs.vos_extent.Extents as extent
 use Rattle.vos_settle.specs.declared.task.Task.{Task}
 use Rattle.vos_settle.specs.declared.task.Which.{Which}
 use Rattle.vos_settle.specs.declared.task.Which.TheVariants.{Punch, Creation}

@@ -18,8 +18,8 @@ use pmem_pages::steps::Steps;
 use pmem_tree::TreeNo;
 use pmem_tree::tree::Tree;
 use std::sync::ledger::Ledger;
-use vos_extent::extent::Extents;
-use vos_single::single::Single;
+use vos_path::below::extent::extent::Extents;
+use vos_path::below::single::single::Single;
 use vos_values::keys::ExtentKey;
 use vos_values::values::AkeyRoots;
 

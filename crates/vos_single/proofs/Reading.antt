@@ -5,18 +5,18 @@ use Rattle.pmem_pages.specs.Blocks.{Blocks}
 use Rattle.pmem_pages.specs.Owners.{Holds, each}
 use Rattle.pmem_pages.specs.Shape.{IsTree, entries, last_under}
 use Rattle.pmem_pages.specs.declared.node.TreeKey.{TreeKey}
-use Rattle.pmem_tree_base.specs.Find.{pair_of}
+use Rattle.vos_moments.specs.pmem_tree_base.Find.{pair_of}
 use Rattle.vos_values.specs.declared.keys.Moment.{Moment}
 use Rattle.vos_values.specs.Keys.{IsMoment, moment_key}
 use Rattle.vos_values.specs.Values.{version_value}
 use Rattle.vos_values.proofs.KeyLaws.{moments_exact}
 use Rattle.vos_values.proofs.ValueLaws.{singles_exact}
-use Rattle.vos_levels.specs.Levels.{TellsAbove, TellsKey, find_last, hung_root, pair_of_thing, things}
-use Rattle.vos_levels.proofs.Changing.{holds_each, holds_spot, hung_tree}
-use Rattle.vos_levels.proofs.Moments.{moment_below, moment_level}
-use Rattle.vos_levels.proofs.Spots.{last_found}
-use Rattle.vos_levels.proofs.Testing.{all_good, last_at, last_good, read_option}
-use Rattle.vos_chain.specs.Made.{IsChainAt}
+use Rattle.vos_moments.specs.vos_levels.Levels.{TellsAbove, TellsKey, find_last, hung_root, pair_of_thing, things}
+use Rattle.vos_moments.proofs.vos_levels.Changing.{holds_each, holds_spot, hung_tree}
+use Rattle.vos_moments.proofs.vos_levels.Moments.{moment_below, moment_level}
+use Rattle.vos_moments.proofs.vos_levels.Spots.{last_found}
+use Rattle.vos_moments.proofs.vos_levels.Testing.{all_good, last_at, last_good, read_option}
+use Rattle.vos_versions.specs.vos_chain.Made.{IsChainAt}
 use Rattle.vos_single.specs.declared.single.Placed.{Placed}
 use Rattle.vos_single.specs.Singles.{IsStored, Singles, Stored, chain_of, is_at, is_under, mark_of, moment_of, placed_in_pair, placed_of, placed_when, placed_with, single_level, single_owner, version_of}
 

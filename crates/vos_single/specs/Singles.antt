@@ -11,12 +11,12 @@ use Rattle.vos_values.specs.declared.keys.Moment.{Moment}
 use Rattle.vos_values.specs.declared.values.VersionMark.{VersionMark}
 use Rattle.vos_values.specs.Keys.{IsMoment, moment_in, moment_key}
 use Rattle.vos_values.specs.Values.{IsVersionMark, version_in, version_value}
-use Rattle.vos_levels.specs.declared.change.Change.{Change}
-use Rattle.vos_levels.specs.Changes.{changed_by, freed_by, keeps, takes}
-use Rattle.vos_levels.specs.Levels.{Hung, Level, hung, in_part, things}
-use Rattle.vos_levels.specs.Moments.{is_earlier, same_moment}
-use Rattle.vos_chain.specs.Chains.{Chain, chain_owner, first_of}
-use Rattle.vos_chain.specs.Made.{chain_blocks}
+use Rattle.vos_moments.specs.vos_levels.declared.change.Change.{Change}
+use Rattle.vos_moments.specs.vos_levels.Changes.{changed_by, freed_by, keeps, takes}
+use Rattle.vos_moments.specs.vos_levels.Levels.{Hung, Level, hung, in_part, things}
+use Rattle.vos_moments.specs.vos_levels.Moments.{is_earlier, same_moment}
+use Rattle.vos_versions.specs.vos_chain.Chains.{Chain, chain_owner, first_of}
+use Rattle.vos_versions.specs.vos_chain.Made.{chain_blocks}
 use Rattle.vos_single.specs.declared.single.Placed.{Placed}
 use Rattle.vos_single.specs.declared.single.SingleVersion.{SingleVersion}
 

@@ -8,7 +8,7 @@ use Rattle.base_types.specs.Paths.{record_size}
 use Rattle.daos_model.specs.Forms.{ends_at_akey, fits_records, is_length, is_write_in_form}
 use Rattle.pmem_pages.specs.Blocks.{Budget}
 use Rattle.vos_chain.specs.Made.{HasFewer, chain_blocks}
-use Rattle.vos_path.specs.Writes.{below_object_pairs, data_blocks}
+use Rattle.vos_image.specs.vos_path.Writes.{below_object_pairs, data_blocks}
 use Rattle.vos_settle.specs.Costs.{objects_cost}
 use Rattle.vos_settle.specs.declared.task.WriteKind.{WriteKind}
 use Rattle.vos_settle.specs.declared.task.WriteKind.TheVariants as kind

@@ -14,13 +14,13 @@ use Rattle.pmem_pages.specs.Owned.{tree_owner}
 use Rattle.pmem_pages.specs.Owners.{Holds, Owner, both, each, owned_each, times-append}
 use Rattle.vos_chain.specs.Chains.{Links}
 use Rattle.vos_entries.specs.Entries.{Stored as StoredEntry, entries_owner, entry_level, is_at, list_blocks_at, list_bytes}
-use Rattle.vos_extent.specs.Extents.{extent_level}
-use Rattle.vos_ilog.specs.Logs.{log_level, log_owner}
+use Rattle.vos_image.specs.vos_extent.Extents.{extent_level}
+use Rattle.vos_settle.specs.vos_ilog.Logs.{log_level, log_owner}
 use Rattle.vos_image.specs.Content.{block, is_taken, shown}
 use Rattle.vos_levels.specs.Levels.{Hung, Level, hung, in_part, things}
-use Rattle.vos_path.specs.Objects.{Akey, Dkey, Object, Objects, Values, akey_level, below_owner, dkey_level, held_below, held_values, object_level, objects_owner, values_owner}
-use Rattle.vos_path.specs.Writes.{AkeyIsSmall, AkeysAreSmall, DkeyIsSmall, DkeysAreSmall, IsSmall, ObjectIsSmall, ObjectsAreSmall, ValuesAreSmall}
-use Rattle.vos_single.specs.Singles.{single_level}
+use Rattle.vos_image.specs.vos_path.Objects.{Akey, Dkey, Object, Objects, Values, akey_level, below_owner, dkey_level, held_below, held_values, object_level, objects_owner, values_owner}
+use Rattle.vos_image.specs.vos_path.Writes.{AkeyIsSmall, AkeysAreSmall, DkeyIsSmall, DkeysAreSmall, IsSmall, ObjectIsSmall, ObjectsAreSmall, ValuesAreSmall}
+use Rattle.vos_image.specs.vos_single.Singles.{single_level}
 use Rattle.vos_small.specs.Small.{AreOfRegion, ContentsAreOfRegions, EntriesInRegionsAreSmall, MapsAreOfRegions, ObjectsInRegionsAreSmall, StoredInRegionsAreSmall, UnlistedTakeNone}
 use Rattle.vos_small.proofs.Counting.{small_tree}
 

@@ -6,8 +6,8 @@ use Rattle.pmem_pages.specs.Blocks.{Budget}
 use Rattle.vos_chain.specs.Made.{chain_blocks}
 use Rattle.vos_entries.specs.Entries.{Entries}
 use Rattle.vos_entries.specs.Lists.{FewerThan, FewerToRemove}
-use Rattle.vos_path.specs.Calls.{LacksFor, for_pair}
-use Rattle.vos_path.specs.Writes.{IsSmall, below_object_pairs, data_blocks}
+use Rattle.vos_image.specs.vos_path.Calls.{LacksFor, for_pair}
+use Rattle.vos_image.specs.vos_path.Writes.{IsSmall, below_object_pairs, data_blocks}
 use Rattle.vos_settle.specs.Costs.{Lacks, for_one, objects_cost}
 use Rattle.vos_settle.specs.declared.task.WriteKind.{WriteKind}
 use Rattle.vos_versions.specs.Marks.{TooFewFor}

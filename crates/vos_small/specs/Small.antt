@@ -9,8 +9,8 @@ use Rattle.vos_entries.specs.Entries.{Entries, entries_owner, list_blocks_at}
 use Rattle.vos_image.specs.Content.{Content, shown}
 use Rattle.vos_image.specs.Kept.{Stored, stored_owner}
 use Rattle.vos_levels.specs.Levels.{things}
-use Rattle.vos_path.specs.Objects.{Objects, objects_owner}
-use Rattle.vos_path.specs.Writes.{IsSmall, ObjectsAreSmall}
+use Rattle.vos_image.specs.vos_path.Objects.{Objects, objects_owner}
+use Rattle.vos_image.specs.vos_path.Writes.{IsSmall, ObjectsAreSmall}
 
 -- the number of pairs of each tree in a region has at most so many binary digits
 abbrev pub most_digits : ℕ

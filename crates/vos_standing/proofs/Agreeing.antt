@@ -11,7 +11,7 @@ use Rattle.pmem_pages.specs.Owners.{Holds, Owner, times}
 use Rattle.pmem_undo.specs.Layout.{is_content}
 use Rattle.pmem_alloc.specs.Map.{MapState, beside, blocks_end, blocks_of, free_in, free_of, is_free, map_bit, shown_in}
 use Rattle.vos_commits.specs.Kept.{content_of as bytes_of}
-use Rattle.vos_image.specs.Content.{Content, block, is_taken, shown}
+use Rattle.vos_places.specs.vos_image.Content.{Content, block, is_taken, shown}
 use Rattle.vos_standing.specs.Standing.{IsReadOf, content}
 
 -- ---- bytes of a content

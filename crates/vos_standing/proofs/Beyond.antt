@@ -8,14 +8,14 @@ use Rattle.pmem_pages.specs.Owners.{Holds, owned_each, times, times-append}
 use Rattle.pmem_pages.specs.Shape.{Fork, Leaf, Shape, blocks_of, entries, root_of}
 use Rattle.pmem_alloc.specs.Map.{MapState, blocks_end, is_block}
 use Rattle.vos_commits.specs.Kept.{content_of as bytes_of}
-use Rattle.vos_image.specs.Content.{Content, shown}
-use Rattle.vos_image.specs.Kept.{Stored, stored_owner}
-use Rattle.vos_image.specs.Places.{are_bits_right, is_bit_right, read_map}
-use Rattle.vos_image.specs.Steps.{◌>>=◌, rule}
-use Rattle.vos_image.proofs.Levels.{first_holds, root_taken, second_holds}
-use Rattle.vos_entries.specs.Entries.{entries_owner, entry_level}
+use Rattle.vos_places.specs.vos_image.Content.{Content, shown}
+use Rattle.vos_places.specs.vos_image.Kept.{Stored, stored_owner}
+use Rattle.vos_places.specs.vos_image.Places.{are_bits_right, is_bit_right, read_map}
+use Rattle.vos_places.specs.vos_image.Steps.{◌>>=◌, rule}
+use Rattle.vos_places.proofs.vos_image.Levels.{first_holds, root_taken, second_holds}
+use Rattle.vos_places.specs.vos_entries.Entries.{entries_owner, entry_level}
 use Rattle.vos_levels.specs.Levels.{Hung, Level, hung, hung_root}
-use Rattle.vos_path.specs.Objects.{object_level, objects_owner}
+use Rattle.vos_places.specs.vos_path.Objects.{object_level, objects_owner}
 use Rattle.vos_places.specs.Tables.{AreRoots}
 use Rattle.vos_standing.specs.Standing.{IsReadOf, StaysBeside, content}
 use Rattle.vos_standing.proofs.Agreeing.{map_bit_read}

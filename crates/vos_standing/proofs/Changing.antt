@@ -5,7 +5,7 @@ use Rattle.std.proofs.lemmas.Bool.Decides.{nat_tests}
 use Rattle.base_outside.specs.Images.{Image}
 use Rattle.pmem_pages.specs.Owners.{Changed, Holds, Owner, times}
 use Rattle.pmem_alloc.specs.Map.{MapState, beside, is_block, map_bit, shown_in}
-use Rattle.vos_image.specs.Content.{shown}
+use Rattle.vos_places.specs.vos_image.Content.{shown}
 use Rattle.vos_standing.specs.Laws.{BlocksAreShown, BlocksChange}
 use Rattle.vos_standing.specs.Standing.{IsReadOf, content}
 use Rattle.vos_standing.proofs.Agreeing.{named_agree, none_past, owned_low, past_shown}

@@ -6,9 +6,9 @@ use Rattle.pmem_undo.specs.Layout.{SameContent, gate, is_content}
 use Rattle.pmem_undo.specs.Settled.{settled}
 use Rattle.vos_commits.specs.Kept.{content_of as bytes_of, kept_in}
 use Rattle.vos_commits.specs.Made.{commit-makes}
-use Rattle.vos_image.specs.Content.{content_of, shown}
-use Rattle.vos_image.specs.Fits.{AllFit}
-use Rattle.vos_image.specs.Kept.{Stored, kept, stored_owner}
+use Rattle.vos_places.specs.vos_image.Content.{content_of, shown}
+use Rattle.vos_places.specs.vos_image.Fits.{AllFit}
+use Rattle.vos_places.specs.vos_image.Kept.{Stored, kept, stored_owner}
 use Rattle.pmem_pages.specs.Owners.{Holds}
 use Rattle.vos_levels.specs.Levels.{hung_root}
 use Rattle.vos_places.specs.Laws.{Keeps}

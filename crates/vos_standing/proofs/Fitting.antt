@@ -2,15 +2,15 @@
 use Rattle.std.proofs.Common.{◌≡◌, ℕ, true, List, [], ◌∷◌, sym, ap, ◌∙◌, subst, arith}
 use Rattle.std.specs.Prelude.{All}
 use Rattle.std.proofs.lemmas.List.Elements.{All-cons, All-head, All-nil, All-tail}
-use Rattle.vos_ilog.specs.declared.ilog.LogEntry.{LogEntry}
-use Rattle.vos_single.specs.Singles.{Stored as StoredSingle}
-use Rattle.vos_extent.specs.Extents.{Stored as StoredExtent}
-use Rattle.vos_path.specs.Objects.{Akey, Dkey, Object, Objects}
-use Rattle.vos_entries.specs.Entries.{Entries, Stored as StoredEntry}
-use Rattle.vos_image.specs.Content.{Content}
-use Rattle.vos_image.specs.Kinds.{fits_targets}
-use Rattle.vos_image.specs.Fits.{AkeyFits, AllFit, DkeyFits, EntryFits, ExtentFits, LogFits, ObjectFits, SingleFits}
-use Rattle.vos_image.specs.Nodes.{Node, nodes_in}
+use Rattle.vos_places.specs.vos_ilog.declared.ilog.LogEntry.{LogEntry}
+use Rattle.vos_places.specs.vos_single.Singles.{Stored as StoredSingle}
+use Rattle.vos_places.specs.vos_extent.Extents.{Stored as StoredExtent}
+use Rattle.vos_places.specs.vos_path.Objects.{Akey, Dkey, Object, Objects}
+use Rattle.vos_places.specs.vos_entries.Entries.{Entries, Stored as StoredEntry}
+use Rattle.vos_places.specs.vos_image.Content.{Content}
+use Rattle.vos_places.specs.vos_image.Kinds.{fits_targets}
+use Rattle.vos_places.specs.vos_image.Fits.{AkeyFits, AllFit, DkeyFits, EntryFits, ExtentFits, LogFits, ObjectFits, SingleFits}
+use Rattle.vos_places.specs.vos_image.Nodes.{Node, nodes_in}
 use Rattle.vos_levels.specs.Levels.{things}
 use Rattle.vos_values.specs.Keys.{is_size}
 use Rattle.vos_standing.specs.Standing.{AllowsMore}

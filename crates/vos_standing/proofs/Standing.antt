@@ -8,18 +8,18 @@ use Rattle.pmem_alloc.specs.Map.{MapState}
 use Rattle.pmem_pages.specs.Owners.{Holds}
 use Rattle.pmem_undo.specs.Layout.{is_content}
 use Rattle.vos_commits.specs.Kept.{content_of as bytes_of}
-use Rattle.vos_image.specs.Content.{Content, block, is_taken, layout_of, number, shown}
-use Rattle.vos_image.specs.Fits.{AllFit}
-use Rattle.vos_image.specs.Kept.{Stored, stored_owner}
+use Rattle.vos_places.specs.vos_image.Content.{Content, block, is_taken, layout_of, number, shown}
+use Rattle.vos_places.specs.vos_image.Fits.{AllFit}
+use Rattle.vos_places.specs.vos_image.Kept.{Stored, stored_owner}
 use Rattle.byteorder.specs.Endian.{big_number}
-use Rattle.vos_image.proofs.Standing.{taken_low}
-use Rattle.vos_image.proofs.Whole.{stands_kept}
+use Rattle.vos_places.proofs.vos_image.Standing.{taken_low}
+use Rattle.vos_places.proofs.vos_image.Whole.{stands_kept}
 use Rattle.vos_levels.specs.Levels.{hung_root}
 use Rattle.vos_places.specs.declared.codec.Counters.{Counters}
 use Rattle.vos_places.specs.Codec.{AreCounters, with_counters}
 use Rattle.vos_places.specs.Laws.{IsRightBeyond, IsWritten, Keeps, cont_range, counted, counter_range, snap_range, unused_range, with_cont, with_snap}
 use Rattle.vos_places.specs.Tables.{AreRoots, Table, places_of}
-use Rattle.vos_image.specs.Places.{Header}
+use Rattle.vos_places.specs.vos_image.Places.{Header}
 use Rattle.vos_places.proofs.Header.{lease_read}
 use Rattle.vos_places.proofs.Map.{SameMap, map_as, taken_as}
 use Rattle.vos_places.proofs.Writing.{conts_written, counters_written, length_cont, length_counters, length_snap, places_stay, snaps_given_up, snaps_written, tables_read}

@@ -10,10 +10,10 @@ use Rattle.pmem_undo.specs.Layout.{SameContent, gate}
 use Rattle.vos_commits.specs.Kept.{IsCommit, IsQuiet, MayFind, content_of as bytes_of, kept_in}
 use Rattle.vos_store.specs.Calls.{Makes}
 use Rattle.vos_store.specs.Refusals.{refuses}
-use Rattle.vos_image.specs.Content.{Content, shown}
-use Rattle.vos_image.specs.Fits.{AllFit}
-use Rattle.vos_image.specs.Kept.{Stored, durable_of, kept, stored_owner}
-use Rattle.vos_image.specs.Laws.{Stands}
+use Rattle.vos_places.specs.vos_image.Content.{Content, shown}
+use Rattle.vos_places.specs.vos_image.Fits.{AllFit}
+use Rattle.vos_places.specs.vos_image.Kept.{Stored, durable_of, kept, stored_owner}
+use Rattle.vos_places.specs.vos_image.Laws.{Stands}
 use Rattle.vos_levels.specs.Levels.{hung_root}
 use Rattle.vos_places.specs.declared.codec.Counters.{Counters}
 use Rattle.vos_places.specs.Codec.{AreCounters, IsContUnder, IsSnap}

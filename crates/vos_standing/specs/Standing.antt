@@ -4,9 +4,9 @@ use Rattle.base_outside.specs.Images.{Image}
 use Rattle.pmem_alloc.specs.Map.{MapState, SameBeside, StandsIn, blocks_end, map_place}
 use Rattle.pmem_pages.specs.Owners.{Holds}
 use Rattle.vos_commits.specs.Kept.{content_of as bytes_of}
-use Rattle.vos_image.specs.Content.{Content, content_of, shown}
-use Rattle.vos_image.specs.Fits.{AllFit}
-use Rattle.vos_image.specs.Kept.{Stored, stored_owner}
+use Rattle.vos_places.specs.vos_image.Content.{Content, content_of, shown}
+use Rattle.vos_places.specs.vos_image.Fits.{AllFit}
+use Rattle.vos_places.specs.vos_image.Kept.{Stored, stored_owner}
 use Rattle.vos_levels.specs.Levels.{hung_root}
 use Rattle.vos_places.specs.Laws.{Keeps}
 use Rattle.vos_places.specs.Tables.{Table}

@@ -1,7 +1,7 @@
 // What stands in the content of a region where its blocks or its fixed places change.
-ghost use Rattle.vos_entries.specs.Entries.{entries_owner};
-ghost use Rattle.vos_image.specs.Kept.{stored_owner};
-ghost use Rattle.vos_path.specs.Objects.{objects_owner};
+ghost use Rattle.vos_places.specs.vos_entries.Entries.{entries_owner};
+ghost use Rattle.vos_places.specs.vos_image.Kept.{stored_owner};
+ghost use Rattle.vos_places.specs.vos_path.Objects.{objects_owner};
 ghost use Rattle.vos_standing.specs.Laws.{ClosedItIsKept, BlocksAreShown, BlocksChange, ContentsStand, FitsStay, SameIsQuiet, StandsAfterBlocks, StandsAfterConts, StandsAfterCounters, StandsAfterSnaps, StandsBelowTheRoots, StandsWithoutSnaps, WhatStandsIsKept, WhatStandsStands};
 
 /// What stands in an image is what is read of its content, and what that keeps.

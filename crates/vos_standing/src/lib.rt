@@ -2,4 +2,5 @@
 // changes.
 #![tactic(auto)]
 
+pub mod below;
 pub mod laws;

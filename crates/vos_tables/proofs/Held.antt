@@ -7,9 +7,9 @@ use Rattle.base_outside.specs.Images.{Image, bytes_at}
 use Rattle.base_types.specs.declared.snapshot.Snap.{Snap}
 use Rattle.byteorder.specs.Numbers.{big_from-lt}
 use Rattle.daos_model.specs.declared.durable.ContRow.{ContRow}
-use Rattle.vos_image.specs.Content.{Content, content_of, number}
-use Rattle.vos_image.specs.Laws.{IsOfBytes}
-use Rattle.vos_image.specs.Places.{cont_in, floor_of, is_why, read_cont, read_snap, snap_in, why_of}
+use Rattle.vos_places.specs.vos_image.Content.{Content, content_of, number}
+use Rattle.vos_places.specs.vos_image.Laws.{IsOfBytes}
+use Rattle.vos_places.specs.vos_image.Places.{cont_in, floor_of, is_why, read_cont, read_snap, snap_in, why_of}
 use Rattle.vos_places.specs.Codec.{IsContUnder, IsSnap, IsStoredFloor}
 use Rattle.vos_places.specs.Laws.{covered_by}
 use Rattle.vos_places.specs.Tables.{HoldConts, HoldSnaps, HoldsCont, HoldsSnap, those}

@@ -1,8 +1,8 @@
 -- What an image keeps, by the table that its places hold.
 use Rattle.std.proofs.Common.{◌≡◌, refl, sym, ap, ◌∙◌}
 use Rattle.daos_model.specs.declared.durable.Durable.{Durable}
-use Rattle.vos_image.specs.Kept.{Stored, durable_of}
-use Rattle.vos_image.specs.Laws.{WhatStandsIsKept}
+use Rattle.vos_places.specs.vos_image.Kept.{Stored, durable_of}
+use Rattle.vos_places.specs.vos_image.Laws.{WhatStandsIsKept}
 use Rattle.vos_places.specs.Tables.{Table, places_of}
 use Rattle.vos_tables.specs.Kept.{kept_with}
 use Rattle.vos_tables.specs.Laws.{TablesAreKept}

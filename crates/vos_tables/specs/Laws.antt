@@ -6,8 +6,8 @@ use Rattle.base_types.specs.declared.entry.Entry.{Entry}
 use Rattle.daos_model.specs.declared.durable.Version.{Version}
 use Rattle.daos_model.specs.Durables.{IsInForm, entry_key, is_version_in_form, version_key}
 use Rattle.daos_model.specs.Ordered.{is_in_order, is_rising}
-use Rattle.vos_image.specs.Kept.{Stored, kept}
-use Rattle.vos_image.specs.Laws.{IsOfBytes, Stands}
+use Rattle.vos_places.specs.vos_image.Kept.{Stored, kept}
+use Rattle.vos_places.specs.vos_image.Laws.{IsOfBytes, Stands}
 use Rattle.vos_places.specs.Codec.{AreCounters}
 use Rattle.vos_places.specs.Laws.{IsRightBeyond, Keeps}
 use Rattle.vos_places.specs.Tables.{Table, places_of}

@@ -3,7 +3,7 @@ use Rattle.std.specs.Prelude.{◌≡◌, ◌≤◌, ◌<◌, ℕ, All, true, Lis
 use Rattle.base_types.specs.declared.snapshot.Snap.{Snap}
 use Rattle.daos_model.specs.declared.durable.ContRow.{ContRow}
 use Rattle.daos_model.specs.Durables.{is_stored_why}
-use Rattle.vos_image.specs.Places.{Header}
+use Rattle.vos_places.specs.vos_image.Places.{Header}
 use Rattle.vos_places.specs.declared.codec.Counters.{Counters}
 use Rattle.vos_places.specs.Codec.{AreCounters, IsContUnder, IsSnap}
 use Rattle.vos_places.specs.Laws.{IsApart, covered_by}

@@ -2,7 +2,7 @@
 ghost use Rattle.vos_tables.specs.Laws.{ChangesAreWritten, HeldAreTables, IsKeptInForm, TablesAreKept};
 
 use crate::table::Tables;
-use vos_image::laws::what_stands_is_read;
+use vos_places::below::image::laws::what_stands_is_read;
 use vos_places::laws::places_are_written;
 
 /// After the ranges of changes are written over an image that holds a table, it holds the table with

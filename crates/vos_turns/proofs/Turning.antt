@@ -16,9 +16,9 @@ use Rattle.vos_entries.specs.Entries.{Entries, IsCommittedAt, IsConfirmedAt, IsG
 use Rattle.vos_entries.specs.Lists.{FewerThan, FewerToRemove, StagesToRemove}
 use Rattle.vos_fitting.proofs.Entries.{fits_committed, fits_confirmed, fits_without_entry}
 use Rattle.vos_fitting.proofs.Writes.{fits_after_write}
-use Rattle.vos_image.specs.Kept.{Stored, stored_owner}
+use Rattle.vos_fitting.specs.vos_image.Kept.{Stored, stored_owner}
 use Rattle.vos_levels.specs.Calls.{Becomes}
-use Rattle.vos_path.proofs.Written.{holds_first, holds_second}
+use Rattle.vos_fitting.proofs.vos_path.Written.{holds_first, holds_second}
 use Rattle.vos_small.proofs.Fitting.{entries_fit_out, marks_fit}
 use Rattle.vos_small.proofs.Smallness.{unlisted_take_none}
 use Rattle.vos_turns.specs.declared.entries.EntryStep.{EntryStep}
@@ -27,14 +27,14 @@ use Rattle.vos_levels.proofs.Changing.{stays}
 use Rattle.vos_levels.specs.declared.change.Change.{Change}
 use Rattle.vos_levels.specs.Changes.{keeps}
 use Rattle.vos_levels.specs.Levels.{hung_root, things}
-use Rattle.vos_path.specs.Objects.{Objects, objects_owner, objects_versions}
-use Rattle.vos_path.specs.Writes.{ObjectsAreSmall}
-use Rattle.vos_settle.proofs.Smaller.{objects_small}
-use Rattle.vos_settle.proofs.Sums.{spends_most, spends_none, spends_then}
-use Rattle.vos_settle.specs.Costs.{Spends}
-use Rattle.vos_settle.specs.declared.task.WriteKind.{WriteKind}
-use Rattle.vos_settle.specs.declared.task.WriteKind.TheVariants as kind
-use Rattle.vos_settle.specs.Versions.{WriteTurn, fits_kind, object_in}
+use Rattle.vos_fitting.specs.vos_path.Objects.{Objects, objects_owner, objects_versions}
+use Rattle.vos_fitting.specs.vos_path.Writes.{ObjectsAreSmall}
+use Rattle.vos_fitting.proofs.vos_settle.Smaller.{objects_small}
+use Rattle.vos_fitting.proofs.vos_settle.Sums.{spends_most, spends_none, spends_then}
+use Rattle.vos_fitting.specs.vos_settle.Costs.{Spends}
+use Rattle.vos_fitting.specs.vos_settle.declared.task.WriteKind.{WriteKind}
+use Rattle.vos_fitting.specs.vos_settle.declared.task.WriteKind.TheVariants as kind
+use Rattle.vos_fitting.specs.vos_settle.Versions.{WriteTurn, fits_kind, object_in}
 use Rattle.vos_small.specs.Rooms.{HasLeft}
 use Rattle.vos_turns.specs.Steps.{EntryTurn, StandsUnlisted, VersionsTurn, cost_of}
 use Rattle.vos_turns.specs.Turns.{AreFew, CanBeNamed, StandsBelow, TurnsTo, after_each, after_one, task_of, takes_version}

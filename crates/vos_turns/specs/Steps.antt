@@ -6,14 +6,14 @@ use Rattle.pmem_pages.specs.Blocks.{Blocks, Budget}
 use Rattle.pmem_pages.specs.Owners.{Changed}
 use Rattle.vos_entries.specs.Entries.{Entries, entries_owner}
 use Rattle.vos_fitting.specs.Fitting.{ListNothing, StillFit}
-use Rattle.vos_image.specs.Content.{Content}
-use Rattle.vos_image.specs.Fits.{AllFit}
+use Rattle.vos_fitting.specs.vos_image.Content.{Content}
+use Rattle.vos_fitting.specs.vos_image.Fits.{AllFit}
 use Rattle.vos_levels.specs.declared.change.Change.{Change}
 use Rattle.vos_levels.specs.Changes.{keeps}
 use Rattle.vos_levels.specs.Levels.{hung_root}
-use Rattle.vos_path.specs.Objects.{Objects, objects_owner, objects_versions}
-use Rattle.vos_path.specs.Writes.{IsSmall, ObjectsAreSmall}
-use Rattle.vos_settle.specs.Costs.{Spends}
+use Rattle.vos_fitting.specs.vos_path.Objects.{Objects, objects_owner, objects_versions}
+use Rattle.vos_fitting.specs.vos_path.Writes.{IsSmall, ObjectsAreSmall}
+use Rattle.vos_fitting.specs.vos_settle.Costs.{Spends}
 use Rattle.vos_small.specs.Small.{most_digits}
 use Rattle.vos_turns.specs.declared.entries.EntryStep.{EntryStep}
 use Rattle.vos_turns.specs.Turns.{IsStepped, StepMayStand, after_each, takes_version}

@@ -7,16 +7,16 @@ use Rattle.pmem_pages.specs.Blocks.{Blocks}
 use Rattle.pmem_pages.specs.Owners.{Changed, Holds}
 use Rattle.vos_entries.specs.Entries.{Entries, IsCommittedAt, IsConfirmedAt, IsGoneAt, listings}
 use Rattle.vos_fitting.specs.Fitting.{ListNothing, StillFit}
-use Rattle.vos_image.specs.Content.{Content}
-use Rattle.vos_image.specs.Fits.{AllFit}
-use Rattle.vos_image.specs.Kept.{Stored, stored_owner}
+use Rattle.vos_fitting.specs.vos_image.Content.{Content}
+use Rattle.vos_fitting.specs.vos_image.Fits.{AllFit}
+use Rattle.vos_fitting.specs.vos_image.Kept.{Stored, stored_owner}
 use Rattle.vos_levels.specs.declared.change.Change.{Change}
 use Rattle.vos_levels.specs.Changes.{keeps, takes}
 use Rattle.vos_levels.specs.Levels.{hung_root}
-use Rattle.vos_path.specs.Objects.{objects_versions}
-use Rattle.vos_settle.specs.declared.task.Task.{Task}
-use Rattle.vos_settle.specs.Names.{IsNamed, kind_of, name_of}
-use Rattle.vos_settle.specs.Versions.{versions_after}
+use Rattle.vos_fitting.specs.vos_path.Objects.{objects_versions}
+use Rattle.vos_fitting.specs.vos_settle.declared.task.Task.{Task}
+use Rattle.vos_fitting.specs.vos_settle.Names.{IsNamed, kind_of, name_of}
+use Rattle.vos_fitting.specs.vos_settle.Versions.{versions_after}
 use Rattle.vos_small.specs.Small.{AllSmall}
 use Rattle.vos_turns.specs.declared.entries.EntryStep.{EntryStep}
 use Rattle.vos_turns.specs.declared.entries.EntryStep.TheVariants as step

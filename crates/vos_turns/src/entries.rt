@@ -6,7 +6,7 @@ ghost use Rattle.vos_entries.specs.Entries.{entries_owner};
 ghost use Rattle.vos_fitting.specs.Fitting.{ListNothing};
 ghost use Rattle.vos_levels.specs.Calls.{HasThing, OfThing};
 ghost use Rattle.vos_levels.specs.Levels.{hung_root};
-ghost use Rattle.vos_path.specs.Writes.{IsSmall};
+ghost use Rattle.vos_fitting.specs.vos_path.Writes.{IsSmall};
 ghost use Rattle.vos_small.specs.Rooms.{HasLeft, entry_bytes, entry_ranges};
 ghost use Rattle.vos_small.specs.Small.{most_digits};
 ghost use Rattle.vos_turns.specs.Steps.{EntryTurn, StandsUnlisted};

@@ -2,7 +2,7 @@
 ghost use Rattle.std.specs.Prelude.{◌≡◌, ◌≤◌, true, All, IsErrOf, IsTrue, OnOk};
 ghost use Rattle.pmem_tree_base.specs.Calls.{Goes};
 ghost use Rattle.pmem_tree_base.specs.declared.refusal.TreeNo.{TreeNo};
-ghost use Rattle.vos_image.specs.Kept.{Stored};
+ghost use Rattle.vos_fitting.specs.vos_image.Kept.{Stored};
 ghost use Rattle.vos_small.specs.Rooms.{HasLeft};
 ghost use Rattle.vos_turns.specs.Turns.{AreFew, CanBeNamed, IsEntryStep, StandsBelow, TurnsTo};
 

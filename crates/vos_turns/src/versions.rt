@@ -7,11 +7,11 @@ ghost use Rattle.pmem_tree_base.specs.declared.refusal.TreeNo.{TreeNo};
 ghost use Rattle.vos_levels.specs.Calls.{HasThing, OfThing};
 ghost use Rattle.vos_levels.specs.Changes.{keeps};
 ghost use Rattle.vos_levels.specs.Levels.{hung_root};
-ghost use Rattle.vos_path.specs.Objects.{objects_owner};
-ghost use Rattle.vos_path.specs.Writes.{ObjectsAreSmall};
-ghost use Rattle.vos_settle.specs.Costs.{Spends};
-ghost use Rattle.vos_settle.specs.Names.{kind_of};
-ghost use Rattle.vos_settle.specs.Versions.{WriteTurn};
+ghost use Rattle.vos_fitting.specs.vos_path.Objects.{objects_owner};
+ghost use Rattle.vos_fitting.specs.vos_path.Writes.{ObjectsAreSmall};
+ghost use Rattle.vos_fitting.specs.vos_settle.Costs.{Spends};
+ghost use Rattle.vos_fitting.specs.vos_settle.Names.{kind_of};
+ghost use Rattle.vos_fitting.specs.vos_settle.Versions.{WriteTurn};
 ghost use Rattle.vos_small.specs.Rooms.{HasLeft, change_bytes, change_ranges};
 ghost use Rattle.vos_small.specs.Small.{most_digits};
 ghost use Rattle.vos_turns.specs.Steps.{VersionsTurn};
@@ -24,9 +24,9 @@ use pmem_pages::steps::Steps;
 use pmem_tree::TreeNo;
 use pmem_tree::tree::Tree;
 use std::sync::ledger::Ledger;
+use vos_fitting::below::settle::task::{Task, WriteKind};
+use vos_fitting::below::settle::write::change_write;
 use vos_levels::change::Change;
-use vos_settle::task::{Task, WriteKind};
-use vos_settle::write::change_write;
 use vos_values::keys::Moment;
 
 // What a write is by its name.

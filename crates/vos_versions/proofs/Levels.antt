@@ -8,18 +8,18 @@ use Rattle.pmem_pages.specs.Blocks.{Blocks}
 use Rattle.pmem_pages.specs.Owners.{Changed, Holds, maybe}
 use Rattle.pmem_pages.specs.Shape.{Entry, entries, entry_at}
 use Rattle.pmem_pages.specs.declared.node.TreeKey.{TreeKey}
-use Rattle.pmem_tree.specs.Changes.{Inserts, Puts}
-use Rattle.vos_values.specs.declared.values.VersionMark.{VersionMark}
-use Rattle.vos_values.specs.Values.{IsVersionMark, version_in, version_value}
-use Rattle.vos_values.proofs.ValueLaws.{singles_exact}
-use Rattle.vos_levels.specs.declared.change.Change.{Change}
-use Rattle.vos_levels.specs.Calls.{Becomes}
-use Rattle.vos_levels.specs.Changes.{changed_by, freed_by, keeps, takes}
-use Rattle.vos_levels.specs.Levels.{HasMore, Hung, Level, TellsKey, hung, hung_root, in_part, map_those, things, without_those}
-use Rattle.vos_levels.proofs.Changing.{hung_less, hung_more, hung_other, stays}
-use Rattle.vos_levels.proofs.Settling.{Says, becomes_shown, given_part, kept_freed, list_freed, list_gone, list_kept, list_same, made_part, missing_key, none_freed, says, says_none, spot_apart, spot_at, spot_stands, stays_part, still_thing}
-use Rattle.vos_levels.proofs.Spots.{Spot, value_found}
-use Rattle.vos_levels.proofs.Testing.{all_good, fewer_none, found_good, read_option, spot_none}
+use Rattle.vos_chain.specs.pmem_tree.Changes.{Inserts, Puts}
+use Rattle.vos_chain.specs.vos_values.declared.values.VersionMark.{VersionMark}
+use Rattle.vos_chain.specs.vos_values.Values.{IsVersionMark, version_in, version_value}
+use Rattle.vos_chain.proofs.vos_values.ValueLaws.{singles_exact}
+use Rattle.vos_chain.specs.vos_levels.declared.change.Change.{Change}
+use Rattle.vos_chain.specs.vos_levels.Calls.{Becomes}
+use Rattle.vos_chain.specs.vos_levels.Changes.{changed_by, freed_by, keeps, takes}
+use Rattle.vos_chain.specs.vos_levels.Levels.{HasMore, Hung, Level, TellsKey, hung, hung_root, in_part, map_those, things, without_those}
+use Rattle.vos_chain.proofs.vos_levels.Changing.{hung_less, hung_more, hung_other, stays}
+use Rattle.vos_chain.proofs.vos_levels.Settling.{Says, becomes_shown, given_part, kept_freed, list_freed, list_gone, list_kept, list_same, made_part, missing_key, none_freed, says, says_none, spot_apart, spot_at, spot_stands, stays_part, still_thing}
+use Rattle.vos_chain.proofs.vos_levels.Spots.{Spot, value_found}
+use Rattle.vos_chain.proofs.vos_levels.Testing.{all_good, fewer_none, found_good, read_option, spot_none}
 use Rattle.vos_chain.specs.Chains.{Chain, chain_owner, first_of}
 use Rattle.vos_chain.specs.Made.{IsChainAt, chain_blocks}
 use Rattle.vos_chain.proofs.Reading.{first_low}

@@ -14,15 +14,15 @@ use Rattle.pmem_pages.specs.declared.node.TreeKey.{TreeKey}
 use Rattle.pmem_pages.specs.declared.node.Value.{Value}
 use Rattle.pmem_pages.proofs.Owning.{not_free}
 use Rattle.pmem_pages.proofs.Shapes.{is_tree_on}
-use Rattle.pmem_tree.specs.Calls.{IsShort, StagesAtMost, TooFew}
-use Rattle.pmem_tree.specs.Changes.{Puts, Removes}
-use Rattle.pmem_tree_base.specs.Find.{value_of}
-use Rattle.vos_values.specs.declared.values.VersionMark.{VersionMark}
-use Rattle.vos_values.specs.Values.{is_length, is_state, version_in, version_value}
+use Rattle.vos_chain.specs.pmem_tree.Calls.{IsShort, StagesAtMost, TooFew}
+use Rattle.vos_chain.specs.pmem_tree.Changes.{Puts, Removes}
+use Rattle.vos_chain.specs.pmem_tree_base.Find.{value_of}
+use Rattle.vos_chain.specs.vos_values.declared.values.VersionMark.{VersionMark}
+use Rattle.vos_chain.specs.vos_values.Values.{is_length, is_state, version_in, version_value}
 use Rattle.byteorder.specs.Endian.{big_number}
-use Rattle.vos_values.proofs.Reading.{chosen_is, chosen_test, then_holds}
-use Rattle.vos_levels.specs.declared.change.Change.{Change}
-use Rattle.vos_levels.specs.Changes.{keeps, takes}
+use Rattle.vos_chain.proofs.vos_values.Reading.{chosen_is, chosen_test, then_holds}
+use Rattle.vos_chain.specs.vos_levels.declared.change.Change.{Change}
+use Rattle.vos_chain.specs.vos_levels.Changes.{keeps, takes}
 use Rattle.vos_chain.specs.Chains.{chain_owner}
 use Rattle.vos_chain.specs.Made.{HasFewer, IsChainAt, MadeChain, chain_blocks}
 use Rattle.vos_versions.specs.Marks.{ByTest, Changes, Drops, HasBytes, IsVersionKind, Same, StagesFor, StagesLess, TooFewFor, done_mark, freed_of, mark_at}

@@ -6,12 +6,12 @@ use Rattle.pmem_pages.specs.Blocks.{Blocks, Budget, IsSpent}
 use Rattle.pmem_pages.specs.Owners.{Changed, maybe, times}
 use Rattle.pmem_pages.specs.Shape.{Entry, Shape, blocks_of, entries, entry_at, root_of}
 use Rattle.pmem_pages.specs.declared.node.TreeKey.{TreeKey}
-use Rattle.pmem_tree.specs.Changes.{Inserts, Puts, Removes}
-use Rattle.pmem_tree_base.specs.Find.{value_of}
-use Rattle.vos_values.specs.declared.values.VersionMark.{VersionMark}
-use Rattle.vos_values.specs.Values.{version_in, version_value}
-use Rattle.vos_levels.specs.declared.change.Change.{Change}
-use Rattle.vos_levels.specs.Changes.{keeps, takes}
+use Rattle.vos_chain.specs.pmem_tree.Changes.{Inserts, Puts, Removes}
+use Rattle.vos_chain.specs.pmem_tree_base.Find.{value_of}
+use Rattle.vos_chain.specs.vos_values.declared.values.VersionMark.{VersionMark}
+use Rattle.vos_chain.specs.vos_values.Values.{version_in, version_value}
+use Rattle.vos_chain.specs.vos_levels.declared.change.Change.{Change}
+use Rattle.vos_chain.specs.vos_levels.Changes.{keeps, takes}
 use Rattle.vos_chain.specs.Chains.{Chain, chain_owner}
 use Rattle.vos_chain.specs.Made.{HasFewer, IsChainAt, MadeChain, chain_blocks}
 

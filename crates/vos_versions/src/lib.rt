@@ -1,4 +1,5 @@
 // Versions in a tree, each with its bytes.
 #![tactic(auto)]
 
+pub mod below;
 pub mod versions;

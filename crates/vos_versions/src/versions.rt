@@ -4,13 +4,13 @@ ghost use Rattle.std.specs.Option.{option_and_then};
 ghost use Rattle.pmem_pages.specs.Blocks.{Blocks, IsSpent};
 ghost use Rattle.pmem_pages.specs.Node.{IsKey};
 ghost use Rattle.pmem_pages.specs.Shape.{Entry, Shape, IsTree, entries, entry_at};
-ghost use Rattle.pmem_tree.specs.Calls.{HasTree, OfTree, StepsAtMost, TooFew};
-ghost use Rattle.pmem_tree.specs.Changes.{Puts};
-ghost use Rattle.pmem_tree_base.specs.Calls.{Goes};
-ghost use Rattle.pmem_tree_base.specs.declared.refusal.TreeNo.{TreeNo};
-ghost use Rattle.vos_values.specs.Keys.{IsAttempt};
-ghost use Rattle.vos_values.specs.Values.{version_in, version_value};
-ghost use Rattle.vos_levels.specs.Changes.{keeps};
+ghost use Rattle.vos_chain.specs.pmem_tree.Calls.{HasTree, OfTree, StepsAtMost, TooFew};
+ghost use Rattle.vos_chain.specs.pmem_tree.Changes.{Puts};
+ghost use Rattle.vos_chain.specs.pmem_tree_base.Calls.{Goes};
+ghost use Rattle.vos_chain.specs.pmem_tree_base.declared.refusal.TreeNo.{TreeNo};
+ghost use Rattle.vos_chain.specs.vos_values.Keys.{IsAttempt};
+ghost use Rattle.vos_chain.specs.vos_values.Values.{version_in, version_value};
+ghost use Rattle.vos_chain.specs.vos_levels.Changes.{keeps};
 ghost use Rattle.vos_chain.specs.Made.{chain_blocks};
 ghost use Rattle.vos_versions.specs.Marks.{Adds, Changes, Drops, HasBytes, HasBytesAt, IsVersionKind, StagesFor, StagesLess, TooFewFor, done_mark, freed_of, mark_at};
 
@@ -18,12 +18,12 @@ use base_types::id::AttemptId;
 use pmem_pages::pages::Pages;
 use pmem_pages::refusal::Stopped;
 use pmem_pages::steps::Steps;
-use pmem_tree::tree::Tree;
-use pmem_tree::{TreeKey, TreeNo, Value};
 use std::sync::ledger::Ledger;
+use vos_chain::below::levels::change::Change;
+use vos_chain::below::tree::tree::Tree;
+use vos_chain::below::tree::{TreeKey, TreeNo, Value};
+use vos_chain::below::values::values::{VersionMark, read_version, version_value};
 use vos_chain::chain::{give_chain, write_chain};
-use vos_levels::change::Change;
-use vos_values::values::{VersionMark, read_version, version_value};
 
 // The attempt, which is one.
 fn attempt_of(by: AttemptId) -> AttemptId

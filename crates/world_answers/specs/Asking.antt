@@ -40,13 +40,13 @@ use Rattle.world_base.specs.TargetTurns.{Hears, commit_request, fetch_request, p
 use Rattle.world_base.specs.Turns.{Whole}
 use Rattle.world_base.specs.VerdictLaws.{Tries, verdict-keeps}
 use Rattle.world_base.specs.Verdicts as verdict
-use Rattle.world_causes.specs.hearing.Listening.{Listens, listens}
-use Rattle.world_causes.specs.hearing.Saying.{AsksState, EndsHeld, EndsLost, MarksAgain, MetUnresolved, SaysFurther, TellsState}
-use Rattle.world_commit.specs.statuses.Heard.{is_of_attempts}
-use Rattle.world_letters.specs.kinds.Loads.{ask_alike, load, post_load, total, weight, weight_if}
-use Rattle.world_letters.specs.kinds.PostLaws.{CarryNone, acks-carry}
-use Rattle.world_letters.specs.lines.EndingLaws.{all-hear-tell, idle-tells}
-use Rattle.world_letters.specs.lines.Lines.{TellsPlainly}
+use Rattle.world_making.specs.world_causes.hearing.Listening.{Listens, listens}
+use Rattle.world_making.specs.world_causes.hearing.Saying.{AsksState, EndsHeld, EndsLost, MarksAgain, MetUnresolved, SaysFurther, TellsState}
+use Rattle.world_making.specs.world_commit.statuses.Heard.{is_of_attempts}
+use Rattle.world_making.specs.world_letters.kinds.Loads.{ask_alike, load, post_load, total, weight, weight_if}
+use Rattle.world_making.specs.world_letters.kinds.PostLaws.{CarryNone, acks-carry}
+use Rattle.world_making.specs.world_letters.lines.EndingLaws.{all-hear-tell, idle-tells}
+use Rattle.world_making.specs.world_letters.lines.Lines.{TellsPlainly}
 use Rattle.world_making.specs.fates.Sends.{is_sent_in_making, making-sent}
 use Rattle.world_making.specs.making.Kinds.{of-attempts}
 use Rattle.world_making.specs.making.Making.{MakingLeaves, tells_of_snapshots}

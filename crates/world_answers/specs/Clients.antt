@@ -30,8 +30,8 @@ use Rattle.world_base.specs.declared.client.Present.{Present}
 use Rattle.world_base.specs.declared.client.Stage.{Stage}
 use Rattle.world_base.specs.declared.client.Stage.TheVariants as stage
 use Rattle.world_base.specs.ClientTurns.{Move, about, after_end, answered, asks_or_goes, at_present, attempt_id, attempt_moves, begins_at, begun, command_at, command_moves, commits, ends, first_epoch, goes, group_count, group_told, heard, heard_at, hears_epochs, is_about, is_yes, joined, knows, moved, moves_at, next_command, next_stage, op_moves, op_of, op_told, question, replied, reset_by, rests, run_moves, snaps_known, told_at, waits}
-use Rattle.world_letters.specs.clients.MoveLaws.{tells-end, tells-nothing, told_end}
-use Rattle.world_letters.specs.clients.Standing.{tells}
+use Rattle.world_making.specs.world_letters.clients.MoveLaws.{tells-end, tells-nothing, told_end}
+use Rattle.world_making.specs.world_letters.clients.Standing.{tells}
 use Rattle.world_answers.specs.Forms.{AreToldInForm, BringsAnswerInForm, IsFoundInForm, IsPresentInForm, IsReplyInForm}
 use Rattle.world_answers.specs.Reads.{answers-join_in_form}
 

@@ -27,19 +27,19 @@ use Rattle.world_base.specs.Letters.{client, letters_of, target}
 use Rattle.world_base.specs.StepLaws.{by-hearing, by-next, set-is, set-there}
 use Rattle.world_base.specs.Steps.{KeptByCounting, KeptByHearing, KeptByMoves, after_move, without}
 use Rattle.world_base.specs.Stops.{AtWork, CutOf, Draws, Fails, Further, GivenUp, Happening, Hearing, IdleWork, IsCut, Opens, Plainly, TargetCut, WorldEvent, stops_so_far, swept}
-use Rattle.world_causes.specs.outcomes.Untried.{hearing-untried, idling-untried, untried-both, untried-none, untried-one}
-use Rattle.world_causes.specs.restarts.Resting.{Rests, failure-rests, given_up-rests, is_silent, numbers-rests, opening-rests, same-tries, sweep-rests}
-use Rattle.world_commit.specs.attempts.Counting.{has-left_over, has-taken}
-use Rattle.world_commit.specs.attempts.Turning.{one-or_another}
-use Rattle.world_contents.specs.gots.StepGots.{is_fetched}
-use Rattle.world_contents.specs.gots.TargetGots.{ends-none}
-use Rattle.world_letters.specs.lines.FilledLaws.{tries-filled}
-use Rattle.world_letters.specs.lines.Lines.{filled}
-use Rattle.world_letters.specs.lives.TurnLines.{further-lines, idle-lines, plain-lines}
-use Rattle.world_letters.specs.talks.Asked.{ARead, ASnapshot, AnAggregation, Asked, ItsWrites}
+use Rattle.world_making.specs.world_causes.outcomes.Untried.{hearing-untried, idling-untried, untried-both, untried-none, untried-one}
+use Rattle.world_making.specs.world_causes.restarts.Resting.{Rests, failure-rests, given_up-rests, is_silent, numbers-rests, opening-rests, same-tries, sweep-rests}
+use Rattle.world_making.specs.world_commit.attempts.Counting.{has-left_over, has-taken}
+use Rattle.world_making.specs.world_commit.attempts.Turning.{one-or_another}
+use Rattle.world_making.specs.world_contents.gots.StepGots.{is_fetched}
+use Rattle.world_making.specs.world_contents.gots.TargetGots.{ends-none}
+use Rattle.world_making.specs.world_letters.lines.FilledLaws.{tries-filled}
+use Rattle.world_making.specs.world_letters.lines.Lines.{filled}
+use Rattle.world_making.specs.world_letters.lives.TurnLines.{further-lines, idle-lines, plain-lines}
+use Rattle.world_making.specs.world_letters.talks.Asked.{ARead, ASnapshot, AnAggregation, Asked, ItsWrites}
 use Rattle.world_making.specs.losses.Tells.{turn-lines-untried}
-use Rattle.world_contents.specs.posts.ClientPosts.{command-here}
-use Rattle.world_contents.specs.posts.ScriptForm.{command-few}
+use Rattle.world_making.specs.world_contents.posts.ClientPosts.{command-here}
+use Rattle.world_making.specs.world_contents.posts.ScriptForm.{command-few}
 use Rattle.world_answers.specs.Clients.{HasFewOps, IsPresentOrNone, MovesInForm, heard-in_form, moved-in_form}
 use Rattle.world_answers.specs.Forms.{AnswersInForm, AreToldInForm, BringsAnswerInForm, IsPresentInForm, PostsInForm, ReadsInForm, TargetsHaveKeys}
 use Rattle.world_answers.specs.Further.{further-in_form}

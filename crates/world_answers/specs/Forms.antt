@@ -24,7 +24,7 @@ use Rattle.world_base.specs.declared.target.TargetMemory.{TargetMemory}
 use Rattle.world_base.specs.declared.target.TargetState.{TargetState}
 use Rattle.world_base.specs.declared.world.World.{World}
 use Rattle.world_base.specs.Letters.{target}
-use Rattle.world_contents.specs.reads.Adds.{NoneIs, is_answer}
+use Rattle.world_making.specs.world_contents.reads.Adds.{NoneIs, is_answer}
 
 -- ---- what goes about
 

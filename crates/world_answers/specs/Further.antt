@@ -15,16 +15,16 @@ use Rattle.world_base.specs.Commits as commit
 use Rattle.world_base.specs.Further.{CommitDown, HearsFurther, IsSpent, IsUnknown}
 use Rattle.world_base.specs.Statuses.{status_refusal}
 use Rattle.world_base.specs.TargetTurns.{commit_request}
-use Rattle.world_causes.specs.hearing.Listening.{Listens, listens}
-use Rattle.world_commit.specs.statuses.Heard.{is_of_attempts}
-use Rattle.world_contents.specs.reads.Adds.{NoneIs, is_answer}
+use Rattle.world_making.specs.world_causes.hearing.Listening.{Listens, listens}
+use Rattle.world_making.specs.world_commit.statuses.Heard.{is_of_attempts}
+use Rattle.world_making.specs.world_contents.reads.Adds.{NoneIs, is_answer}
 use Rattle.world_making.specs.fates.Sends.{making-sent, making-silent}
 use Rattle.world_making.specs.making.Kinds.{of-attempts}
 use Rattle.world_making.specs.making.Making.{tells_of_snapshots}
 use Rattle.world_making.specs.making.Turns.{hearings-leave}
 use Rattle.world_standing.specs.external.Silent.{ack-silent, one-silent}
 use Rattle.world_answers.specs.Forms.{PostsInForm, none-answers}
-use Rattle.world_causes.specs.hearing.FurtherTurns.{says-silent}
+use Rattle.world_making.specs.world_causes.hearing.FurtherTurns.{says-silent}
 
 down-silent : (t : TargetPlan) (m : TargetMemory) (reading : ℕ) (q : CommitRequest) (from : ActorId) (s : commit.CommitStage) (k : Kept) (left : TargetMemory × Did) → CommitDown t m reading q from s k left → NoneIs is_answer left.1.posts
 down-silent t m reading q from s k left (IsSpent j e down z none known is) = subst (λ (x : TargetMemory × Did). NoneIs is_answer x.1.posts) (sym is) (one-silent _ refl)

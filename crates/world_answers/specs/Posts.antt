@@ -16,10 +16,10 @@ use Rattle.world_base.specs.declared.world.World.{World}
 use Rattle.world_base.specs.ClientTurns.{heard, listed, moved, waits}
 use Rattle.world_base.specs.Letters.{letter_of, letters_of, reset_message}
 use Rattle.world_base.specs.Stops.{is_not_to, is_to, reset_letter, resets}
-use Rattle.world_causes.specs.restarts.Resting.{Rests, is_silent}
-use Rattle.world_letters.specs.endings.Clients.{IsQuestion, heard-asks}
-use Rattle.world_letters.specs.talks.AskLaws.{move-is, waiting-rests}
-use Rattle.world_letters.specs.talks.Asked.{Asked, Asking, IsMove, Silent, Telling}
+use Rattle.world_making.specs.world_causes.restarts.Resting.{Rests, is_silent}
+use Rattle.world_making.specs.world_letters.endings.Clients.{IsQuestion, heard-asks}
+use Rattle.world_making.specs.world_letters.talks.AskLaws.{move-is, waiting-rests}
+use Rattle.world_making.specs.world_letters.talks.Asked.{Asked, Asking, IsMove, Silent, Telling}
 
 module _ (P : Message → Type 0) where
   -- it is so of each post, or of each letter

@@ -23,13 +23,13 @@ use Rattle.world_base.specs.Letters.{client, letters_of, target}
 use Rattle.world_base.specs.StepLaws.{by-hearing, by-next, set-is, set-there}
 use Rattle.world_base.specs.Steps.{KeptByCounting, KeptByHearing, KeptByMoves}
 use Rattle.world_base.specs.Stops.{Draws, Fails, Further, GivenUp, Happening, IsCut, Opens, Plainly, TargetCut, WorldEvent, stopped_at, swept}
-use Rattle.world_causes.specs.restarts.Resting.{Rests, failure-rests, given_up-rests, is_silent, numbers-rests, opening-rests, sweep-rests}
-use Rattle.world_commit.specs.attempts.Counting.{has-left_over, has-taken}
-use Rattle.world_commit.specs.attempts.Turning.{one-or_another}
-use Rattle.world_letters.specs.talks.Asked.{ARead, ASnapshot, AnAggregation, Asked, ItsWrites}
-use Rattle.world_contents.specs.reads.Given.{Given, IsMessageRight, IsParkedRight}
-use Rattle.world_contents.specs.posts.ClientPosts.{command-here}
-use Rattle.world_contents.specs.posts.ScriptForm.{read-in-form, question-form}
+use Rattle.world_making.specs.world_causes.restarts.Resting.{Rests, failure-rests, given_up-rests, is_silent, numbers-rests, opening-rests, sweep-rests}
+use Rattle.world_making.specs.world_commit.attempts.Counting.{has-left_over, has-taken}
+use Rattle.world_making.specs.world_commit.attempts.Turning.{one-or_another}
+use Rattle.world_making.specs.world_letters.talks.Asked.{ARead, ASnapshot, AnAggregation, Asked, ItsWrites}
+use Rattle.world_making.specs.world_contents.reads.Given.{Given, IsMessageRight, IsParkedRight}
+use Rattle.world_making.specs.world_contents.posts.ClientPosts.{command-here}
+use Rattle.world_making.specs.world_contents.posts.ScriptForm.{read-in-form, question-form}
 use Rattle.world_answers.specs.Asking.{further-asks, hears-asks, idle-asks}
 use Rattle.world_answers.specs.Forms.{AsksAreInForm, AsksInForm, PostsAskInForm, ReadsInForm, WaitInForm}
 use Rattle.world_answers.specs.Posts.{heard-posts, lost-letters, moved-posts, resting-letters, sent-letters}

@@ -2,6 +2,7 @@
 // in a turn, the changes that a target makes of what it keeps among it; and the events of a run, one actor's turn each.
 #![tactic(auto)]
 
+pub mod below;
 pub mod client;
 pub mod did;
 pub mod letter;

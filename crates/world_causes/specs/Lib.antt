@@ -8,3 +8,7 @@ pub mod firsts
 pub mod showing
 pub mod handing
 pub mod stored
+-- What crates above name of those below, passed on to them.
+pub use Rattle.world_contents.specs.world_commit as world_commit
+pub use Rattle.world_contents.specs as world_contents
+pub use Rattle.world_contents.specs.world_letters as world_letters

@@ -11,7 +11,7 @@ use Rattle.replay_base.specs.Leaving.{HearsAs, IsLeftIf}
 use Rattle.replay_base.specs.Onward.{keeps}
 use Rattle.replay_base.proofs.Starts.{none_so}
 use Rattle.replay_writes.specs.Committed.{CommitsSo, PreparesSo}
-use Rattle.replay_fetch.specs.Fetched.{FetchesSo}
+use Rattle.replay_verdict.specs.replay_fetch.Fetched.{FetchesSo}
 use Rattle.world_base.specs.declared.did.Did.{Did}
 use Rattle.world_base.specs.declared.request.CommitRequest.{CommitRequest}
 use Rattle.world_base.specs.declared.request.FetchRequest.{FetchRequest}

@@ -5,7 +5,7 @@ ghost use Rattle.base_messages.specs.declared.message.Message.TheVariants as mes
 ghost use Rattle.daos_model.specs.Durables.{is_version_in_form};
 ghost use Rattle.daos_model.specs.Forms.{AreWritesInForm};
 ghost use Rattle.replay_base.specs.Heard.{CanCommit, CanRead, CanTryAgain, is_timed, is_timed_ask};
-ghost use Rattle.replay_fetch.specs.Fetched.{FetchesSo};
+ghost use Rattle.replay_verdict.specs.replay_fetch.Fetched.{FetchesSo};
 ghost use Rattle.replay_verdict.specs.Tried.{fetch_in};
 ghost use Rattle.replay_writes.specs.Committed.{CommitsSo, PreparesSo};
 ghost use Rattle.world_check.specs.Turned.{HearsSo, commit_in, prepare_in};
@@ -23,8 +23,8 @@ use replay_base::told::is_left_if;
 use replay_dtx::acks::hears_ack;
 use replay_dtx::marks::{hears_mark, hears_marked};
 use replay_dtx::queries::hears_query;
-use replay_fetch::fetch::fetches_so;
 use replay_verdict::asks::fetch_in;
+use replay_verdict::below::fetch::fetch::fetches_so;
 use replay_verdict::verdict::hears_verdict;
 use replay_writes::commit::commits_so;
 use replay_writes::forms::{are_writes, can_commit, is_write_in_form};

@@ -1,6 +1,7 @@
 // Whether a list of events is a run.
 #![tactic(auto)]
 
+pub mod below;
 pub mod check;
 pub mod hears;
 pub mod starts;

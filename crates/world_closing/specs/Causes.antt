@@ -36,15 +36,15 @@ use Rattle.daos_model.specs.Transactions.{attempt_ops, command_of}
 use Rattle.world_base.specs.declared.world.World.{World}
 use Rattle.world_base.specs.ClientTurns.{known_epoch}
 use Rattle.world_base.specs.Events.{Rules}
-use Rattle.world_causes.specs.causes.Causes.{Dated, MeetsOther, ShowsLack, ShowsRead, Stored, blocks_of_stored}
-use Rattle.world_causes.specs.causes.LastCauses.{blocks-within, count-within, ids}
-use Rattle.world_causes.specs.causes.Shown as stand
-use Rattle.world_causes.specs.causes.Shown.{Causes, IsFirstEpoch, IsOpenTo, MeetsFloor, MeetsLaterWrite, MeetsUnresolved, OutcomeStands, SpendsAll, WasLost}
-use Rattle.world_causes.specs.causes.Storing.{AreApart, dated_ids}
+use Rattle.world_answers.specs.world_causes.causes.Causes.{Dated, MeetsOther, ShowsLack, ShowsRead, Stored, blocks_of_stored}
+use Rattle.world_answers.specs.world_causes.causes.LastCauses.{blocks-within, count-within, ids}
+use Rattle.world_answers.specs.world_causes.causes.Shown as stand
+use Rattle.world_answers.specs.world_causes.causes.Shown.{Causes, IsFirstEpoch, IsOpenTo, MeetsFloor, MeetsLaterWrite, MeetsUnresolved, OutcomeStands, SpendsAll, WasLost}
+use Rattle.world_answers.specs.world_causes.causes.Storing.{AreApart, dated_ids}
 use Rattle.world_closing.specs.Rules.{rules_of}
 use Rattle.world_upheld.specs.causing.Dates.{AreDates, counted_as, counts-issued, issued-own, with_dates}
 use Rattle.world_letters.specs.clients.Snapshots.{at-same, is_at_snapshot}
-use Rattle.world_making.specs.dates.Moves.{command-same}
+use Rattle.world_answers.specs.world_making.dates.Moves.{command-same}
 use Rattle.world_letters.specs.epochs.Epochs.{Epochs, HasLine, IsEpochOf, IsOwn, IsSeen}
 use Rattle.world_letters.specs.lives.Adding.{restarts-append}
 use Rattle.world_upheld.specs.below.Legal.{BeginsWith, among-tries, first-found, one-line, report_over}

@@ -5,9 +5,9 @@ use Rattle.base_types.specs.declared.id.AttemptId.{AttemptId}
 use Rattle.model_laws.specs.Members.{Has, has-filter, has-from_map, has-map}
 use Rattle.world_base.specs.declared.world.World.{World}
 use Rattle.world_base.specs.Events.{Rules}
-use Rattle.world_causes.specs.causes.Causes.{Dated}
+use Rattle.world_answers.specs.world_causes.causes.Causes.{Dated}
 use Rattle.world_closing.specs.Issued.{IssuedOnce}
-use Rattle.world_causes.specs.causes.Storing.{AreApart, dated_ids}
+use Rattle.world_answers.specs.world_causes.causes.Storing.{AreApart, dated_ids}
 use Rattle.world_upheld.specs.causing.Dates.{AreDates, is_own_date, is_read_date}
 use Rattle.world_letters.specs.clients.Snapshots.{is_at_snapshot}
 

@@ -31,15 +31,15 @@ use Rattle.world_base.specs.Roles.{is_prepared}
 use Rattle.world_base.specs.StepLaws.{by-hearing, by-next}
 use Rattle.world_base.specs.Stops.{AtWork, CutOf, Draws, Fails, Further, GivenUp, Happening, Hearing, IdleWork, IsCut, IsInHand, Opens, Plainly, TargetCut, WorldEvent}
 use Rattle.world_base.specs.TargetTurns.{commit_request, fetch_request}
-use Rattle.world_causes.specs.causes.Causes.{Dated}
-use Rattle.world_causes.specs.causes.Storing.{AreApart, dated_ids}
+use Rattle.world_answers.specs.world_causes.causes.Causes.{Dated}
+use Rattle.world_answers.specs.world_causes.causes.Storing.{AreApart, dated_ids}
 use Rattle.world_upheld.specs.causing.DatedTurns.{looks-so}
 use Rattle.world_upheld.specs.causing.Events.{of-making}
 use Rattle.world_letters.specs.epochs.Epochs.{AsksEpoch, Epochs, IsUnissued}
 use Rattle.world_commit.specs.fates.Facts.{Attempts}
 use Rattle.world_commit.specs.fates.Rightly.{letters-tell}
-use Rattle.world_making.specs.making.Making.{IsOfMaking, MakingRequest, asks_making, making_issue}
-use Rattle.world_making.specs.making.Turns.{cuts-leave, hearings-leave}
+use Rattle.world_answers.specs.world_making.making.Making.{IsOfMaking, MakingRequest, asks_making, making_issue}
+use Rattle.world_answers.specs.world_making.making.Turns.{cuts-leave, hearings-leave}
 use Rattle.world_commit.specs.statuses.Heard.{is_of_attempts}
 
 abbrev pub IssuedOnce : World → Type 0

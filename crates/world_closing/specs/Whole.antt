@@ -26,7 +26,7 @@ use Rattle.world_closing.specs.legal.Ended.{BeginsWhole, EndIsKnown, ends-have_l
 use Rattle.world_closing.specs.legal.Reads.{OpensWithDkeys}
 use Rattle.world_closing.specs.legal.Following.{HoldsKept}
 use Rattle.world_closing.specs.stands.Created.{IsKeptOf, kept-from, same-cont, same-epoch}
-use Rattle.world_making.specs.making.Snapshots.{holds_created}
+use Rattle.world_answers.specs.world_making.making.Snapshots.{holds_created}
 use Rattle.world_closing.specs.stands.Runs.{all-ends-stand}
 use Rattle.world_closing.specs.stands.Stands.{HoldsOpenings}
 

@@ -3,6 +3,7 @@
 #![tactic(auto)]
 
 pub mod asked;
+pub mod below;
 pub mod forming;
 pub mod legal;
 pub mod safety;

@@ -2,7 +2,7 @@
 ghost use Rattle.world_closing.specs.stands.Covered.{AllRunsStayWithin};
 ghost use Rattle.world_closing.specs.stands.Held.{OpenedAreHeld};
 ghost use Rattle.world_closing.specs.stands.Lasting.{LastingStoresBegin};
-ghost use Rattle.world_making.specs.freezings.Snapped.{AllEventsSnapSo};
+ghost use Rattle.world_answers.specs.world_making.freezings.Snapped.{AllEventsSnapSo};
 ghost use Rattle.world_closing.specs.stands.Stands.{AllEndsStand, AllRunsKeepFloors, AllRunsKeepSound, AllRunsStandForResolved};
 
 /// Says what the targets of any run stand for, those that are stopped or were given up among them, of a script in form,

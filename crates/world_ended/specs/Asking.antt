@@ -10,11 +10,11 @@ use Rattle.base_messages.specs.declared.message.Message.TheVariants as message
 use Rattle.base_messages.specs.declared.message.Post.{Post}
 use Rattle.base_messages.specs.declared.message.Reply.{Reply}
 use Rattle.base_messages.specs.declared.message.Reply.TheVariants as reply
-use Rattle.dtx_base.specs.declared.leading.LeaderMemory.{LeaderMemory}
-use Rattle.dtx_base.specs.declared.leading.Undecided.{Undecided}
-use Rattle.model_laws.specs.Members.{Has}
-use Rattle.world_base.specs.declared.target.Collection.{Collection}
-use Rattle.world_base.specs.declared.target.TargetMemory.{TargetMemory}
+use Rattle.world_letters.specs.dtx_base.declared.leading.LeaderMemory.{LeaderMemory}
+use Rattle.world_letters.specs.dtx_base.declared.leading.Undecided.{Undecided}
+use Rattle.world_letters.specs.model_laws.Members.{Has}
+use Rattle.world_letters.specs.world_base.declared.target.Collection.{Collection}
+use Rattle.world_letters.specs.world_base.declared.target.TargetMemory.{TargetMemory}
 use Rattle.world_letters.specs.clients.Answered.{is_refusal}
 
 -- the attempts of which their client has asked that they end as committed

@@ -31,14 +31,14 @@ use Rattle.daos_model.specs.EntryLaws.{same_attempt-itself}
 use Rattle.daos_model.specs.Kinds.{is_of_kind}
 use Rattle.daos_model.specs.Laws.{tries-append}
 use Rattle.daos_model.specs.Transactions.{ops_of, ops_or_none}
-use Rattle.model_laws.specs.EntryLaws.{same-attempt}
-use Rattle.world_base.specs.declared.client.ClientPlan.{ClientPlan}
-use Rattle.world_base.specs.declared.client.ClientState.{ClientState}
-use Rattle.world_base.specs.declared.client.Present.{Present}
-use Rattle.world_base.specs.declared.client.Stage.{Stage}
-use Rattle.world_base.specs.declared.client.Stage.TheVariants as stage
-use Rattle.world_base.specs.declared.did.Did.{Did}
-use Rattle.world_base.specs.ClientTurns.{Ended_by, GoesOn, HearTurn, Heard_on, Move, Moves, NextTurn, None_yet, One_more, Skipped, Went_on, about, after_end, answered, asks, asks_again, asks_or_goes, at_present, attempt_id, attempt_moves, begins_at, begun, command_at, command_moves, commits, condition_told, ends, first_epoch, goes, group_count, group_told, heard, heard_at, hears_epochs, is_about, joined, knows, listed, moved, moves_at, next_command, next_op, next_place, next_stage, op_moves, op_of, op_told, question, read_told, replied, request_of, reset, reset_by, rests, run_moves, skip_counted, snaps_known, told_at, waits}
+use Rattle.world_letters.specs.model_laws.EntryLaws.{same-attempt}
+use Rattle.world_letters.specs.world_base.declared.client.ClientPlan.{ClientPlan}
+use Rattle.world_letters.specs.world_base.declared.client.ClientState.{ClientState}
+use Rattle.world_letters.specs.world_base.declared.client.Present.{Present}
+use Rattle.world_letters.specs.world_base.declared.client.Stage.{Stage}
+use Rattle.world_letters.specs.world_base.declared.client.Stage.TheVariants as stage
+use Rattle.world_letters.specs.world_base.declared.did.Did.{Did}
+use Rattle.world_letters.specs.world_base.ClientTurns.{Ended_by, GoesOn, HearTurn, Heard_on, Move, Moves, NextTurn, None_yet, One_more, Skipped, Went_on, about, after_end, answered, asks, asks_again, asks_or_goes, at_present, attempt_id, attempt_moves, begins_at, begun, command_at, command_moves, commits, condition_told, ends, first_epoch, goes, group_count, group_told, heard, heard_at, hears_epochs, is_about, joined, knows, listed, moved, moves_at, next_command, next_op, next_place, next_stage, op_moves, op_of, op_told, question, read_told, replied, request_of, reset, reset_by, rests, run_moves, skip_counted, snaps_known, told_at, waits}
 use Rattle.world_letters.specs.clients.AnswerLaws.{Tells, heard-answered, moved-answered}
 use Rattle.world_letters.specs.clients.Answered.{IsAsking, IsFit, IsFitHere, is_refusal, ops_here}
 use Rattle.world_letters.specs.clients.MoveLaws.{IsAt, heard-keeps, is-at, moved-keeps}

@@ -7,9 +7,9 @@ use Rattle.base_types.specs.declared.script.Script.{Script}
 use Rattle.base_messages.specs.declared.message.Post.{Post}
 use Rattle.daos_model.specs.Attempts.{tries}
 use Rattle.daos_model.specs.Transactions.{attempt_ops}
-use Rattle.world_base.specs.declared.client.ClientPlan.{ClientPlan}
-use Rattle.world_base.specs.declared.client.ClientState.{ClientState}
-use Rattle.world_base.specs.declared.client.Present.{Present}
+use Rattle.world_letters.specs.world_base.declared.client.ClientPlan.{ClientPlan}
+use Rattle.world_letters.specs.world_base.declared.client.ClientState.{ClientState}
+use Rattle.world_letters.specs.world_base.declared.client.Present.{Present}
 use Rattle.world_letters.specs.clients.AnswerLaws.{Tells}
 use Rattle.world_letters.specs.clients.Answered.{EndsWell}
 use Rattle.world_letters.specs.clients.Standing.{number_of}

@@ -4,3 +4,5 @@ pub mod PostLaws
 pub mod TurnLaws
 pub mod Clients
 pub mod ClientLaws
+-- What crates above name of those below, passed on to them.
+pub use Rattle.world_letters.specs as world_letters

@@ -16,19 +16,19 @@ use Rattle.base_messages.specs.declared.message.Message.{Message}
 use Rattle.base_messages.specs.declared.message.Message.TheVariants as message
 use Rattle.base_messages.specs.declared.message.Post.{Post}
 use Rattle.daos_model.specs.Durables.{same_attempt}
-use Rattle.dtx_base.specs.declared.leading.LeaderMemory.{LeaderMemory}
-use Rattle.dtx_base.specs.declared.leading.Naming.{Naming}
-use Rattle.dtx_base.specs.declared.leading.Undecided.{Undecided}
-use Rattle.dtx_base.specs.declared.member.Parked.{Parked}
-use Rattle.dtx_base.specs.Asking.{ask_heard, asked_of, asked_open, tells_end, waits_at}
-use Rattle.dtx_base.specs.Joining as member
-use Rattle.dtx_base.specs.Joining.{MemberOf, all_unresolved_told, inquired, inquiry_for, is_waiting, query_for, to_inquire, unresolved, unresolved_told, verdict_heard}
-use Rattle.dtx_base.specs.Leading.{LeaderOf, LeaderStep, abort_to, ack_heard, answer_heard, answer_if_awaited, batched, begun, begun_alone, begun_with_others, commit_mark, counted_at, decided, down_told, ended, entry_led, first_down, first_memory, is_open, knowing, mark_reset, mark_with, marks_for, new_undecided, ok_heard, owed, prepare_reset, prepare_to, quietly, refusal_heard, reopened_undecided, reset_heard, reset_of, status_asked, to_target, undecided_attempt, undecided_of, unwaited_at, with_undecided}
-use Rattle.dtx_base.specs.Members.{all_targets, are_all_counted, is_other_member, other_members, with_target}
-use Rattle.dtx_base.specs.Rows.{is_among, is_empty, is_other_row, is_row_of, row_key, with_row, without_row}
-use Rattle.model_laws.specs.EntryLaws.{found-has, found-passes, has-put, same-attempt}
-use Rattle.model_laws.specs.Members.{Has, has-cases, has-from_filter, has-from_map}
-use Rattle.world_base.specs.Statuses.{status_refusal, status_to, statuses_for}
+use Rattle.world_letters.specs.dtx_base.declared.leading.LeaderMemory.{LeaderMemory}
+use Rattle.world_letters.specs.dtx_base.declared.leading.Naming.{Naming}
+use Rattle.world_letters.specs.dtx_base.declared.leading.Undecided.{Undecided}
+use Rattle.world_letters.specs.dtx_base.declared.member.Parked.{Parked}
+use Rattle.world_letters.specs.dtx_base.Asking.{ask_heard, asked_of, asked_open, tells_end, waits_at}
+use Rattle.world_letters.specs.dtx_base.Joining as member
+use Rattle.world_letters.specs.dtx_base.Joining.{MemberOf, all_unresolved_told, inquired, inquiry_for, is_waiting, query_for, to_inquire, unresolved, unresolved_told, verdict_heard}
+use Rattle.world_letters.specs.dtx_base.Leading.{LeaderOf, LeaderStep, abort_to, ack_heard, answer_heard, answer_if_awaited, batched, begun, begun_alone, begun_with_others, commit_mark, counted_at, decided, down_told, ended, entry_led, first_down, first_memory, is_open, knowing, mark_reset, mark_with, marks_for, new_undecided, ok_heard, owed, prepare_reset, prepare_to, quietly, refusal_heard, reopened_undecided, reset_heard, reset_of, status_asked, to_target, undecided_attempt, undecided_of, unwaited_at, with_undecided}
+use Rattle.world_letters.specs.dtx_base.Members.{all_targets, are_all_counted, is_other_member, other_members, with_target}
+use Rattle.world_letters.specs.dtx_base.Rows.{is_among, is_empty, is_other_row, is_row_of, row_key, with_row, without_row}
+use Rattle.world_letters.specs.model_laws.EntryLaws.{found-has, found-passes, has-put, same-attempt}
+use Rattle.world_letters.specs.model_laws.Members.{Has, has-cases, has-from_filter, has-from_map}
+use Rattle.world_letters.specs.world_base.Statuses.{status_refusal, status_to, statuses_for}
 use Rattle.world_letters.specs.clients.Answered.{is_refusal}
 use Rattle.world_ended.specs.Asking.{AreRefusals, Asked, EndsAsked, GoesWith, IsEnd, LeavesWith, PostsGoWith, WaitWith}
 

@@ -6,12 +6,12 @@ use Rattle.base_types.specs.declared.id.AttemptId.{AttemptId}
 use Rattle.base_messages.specs.declared.actor.ActorId.{ActorId}
 use Rattle.base_messages.specs.declared.message.Message.{Message}
 use Rattle.base_messages.specs.declared.message.Post.{Post}
-use Rattle.dtx_base.specs.declared.leading.LeaderMemory.{LeaderMemory}
-use Rattle.dtx_base.specs.declared.leading.Undecided.{Undecided}
-use Rattle.dtx_base.specs.Leading.{LeaderStep}
-use Rattle.model_laws.specs.Members.{Has}
-use Rattle.world_base.specs.declared.did.Did.{Did}
-use Rattle.world_base.specs.Requests.{says}
+use Rattle.world_letters.specs.dtx_base.declared.leading.LeaderMemory.{LeaderMemory}
+use Rattle.world_letters.specs.dtx_base.declared.leading.Undecided.{Undecided}
+use Rattle.world_letters.specs.dtx_base.Leading.{LeaderStep}
+use Rattle.world_letters.specs.model_laws.Members.{Has}
+use Rattle.world_letters.specs.world_base.declared.did.Did.{Did}
+use Rattle.world_letters.specs.world_base.Requests.{says}
 use Rattle.world_ended.specs.Asking.{Asked, EndsAsked, GoesWith, LeavesWith, PostsGoWith, WaitWith}
 use Rattle.world_ended.specs.PostLaws.{both-posted, one-posted, waits-on}
 

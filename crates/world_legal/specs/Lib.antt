@@ -4,3 +4,8 @@ pub mod doubts
 pub mod shown
 pub mod closing
 pub mod forming
+-- What crates above name of those below, passed on to them.
+pub use Rattle.world_standing.specs.world_causes as world_causes
+pub use Rattle.world_standing.specs.world_commit as world_commit
+pub use Rattle.world_standing.specs.world_contents as world_contents
+pub use Rattle.world_standing.specs as world_standing

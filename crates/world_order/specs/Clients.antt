@@ -3,14 +3,14 @@ use Rattle.std.specs.Prelude.{ℕ, ◌<◌, refl}
 use Rattle.std.proofs.Common.{arith}
 use Rattle.world_base.specs.Events.{Rules}
 use Rattle.world_base.specs.Steps.{KeptByCounting, KeptByHearing, KeptByMoves}
-use Rattle.world_causes.specs.hearing.HappeningEpochs.{talks-once}
-use Rattle.world_letters.specs.epochs.EventLaws.{stands-by-counting, stands-by-hearing, stands-by-moves}
-use Rattle.world_letters.specs.epochs.Talking.{silent-unless}
-use Rattle.world_letters.specs.waits.ClientLaws as wait
-use Rattle.world_making.specs.dates.Answering.{quiet-client}
-use Rattle.world_making.specs.dates.Going.{moved-dates}
-use Rattle.world_making.specs.dates.Heard.{heard-dates}
-use Rattle.world_making.specs.dates.Moves.{quiet-same}
+use Rattle.world_upheld.specs.world_causes.hearing.HappeningEpochs.{talks-once}
+use Rattle.world_upheld.specs.world_letters.epochs.EventLaws.{stands-by-counting, stands-by-hearing, stands-by-moves}
+use Rattle.world_upheld.specs.world_letters.epochs.Talking.{silent-unless}
+use Rattle.world_upheld.specs.world_letters.waits.ClientLaws as wait
+use Rattle.world_upheld.specs.world_making.dates.Answering.{quiet-client}
+use Rattle.world_upheld.specs.world_making.dates.Going.{moved-dates}
+use Rattle.world_upheld.specs.world_making.dates.Heard.{heard-dates}
+use Rattle.world_upheld.specs.world_making.dates.Moves.{quiet-same}
 use Rattle.world_upheld.specs.order.Clients.{ClientsTalk}
 
 module _ (r : Rules) (top : ℕ) (some : 0 < r.attempts) where

@@ -8,19 +8,19 @@ use Rattle.world_base.specs.declared.target.TargetState.{TargetState}
 use Rattle.world_base.specs.declared.world.World.{World}
 use Rattle.world_base.specs.Events.{ByClient, ByTarget, Rules, ToClient, ToTarget}
 use Rattle.world_base.specs.Stops.{Draws, Fails, Further, GivenUp, Happening, IsCut, Opens, Plainly}
-use Rattle.world_causes.specs.handing.Places.{snapshots-read}
-use Rattle.world_causes.specs.outcomes.Keeping.{IsOfTarget}
-use Rattle.world_causes.specs.restarts.EpochLaws.{rests-epochs}
-use Rattle.world_causes.specs.restarts.Resting.{failure-rests, given_up-rests, numbers-rests, opening-rests}
-use Rattle.world_commit.specs.attempts.History.{History}
-use Rattle.world_letters.specs.epochs.Epochs.{Epochs, IsIssued}
-use Rattle.world_letters.specs.snapshots.Makings.{IsSnapIn}
-use Rattle.world_making.specs.dates.Happening.{cut-dated, hears-dated, more-dated}
-use Rattle.world_making.specs.dates.Turning.{idles-dated}
-use Rattle.world_making.specs.freezings.Freezings.{IsOfSnap}
+use Rattle.world_upheld.specs.world_causes.handing.Places.{snapshots-read}
+use Rattle.world_upheld.specs.world_causes.outcomes.Keeping.{IsOfTarget}
+use Rattle.world_upheld.specs.world_causes.restarts.EpochLaws.{rests-epochs}
+use Rattle.world_upheld.specs.world_causes.restarts.Resting.{failure-rests, given_up-rests, numbers-rests, opening-rests}
+use Rattle.world_upheld.specs.world_commit.attempts.History.{History}
+use Rattle.world_upheld.specs.world_letters.epochs.Epochs.{Epochs, IsIssued}
+use Rattle.world_upheld.specs.world_letters.snapshots.Makings.{IsSnapIn}
+use Rattle.world_upheld.specs.world_making.dates.Happening.{cut-dated, hears-dated, more-dated}
+use Rattle.world_upheld.specs.world_making.dates.Turning.{idles-dated}
+use Rattle.world_upheld.specs.world_making.freezings.Freezings.{IsOfSnap}
 use Rattle.world_upheld.specs.order.Serving.{FrozenAreMade}
 use Rattle.world_upheld.specs.upheld.Heard.{HeardGrounds}
-use Rattle.world_letters.specs.lives.Issued.{issued-on}
+use Rattle.world_upheld.specs.world_letters.lives.Issued.{issued-on}
 
 module _ (r : Rules) (o : Opening) (h : History) (w u : World) (k : HeardGrounds r o h w) where
   -- epochs are as they are between events

@@ -7,16 +7,16 @@ use Rattle.model_laws.specs.Members.{Has, has-right}
 use Rattle.world_base.specs.declared.world.World.{World}
 use Rattle.world_base.specs.Events.{ByClient, ByTarget, ClientGoes, ClientHears, Rules, ToClient, ToTarget}
 use Rattle.world_base.specs.Stops.{Draws, Fails, Further, GivenUp, Happening, IsCut, Opens, Plainly, WorldEvent}
-use Rattle.world_causes.specs.hearing.Going.{AnswersAreServed, Before}
-use Rattle.world_causes.specs.outcomes.Keeping.{IsOfTarget}
-use Rattle.world_commit.specs.attempts.History.{GrowsBy, History, Served}
-use Rattle.world_commit.specs.fates.Facts.{Attempts}
-use Rattle.world_commit.specs.requests.Rows.{leaders-know}
-use Rattle.world_commit.specs.stops.Cuts.{later-keeps}
-use Rattle.world_letters.specs.clients.Snapshots.{is_at_snapshot}
-use Rattle.world_letters.specs.waits.Happenings as wait
-use Rattle.world_letters.specs.waits.Waits.{Conversation}
-use Rattle.world_making.specs.prunings.MakingGots.{all-events-keep_gots}
+use Rattle.world_upheld.specs.world_causes.hearing.Going.{AnswersAreServed, Before}
+use Rattle.world_upheld.specs.world_causes.outcomes.Keeping.{IsOfTarget}
+use Rattle.world_upheld.specs.world_commit.attempts.History.{GrowsBy, History, Served}
+use Rattle.world_upheld.specs.world_commit.fates.Facts.{Attempts}
+use Rattle.world_upheld.specs.world_commit.requests.Rows.{leaders-know}
+use Rattle.world_upheld.specs.world_commit.stops.Cuts.{later-keeps}
+use Rattle.world_upheld.specs.world_letters.clients.Snapshots.{is_at_snapshot}
+use Rattle.world_upheld.specs.world_letters.waits.Happenings as wait
+use Rattle.world_upheld.specs.world_letters.waits.Waits.{Conversation}
+use Rattle.world_upheld.specs.world_making.prunings.MakingGots.{all-events-keep_gots}
 use Rattle.world_upheld.specs.order.Clients.{clients-keep-order}
 use Rattle.world_upheld.specs.order.Known.{lines-are-known, readers-are-borne-firsts, writers-are-borne-firsts}
 use Rattle.world_upheld.specs.order.Passing.{OrderKnown, OrderStands, PassesOn, sweeping-keeps-order, targets-keep-order}

@@ -26,21 +26,21 @@ use Rattle.model_laws.specs.Members.{Has, contains-from_has, has-cases, has-from
 use Rattle.model_laws.specs.PlaceLaws.{leads-object}
 use Rattle.model_laws.specs.TargetLaws.{own-here}
 use Rattle.model_laws.specs.Targets.{is_own}
-use Rattle.world_commit.specs.attempts.Attempts.{HoldsAt, IsOther, entry_in, leader_of, writes_of}
-use Rattle.world_commit.specs.attempts.History.{Decided, History}
+use Rattle.world_upheld.specs.world_commit.attempts.Attempts.{HoldsAt, IsOther, entry_in, leader_of, writes_of}
+use Rattle.world_upheld.specs.world_commit.attempts.History.{Decided, History}
 use Rattle.world_base.specs.declared.target.TargetState.{TargetState}
 use Rattle.world_base.specs.declared.world.World.{World}
 use Rattle.world_base.specs.Events.{Rules}
-use Rattle.world_letters.specs.epochs.Epochs.{HasLine, IsPast, IsPresent, Epochs, IsIssued}
-use Rattle.world_contents.specs.gots.FormLaws.{ops-form, read-askable}
-use Rattle.world_contents.specs.gots.Right.{IsAskable}
-use Rattle.world_contents.specs.reads.Given.{FitsTargets, Given}
-use Rattle.world_contents.specs.reads.MemberLaws.{writes-member}
-use Rattle.world_contents.specs.reads.Versions.{IsWriteAt}
+use Rattle.world_upheld.specs.world_letters.epochs.Epochs.{HasLine, IsPast, IsPresent, Epochs, IsIssued}
+use Rattle.world_upheld.specs.world_contents.gots.FormLaws.{ops-form, read-askable}
+use Rattle.world_upheld.specs.world_contents.gots.Right.{IsAskable}
+use Rattle.world_upheld.specs.world_contents.reads.Given.{FitsTargets, Given}
+use Rattle.world_upheld.specs.world_contents.reads.MemberLaws.{writes-member}
+use Rattle.world_upheld.specs.world_contents.reads.Versions.{IsWriteAt}
 use Rattle.world_upheld.specs.below.Standing.{AreExternallyConsistent, BeganAfter, Conflict, HasSmallerEpoch, IsAnsweredBefore, IsAskedAs, IsBehind, IsCommitted, IsFar, IsFarOfFirst, IsLater, IsServedAt, IsStoredBehind, KeepsTheBound, MeetsAt, ReadsAt, WasAnswered, WritesAt, WritesWhere, asked-own, group-is_asked, line-served, meets, members-under, none-has, some-own}
 use Rattle.daos_model.specs.BoolLaws.{not_true}
-use Rattle.world_letters.specs.clients.Snapshots.{at-same, is_at_snapshot}
-use Rattle.world_making.specs.dates.Owning.{own-issued}
+use Rattle.world_upheld.specs.world_letters.clients.Snapshots.{at-same, is_at_snapshot}
+use Rattle.world_upheld.specs.world_making.dates.Owning.{own-issued}
 use Rattle.world_upheld.specs.order.Passing.{OrderStands}
 use Rattle.world_upheld.specs.upheld.Heard.{all-heard_right}
 use Rattle.world_upheld.specs.upheld.Upheld.{Upheld}

@@ -10,7 +10,7 @@ use Rattle.model_laws.specs.Members.{Has, has-from_contains}
 use Rattle.world_base.specs.declared.world.World.{World}
 use Rattle.world_base.specs.Events.{Rules}
 use Rattle.world_base.specs.Stops.{Begins, Goes, WorldRun}
-use Rattle.world_commit.specs.attempts.History.{History}
+use Rattle.world_upheld.specs.world_commit.attempts.History.{History}
 use Rattle.world_upheld.specs.below.Standing.{AreExternallyConsistent, AreInOrder, KeepsTheBound}
 use Rattle.world_upheld.specs.upheld.Begins.{AreRulesInForm, RunBeginsWith, held_at, no_history}
 use Rattle.world_upheld.specs.upheld.Runs.{held-first, upheld-begins}

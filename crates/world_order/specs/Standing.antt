@@ -4,8 +4,8 @@ use Rattle.daos_model.specs.declared.durable.Version.{Version}
 use Rattle.daos_model.specs.Opening.{Opening}
 use Rattle.world_base.specs.declared.world.World.{World}
 use Rattle.world_base.specs.Events.{Rules}
-use Rattle.world_commit.specs.attempts.History.{Grew, History, Served}
-use Rattle.world_contents.specs.gots.Gots.{Gots}
+use Rattle.world_upheld.specs.world_commit.attempts.History.{Grew, History, Served}
+use Rattle.world_upheld.specs.world_contents.gots.Gots.{Gots}
 use Rattle.world_upheld.specs.order.Passing.{OrderStands}
 use Rattle.world_upheld.specs.upheld.Upheld.{Upheld}
 

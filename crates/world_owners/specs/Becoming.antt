@@ -18,8 +18,8 @@ use Rattle.world_base.specs.Changes.{Change, Cut, Extends, Kept, Steps}
 use Rattle.world_base.specs.Commits as commit
 use Rattle.world_base.specs.Requests.{request_epoch}
 use Rattle.world_base.specs.TargetTurns.{commit_request}
-use Rattle.world_causes.specs.causes.Causes.{Dated}
-use Rattle.world_causes.specs.showing.CutTurns.{is_store}
+use Rattle.world_making.specs.world_causes.causes.Causes.{Dated}
+use Rattle.world_making.specs.world_causes.showing.CutTurns.{is_store}
 use Rattle.world_owners.specs.Changing.{IsLeftOf, left-cut, left-same, left-then}
 
 -- What a Commit brings its target: the entry that this leads, at the epoch of the request, and the writes of its groups. An epoch that the

@@ -22,9 +22,9 @@ use Rattle.daos_model.specs.Versions.{done_by, is_not_pending}
 use Rattle.world_base.specs.ChangeLaws.{LeaseRises, Raises, lease-same, lease-steps, lease-then}
 use Rattle.world_base.specs.Changes.{After, Before, Change, Creates, Cut, Extends, Freezes, InPart, IsPartly, Kept, Prepares, Prunes, Settles, Steps, made}
 use Rattle.world_base.specs.EntryLaws.{entry-aborted_other, entry-confirmed}
-use Rattle.world_commit.specs.attempts.Stored.{found-attempt}
-use Rattle.world_contents.specs.reads.ChangeLaws.{apart-of, entry-settled, open-other, other-entry, other-stays, still-open}
-use Rattle.world_contents.specs.reads.Versions.{IsPreparedAt}
+use Rattle.world_making.specs.world_commit.attempts.Stored.{found-attempt}
+use Rattle.world_making.specs.world_contents.reads.ChangeLaws.{apart-of, entry-settled, open-other, other-entry, other-stays, still-open}
+use Rattle.world_making.specs.world_contents.reads.Versions.{IsPreparedAt}
 
 -- ---- what is said
 

@@ -21,11 +21,11 @@ use Rattle.world_base.specs.ChangeLaws.{lease-same}
 use Rattle.world_base.specs.Events.{ByClient, ByTarget, Rules, ToClient, ToTarget, kept, listed, target_after, target_plan}
 use Rattle.world_base.specs.Letters.{target}
 use Rattle.world_base.specs.Stops.{AtWork, CutOf, Draws, Fails, Further, GivenUp, Happening, Hearing, IdleWork, IsCut, IsInHand, Opens, Plainly, WorldEvent}
-use Rattle.world_causes.specs.causes.Causes.{Dated, Stored, is_new_to, stored_as, stored_by}
-use Rattle.world_causes.specs.showing.Cutting.{work_stored}
-use Rattle.world_causes.specs.showing.Happening.{stored_in}
-use Rattle.world_commit.specs.attempts.Counting.{has-taken}
-use Rattle.world_contents.specs.reads.EventLaws.{at-or-there}
+use Rattle.world_making.specs.world_causes.causes.Causes.{Dated, Stored, is_new_to, stored_as, stored_by}
+use Rattle.world_making.specs.world_causes.showing.Cutting.{work_stored}
+use Rattle.world_making.specs.world_causes.showing.Happening.{stored_in}
+use Rattle.world_making.specs.world_commit.attempts.Counting.{has-taken}
+use Rattle.world_making.specs.world_contents.reads.EventLaws.{at-or-there}
 use Rattle.world_owners.specs.Changing.{IsLeftOf, left-itself, left-same}
 use Rattle.world_owners.specs.Becoming.{Becomes, Brings, IsLeft, IsStoredOn, becomes-so}
 use Rattle.world_owners.specs.Hearing.{cut-becomes, further-left, hears-becomes, idle-cut-left, idle-left}

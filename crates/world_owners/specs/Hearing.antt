@@ -21,10 +21,10 @@ use Rattle.world_base.specs.Prepares as prepare
 use Rattle.world_base.specs.Roles.{is_prepared, told_by}
 use Rattle.world_base.specs.Statuses.{status_refusal}
 use Rattle.world_base.specs.TargetTurns.{Hears, IdlesWhole, commit_request, fetch_request, prepare_request}
-use Rattle.world_causes.specs.showing.Cutting.{commit_stored, hearing_stored}
-use Rattle.world_causes.specs.showing.CutTurns.{is_prepared_stage, is_store_cut, stored_if}
-use Rattle.world_commit.specs.statuses.Heard.{is_of_attempts}
-use Rattle.world_commit.specs.stops.CutEvents.{is_without_snapshots}
+use Rattle.world_making.specs.world_causes.showing.Cutting.{commit_stored, hearing_stored}
+use Rattle.world_making.specs.world_causes.showing.CutTurns.{is_prepared_stage, is_store_cut, stored_if}
+use Rattle.world_making.specs.world_commit.statuses.Heard.{is_of_attempts}
+use Rattle.world_making.specs.world_commit.stops.CutEvents.{is_without_snapshots}
 use Rattle.world_owners.specs.Changing.{IsLeftOf}
 use Rattle.world_owners.specs.Turns.{ack-stores, cut-left, fetch-stores, idle-stores, look-stores, making-cut-left, making-left, mark-stores, marked-stores, query-stores, verdict-stores, whole-left}
 use Rattle.world_owners.specs.Becoming.{Becomes, Brings, IsLeft, IsOfCommit, becomes-so}

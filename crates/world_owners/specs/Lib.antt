@@ -7,3 +7,5 @@ pub mod Hearing
 pub mod Events
 pub mod Versions
 pub mod Owners
+-- What crates above name of those below, passed on to them.
+pub use Rattle.world_making.specs as world_making

@@ -18,7 +18,7 @@ use Rattle.daos_model.specs.BoolLaws.{both, clash}
 use Rattle.daos_model.specs.Durables.{entry_of, same_attempt}
 use Rattle.daos_model.specs.EntryLaws.{same_attempt-itself}
 use Rattle.daos_model.specs.Versions.{version_of}
-use Rattle.dtx_base.specs.Members.{is_written_at, writes_at}
+use Rattle.world_base.specs.dtx_base.Members.{is_written_at, writes_at}
 use Rattle.world_base.specs.declared.letter.Letter.{Letter}
 use Rattle.world_base.specs.declared.target.TargetState.{TargetState}
 use Rattle.world_base.specs.declared.world.World.{World}
@@ -27,17 +27,17 @@ use Rattle.world_base.specs.Events.{Rules, target_plan}
 use Rattle.world_base.specs.Letters.{target}
 use Rattle.world_base.specs.Stops.{WorldEvent}
 use Rattle.world_base.specs.TargetTurns.{commit_request}
-use Rattle.world_causes.specs.causes.Causes.{Dated, Stored}
-use Rattle.world_causes.specs.showing.Happening.{stored_in}
-use Rattle.world_commit.specs.attempts.Asked.{IsCommitNew}
-use Rattle.world_commit.specs.attempts.Attempts.{entry_at, entry_in, is_asked_by, leader_of, writes_of}
-use Rattle.world_commit.specs.attempts.History.{History}
-use Rattle.world_commit.specs.fates.Asked.{AskedRight}
-use Rattle.world_commit.specs.fates.Facts.{Attempts, IsPrepareRight, IsSaidSo}
-use Rattle.world_contents.specs.reads.Standing.{asked-prepares}
-use Rattle.world_contents.specs.reads.Versions.{IsPreparedAt, IsVersionOf, IsWriteAt}
+use Rattle.world_making.specs.world_causes.causes.Causes.{Dated, Stored}
+use Rattle.world_making.specs.world_causes.showing.Happening.{stored_in}
+use Rattle.world_making.specs.world_commit.attempts.Asked.{IsCommitNew}
+use Rattle.world_making.specs.world_commit.attempts.Attempts.{entry_at, entry_in, is_asked_by, leader_of, writes_of}
+use Rattle.world_making.specs.world_commit.attempts.History.{History}
+use Rattle.world_making.specs.world_commit.fates.Asked.{AskedRight}
+use Rattle.world_making.specs.world_commit.fates.Facts.{Attempts, IsPrepareRight, IsSaidSo}
+use Rattle.world_making.specs.world_contents.reads.Standing.{asked-prepares}
+use Rattle.world_making.specs.world_contents.reads.Versions.{IsPreparedAt, IsVersionOf, IsWriteAt}
 use Rattle.world_owners.specs.Events.{EventBrings, IsBrought, all-events-leave_or_store}
-use Rattle.world_letters.specs.lives.Issued.{issued-stays}
+use Rattle.world_making.specs.world_letters.lives.Issued.{issued-stays}
 use Rattle.world_owners.specs.Becoming.{Brings, IsOfCommit}
 use Rattle.world_owners.specs.Versions.{DisregardsDone, HoldsAt, IsNewAt, all-events-keep_prepared, all-events-keep_versions, all-events-raise_leases}
 

@@ -26,9 +26,9 @@ use Rattle.world_base.specs.Prepares as prepare
 use Rattle.world_base.specs.Requests.{issued_for, request_epoch}
 use Rattle.world_base.specs.TurnLaws.{commit-plain}
 use Rattle.world_base.specs.Turns.{Whole}
-use Rattle.world_causes.specs.causes.Causes.{Dated}
-use Rattle.world_causes.specs.restarts.Cuts.{cut-keeps}
-use Rattle.world_causes.specs.showing.CutTurns.{is_prepared_stage, is_store_cut}
+use Rattle.world_making.specs.world_causes.causes.Causes.{Dated}
+use Rattle.world_making.specs.world_causes.restarts.Cuts.{cut-keeps}
+use Rattle.world_making.specs.world_causes.showing.CutTurns.{is_prepared_stage, is_store_cut}
 use Rattle.world_owners.specs.Changing.{IsLeftOf}
 use Rattle.world_owners.specs.Becoming.{Becomes, IsExtended, IsLeft, IsOfCommit, IsStored, IsStoredOn, StepIsCut, extended-itself, extended-more, extended-same, extending-cut, is_store_step, left-extended}
 

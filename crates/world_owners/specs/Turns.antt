@@ -27,8 +27,8 @@ use Rattle.world_base.specs.Reads as read
 use Rattle.world_base.specs.Statuses.{Looks, NoChange}
 use Rattle.world_base.specs.Turns.{Path, Whole}
 use Rattle.world_base.specs.Verdicts as verdict
-use Rattle.world_commit.specs.statuses.Heard.{is_of_attempts}
-use Rattle.world_commit.specs.stops.CutEvents.{is_without_snapshots}
+use Rattle.world_making.specs.world_commit.statuses.Heard.{is_of_attempts}
+use Rattle.world_making.specs.world_commit.stops.CutEvents.{is_without_snapshots}
 use Rattle.world_making.specs.making.Making as making
 use Rattle.world_making.specs.making.Making.{MakingNext, making_begins, making_issues}
 use Rattle.world_making.specs.making.Turns.{cuts-leave, hearings-leave}

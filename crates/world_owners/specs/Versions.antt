@@ -17,8 +17,8 @@ use Rattle.world_base.specs.declared.world.World.{World}
 use Rattle.world_base.specs.ChangeLaws.{LeaseRises, lease-prepared, lease-same, lease-then}
 use Rattle.world_base.specs.Events.{Rules}
 use Rattle.world_base.specs.Stops.{WorldEvent}
-use Rattle.world_contents.specs.reads.StoreLaws.{entry-kept}
-use Rattle.world_contents.specs.reads.Versions.{IsPreparedAt}
+use Rattle.world_making.specs.world_contents.reads.StoreLaws.{entry-kept}
+use Rattle.world_making.specs.world_contents.reads.Versions.{IsPreparedAt}
 use Rattle.world_owners.specs.Changing.{AllPrepared, WasKept, prepared-same, was-kept}
 use Rattle.world_owners.specs.Events.{Became, EventBrings, all-events-leave_or_store}
 use Rattle.world_owners.specs.Becoming.{Becomes, IsLeft, IsStored, IsStoredOn}

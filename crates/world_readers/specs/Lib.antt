@@ -4,3 +4,5 @@ pub mod stamps
 pub mod lines
 pub mod forms
 pub mod kinds
+-- What crates above name of those below, passed on to them.
+pub use Rattle.world_ended.specs as world_ended

@@ -46,11 +46,11 @@ use Rattle.world_base.specs.declared.client.Present.{Present}
 use Rattle.world_base.specs.declared.world.World.{World}
 use Rattle.world_base.specs.ClientTurns.{about, attempt_id, is_about}
 use Rattle.world_base.specs.Events.{ClientHears, Rules, client_plan}
-use Rattle.world_causes.specs.causes.Causes.{Stored}
-use Rattle.world_causes.specs.causes.HearingLaws.{LossStands, LossesStand}
-use Rattle.world_causes.specs.causes.Shown.{IsOpenTo, IsUnknown, LeaderStopped, MeetsUnresolved, MessageStands, NotAnswered, OutcomeStands}
-use Rattle.world_commit.specs.attempts.Attempts.{writes_of}
-use Rattle.world_commit.specs.attempts.Counting.{has-taken}
+use Rattle.world_upheld.specs.world_causes.causes.Causes.{Stored}
+use Rattle.world_upheld.specs.world_causes.causes.HearingLaws.{LossStands, LossesStand}
+use Rattle.world_upheld.specs.world_causes.causes.Shown.{IsOpenTo, IsUnknown, LeaderStopped, MeetsUnresolved, MessageStands, NotAnswered, OutcomeStands}
+use Rattle.world_upheld.specs.world_commit.attempts.Attempts.{writes_of}
+use Rattle.world_upheld.specs.world_commit.attempts.Counting.{has-taken}
 use Rattle.world_letters.specs.clients.Snapshots.{is_at_snapshot}
 use Rattle.world_letters.specs.epochs.Epochs.{Epochs, HasLine, IsIssued, IsPresent, ItsOwn}
 use Rattle.world_letters.specs.lines.Lines.{Lines}

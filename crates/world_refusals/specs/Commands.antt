@@ -24,8 +24,8 @@ use Rattle.vos_store.specs.declared.refusal.FreezeNo.TheVariants as freeze
 use Rattle.world_base.specs.declared.target.TargetPlan.{TargetPlan}
 use Rattle.world_base.specs.Events.{Rules}
 use Rattle.world_base.specs.Snapshots.{freeze_cause, freeze_refusal, refusal_of}
-use Rattle.world_causes.specs.handing.Places.{snapshots-read}
-use Rattle.world_commit.specs.attempts.Attempts.{writes_of}
+use Rattle.world_upheld.specs.world_causes.handing.Places.{snapshots-read}
+use Rattle.world_upheld.specs.world_commit.attempts.Attempts.{writes_of}
 use Rattle.world_letters.specs.clients.Snapshots.{is_at_snapshot}
 use Rattle.world_letters.specs.epochs.Epochs.{is_making, makes}
 use Rattle.world_letters.specs.snapshots.Makings.{IsSnapIn}

@@ -32,12 +32,12 @@ use Rattle.world_base.specs.StepLaws.{by-hearing, by-next}
 use Rattle.world_base.specs.Steps.{KeptByCounting, KeptByHearing, KeptByMoves, after_move, without}
 use Rattle.world_base.specs.Stops.{Draws, Fails, Further, GivenUp, Happening, IsCut, Opens, Plainly, WorldEvent, is_not_to, is_not_to_down, is_to, is_to_down, reset_letter, resets, swept}
 use Rattle.world_base.specs.TargetTurns.{fetch_request}
-use Rattle.world_causes.specs.hearing.PlainTurns.{others-write}
-use Rattle.world_commit.specs.attempts.Counting.{has-left_over, has-taken}
-use Rattle.world_commit.specs.attempts.History.{History}
-use Rattle.world_commit.specs.fates.Facts.{IsPrepareRight, IsSaidSo}
-use Rattle.world_commit.specs.stops.Questions.{question-is}
-use Rattle.world_contents.specs.reads.Given.{Given, IsMessageRight, IsParkedRight, IsReadEpoch, IsWaitingRight}
+use Rattle.world_upheld.specs.world_causes.hearing.PlainTurns.{others-write}
+use Rattle.world_upheld.specs.world_commit.attempts.Counting.{has-left_over, has-taken}
+use Rattle.world_upheld.specs.world_commit.attempts.History.{History}
+use Rattle.world_upheld.specs.world_commit.fates.Facts.{IsPrepareRight, IsSaidSo}
+use Rattle.world_upheld.specs.world_commit.stops.Questions.{question-is}
+use Rattle.world_upheld.specs.world_contents.reads.Given.{Given, IsMessageRight, IsParkedRight, IsReadEpoch, IsWaitingRight}
 use Rattle.world_letters.specs.endings.Clients.{IsQuestion, heard-asks}
 use Rattle.world_letters.specs.epochs.Epochs.{IsReadOf}
 use Rattle.world_letters.specs.talks.AskLaws.{move-is, waiting-rests}

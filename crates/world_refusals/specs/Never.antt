@@ -12,8 +12,8 @@ use Rattle.model_reports.specs.Lone.{HasOneClient}
 use Rattle.world_base.specs.declared.world.World.{World}
 use Rattle.world_base.specs.Events.{ByClient, ByTarget, Event, Rules, ToClient, ToTarget, kept, target_plan, with_epoch}
 use Rattle.world_base.specs.Stops.{Begins, Draws, Fails, Further, GivenUp, Goes, Happening, IsCut, Opens, Plainly, WorldRun, restart_line}
-use Rattle.world_causes.specs.causes.Causes.{Stored}
-use Rattle.world_commit.specs.attempts.History.{History}
+use Rattle.world_upheld.specs.world_causes.causes.Causes.{Stored}
+use Rattle.world_upheld.specs.world_commit.attempts.History.{History}
 use Rattle.world_upheld.specs.below.Legal.{runs-as_many, stored_over}
 use Rattle.world_letters.specs.lives.Events.{as-added}
 use Rattle.world_letters.specs.lives.TurnLines.{further-lines, idle-lines, plain-lines}

@@ -41,7 +41,7 @@ use Rattle.world_base.specs.Prepares as prepare
 use Rattle.world_base.specs.Roles.{is_prepared, leader_at, member_at, told_by, told_of_all, with_unsettled}
 use Rattle.world_base.specs.TargetTurns.{Hears, commit_request, fetch_request, prepare_request}
 use Rattle.world_base.specs.Verdicts as verdict
-use Rattle.world_commit.specs.attempts.Attempts.{writes_of}
+use Rattle.world_upheld.specs.world_commit.attempts.Attempts.{writes_of}
 use Rattle.world_refusals.specs.Commands.{writer-goes}
 use Rattle.world_refusals.specs.Posts.{PostsFit, both-fit, mapped-fit, none-fits, one-fits, single-fits, these-fit}
 use Rattle.world_refusals.specs.Reads.{IsAskFit, IsAskedFitly, fetch-fits, verdict-fits}

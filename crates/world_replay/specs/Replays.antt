@@ -18,8 +18,8 @@ use Rattle.base_messages.specs.declared.message.Message.TheVariants as message
 use Rattle.daos_model.specs.declared.durable.Durable.{Durable}
 use Rattle.daos_model.specs.Durables.{entry_of}
 use Rattle.daos_model.specs.Opening.{Opening}
-use Rattle.replay_base.specs.Heard as replay
-use Rattle.replay_base.specs.Heard.{is_led_here}
+use Rattle.world_list.specs.replay_base.Heard as replay
+use Rattle.world_list.specs.replay_base.Heard.{is_led_here}
 use Rattle.world_base.specs.declared.target.TargetMemory.{TargetMemory}
 use Rattle.world_base.specs.declared.target.TargetPlan.{TargetPlan}
 use Rattle.world_base.specs.declared.target.TargetState.{TargetState}

@@ -15,7 +15,7 @@ use Rattle.run_laws.specs.shows.Parts.{at-both}
 use Rattle.run_laws.specs.shows.Serving.{served-by-fuse}
 use Rattle.run_watch.specs.Watches.{WatchNow, first_watch, next_fuse}
 use Rattle.target_core.specs.Targets.{TargetOf}
-use Rattle.target_parts.specs.Readings.{IsReadOn, not-read_on}
+use Rattle.run_opening.specs.target_parts.Readings.{IsReadOn, not-read_on}
 use Rattle.vos_store.specs.Calls.{State}
 use Rattle.world_base.specs.declared.target.Life.TheVariants.{Running}
 use Rattle.run_laws.specs.ends.Arming.{AreArmed, HaveFuses, lines_left}

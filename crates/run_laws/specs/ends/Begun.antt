@@ -26,9 +26,9 @@ use Rattle.world_base.specs.declared.target.TargetMemory.{TargetMemory}
 use Rattle.world_base.specs.Events.{target_plan}
 use Rattle.world_base.specs.Stops.{Begins}
 use Rattle.world_closing.specs.Rules.{rules_of}
-use Rattle.world_contents.specs.posts.Forms.{ClientsAwait, ClientsWait}
+use Rattle.run_opening.specs.world_contents.posts.Forms.{ClientsAwait, ClientsWait}
 use Rattle.world_closing.specs.Below.{first_tracker, no_leading}
-use Rattle.world_contents.specs.posts.KnownSnapshots.{ReadsKnown, reads-known-begin}
+use Rattle.run_opening.specs.world_contents.posts.KnownSnapshots.{ReadsKnown, reads-known-begin}
 use Rattle.world_base.specs.ClientTurns.{at_first}
 use Rattle.run_laws.specs.ends.Places.{from-map, maps-replicate, one-there, replicate-at}
 use Rattle.run_laws.specs.shows.Beginning.{RunBegins}

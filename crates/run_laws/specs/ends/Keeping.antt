@@ -32,7 +32,7 @@ use Rattle.run_laws.specs.shows.Beginning.{RunBegins}
 use Rattle.run_opening.specs.Opened.{IsFloored}
 use Rattle.world_closing.specs.stands.Runs.{all-runs-keep_floors, all-runs-keep_sound, all-runs-stand}
 use Rattle.world_closing.specs.stands.Stands.{HoldsOpenings}
-use Rattle.world_contents.specs.reads.Transactions.{decided_of}
+use Rattle.run_opening.specs.world_contents.reads.Transactions.{decided_of}
 use Rattle.run_laws.specs.ends.Arming.{HaveFuses}
 use Rattle.run_laws.specs.ends.Begun.{IsFirstWatch, first-drawn, first_stage, shows-first, told-is, told-there}
 use Rattle.run_laws.specs.ends.Comes.{AreKept, BreaksOffSo, IsSoundAgain, MayBeFound}

@@ -14,7 +14,7 @@ use Rattle.model_laws.specs.Decided.{AreDecided, Decided, taken_in}
 use Rattle.world_base.specs.declared.world.World.{World}
 use Rattle.world_base.specs.Events.{Rules}
 use Rattle.world_closing.specs.stands.Stands.{IsMadeHere, StandsForAll}
-use Rattle.world_contents.specs.reads.Transactions.{decided_of}
+use Rattle.run_opening.specs.world_contents.reads.Transactions.{decided_of}
 use Rattle.world_letters.specs.snapshots.Makings.{IsSnapIn}
 use Rattle.world_closing.specs.Below.{durables_of}
 

@@ -52,11 +52,11 @@ use Rattle.world_commit.specs.questions.Known.{knows-fates}
 use Rattle.world_commit.specs.questions.Leaving.{drawing-leaves, failing-leaves, given_up-leaves, opening-leaves, sweeping-leaves}
 use Rattle.world_commit.specs.questions.Sending.{MoreInquired, NowDown, StillThere, more-inquired, more-sends}
 use Rattle.world_commit.specs.questions.Stopping.{IsLoss, cut_loss, drawing_loss, failing_loss, given_up_loss, opening_loss, sweeping_loss}
-use Rattle.world_making.specs.fates.Sends.{is_sent_in_making, making-sent}
-use Rattle.world_making.specs.making.Kinds.{of-attempts}
-use Rattle.world_making.specs.making.Making.{IsOfMaking, MakingLeaves, tells_of_snapshots}
-use Rattle.world_making.specs.making.Turns.{hearings-leave}
-use Rattle.world_making.specs.questions.Sends.{query-unsent}
+use Rattle.world_closing.specs.world_making.fates.Sends.{is_sent_in_making, making-sent}
+use Rattle.world_closing.specs.world_making.making.Kinds.{of-attempts}
+use Rattle.world_closing.specs.world_making.making.Making.{IsOfMaking, MakingLeaves, tells_of_snapshots}
+use Rattle.world_closing.specs.world_making.making.Turns.{hearings-leave}
+use Rattle.world_closing.specs.world_making.questions.Sends.{query-unsent}
 use Rattle.world_closing.specs.Below.{no-collections}
 
 -- ---- what comes

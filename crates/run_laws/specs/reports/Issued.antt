@@ -14,7 +14,7 @@ use Rattle.world_closing.specs.forming.Epochs.{first, sees}
 use Rattle.world_commit.specs.attempts.History.{History}
 use Rattle.world_closing.specs.Below.{AreRulesInForm, Grounds, RunBeginsWith, begins-well, report_over, runs-have_grounds}
 use Rattle.world_letters.specs.epochs.Epochs.{IsEpochOf, IsIssued, IsOwn, IsSeen}
-use Rattle.world_making.specs.freezings.Freezings.{IsOfSnap}
+use Rattle.world_closing.specs.world_making.freezings.Freezings.{IsOfSnap}
 use Rattle.world_closing.specs.Rules.{rules_of}
 use Rattle.run_laws.specs.reports.Legal.{events}
 use Rattle.run_laws.specs.reports.Reports.{AreIssuedSince, OrdersIssueThere}

@@ -44,7 +44,7 @@ use Rattle.world_base.specs.Ended.{HasEnded}
 use Rattle.world_base.specs.Events.{Rules}
 use Rattle.world_base.specs.Letters.{target}
 use Rattle.world_base.specs.Stops.{WorldRun}
-use Rattle.world_causes.specs.causes.Causes.{Stored}
+use Rattle.world_closing.specs.world_causes.causes.Causes.{Stored}
 use Rattle.world_commit.specs.fates.Facts.{IsSaidSo, down_in}
 use Rattle.world_letters.specs.lives.Lives.{standing_of}
 use Rattle.world_commit.specs.questions.Facts.{IsAsked, IsNamed, IsOnNaming, IsOnQuery, IsTold, IsToldOrStopped, LeaderStopped}

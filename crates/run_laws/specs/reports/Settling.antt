@@ -36,21 +36,21 @@ use Rattle.world_base.specs.Further.{HearsFurther}
 use Rattle.world_base.specs.StepLaws.{by-hearing, by-next, set-here, set-there}
 use Rattle.world_base.specs.Steps.{KeptByCounting, KeptByHearing, KeptByMoves}
 use Rattle.world_base.specs.Stops.{Begins, Draws, Fails, Further, GivenUp, Goes, Happening, HearsMore, IsCut, Opens, Plainly, WorldEvent, WorldRun}
-use Rattle.world_causes.specs.causes.Causes.{Stored}
+use Rattle.world_closing.specs.world_causes.causes.Causes.{Stored}
 use Rattle.world_commit.specs.fates.Facts.{Attempts}
 use Rattle.world_commit.specs.fates.Rightly.{letters-tell}
-use Rattle.world_causes.specs.handing.Handing.{asks-right, commits-of_clients, hands-over}
+use Rattle.world_closing.specs.world_causes.handing.Handing.{asks-right, commits-of_clients, hands-over}
 use Rattle.world_letters.specs.lines.LastLines.{AreDone}
-use Rattle.world_causes.specs.outcomes.AfterStops.{after_stop-concludes, is_after_stop}
-use Rattle.world_causes.specs.outcomes.Concluding.{Concludes, IsTaken}
-use Rattle.world_causes.specs.outcomes.Keeping.{IsOfTarget}
-use Rattle.world_causes.specs.outcomes.Making.{is_making_message, making-concludes}
-use Rattle.world_causes.specs.outcomes.Outcomes.{Outcomes}
-use Rattle.world_causes.specs.outcomes.Premises.{AsksGoRight, CommitsAreOfClients, MakersWriteNothing}
-use Rattle.world_causes.specs.outcomes.Rightly.{idling-concludes, rightly-concludes}
-use Rattle.world_causes.specs.outcomes.Stopping.{cut-concludes, cut-told, drawing-concludes, failing-concludes, giving-up-concludes, opening-concludes}
-use Rattle.world_causes.specs.showing.Happening.{stored_in}
-use Rattle.world_making.specs.makers.Events.{makers-write}
+use Rattle.world_closing.specs.world_causes.outcomes.AfterStops.{after_stop-concludes, is_after_stop}
+use Rattle.world_closing.specs.world_causes.outcomes.Concluding.{Concludes, IsTaken}
+use Rattle.world_closing.specs.world_causes.outcomes.Keeping.{IsOfTarget}
+use Rattle.world_closing.specs.world_causes.outcomes.Making.{is_making_message, making-concludes}
+use Rattle.world_closing.specs.world_causes.outcomes.Outcomes.{Outcomes}
+use Rattle.world_closing.specs.world_causes.outcomes.Premises.{AsksGoRight, CommitsAreOfClients, MakersWriteNothing}
+use Rattle.world_closing.specs.world_causes.outcomes.Rightly.{idling-concludes, rightly-concludes}
+use Rattle.world_closing.specs.world_causes.outcomes.Stopping.{cut-concludes, cut-told, drawing-concludes, failing-concludes, giving-up-concludes, opening-concludes}
+use Rattle.world_closing.specs.world_causes.showing.Happening.{stored_in}
+use Rattle.world_closing.specs.world_making.makers.Events.{makers-write}
 use Rattle.world_commit.specs.requests.Staying.{requests-happen}
 use Rattle.world_commit.specs.statuses.Events.{told_by}
 use Rattle.world_commit.specs.statuses.Fates.{told_by_it}

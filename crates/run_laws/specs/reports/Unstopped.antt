@@ -29,7 +29,7 @@ use Rattle.world_base.specs.Events.{Rules}
 use Rattle.world_closing.specs.Below.{IsOver, other-there, report_over, durables_of}
 use Rattle.world_closing.specs.stands.Stands.{HoldsOpenings}
 use Rattle.world_commit.specs.attempts.Attempts.{IsHeld, IsSettled, entry_in, IsMember}
-use Rattle.world_contents.specs.reads.ChangeLaws.{entry-among}
+use Rattle.run_opening.specs.world_contents.reads.ChangeLaws.{entry-among}
 use Rattle.world_letters.specs.lives.Legal.{AreCaused}
 use Rattle.world_closing.specs.Rules.{rules_of}
 

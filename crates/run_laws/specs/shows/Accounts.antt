@@ -6,7 +6,7 @@ use Rattle.daos_model.specs.declared.durable.Durable.{Durable}
 use Rattle.daos_model.specs.Stops.{down_targets, is_stop_at, lines_at, stop_numbers}
 use Rattle.run_laws.specs.shows.Stages.{StageNow}
 use Rattle.target_core.specs.Targets.{TargetOf}
-use Rattle.target_parts.specs.Readings.{IsReadOn}
+use Rattle.run_opening.specs.target_parts.Readings.{IsReadOn}
 use Rattle.vos_store.specs.Calls.{State}
 
 -- ---- stores and clocks

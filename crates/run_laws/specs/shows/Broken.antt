@@ -9,7 +9,7 @@ use Rattle.std.proofs.lemmas.Bool.{cases_eq}
 use Rattle.daos_model.specs.declared.durable.Durable.{Durable}
 use Rattle.run_base.specs.Letters.{BetweenNow}
 use Rattle.target_core.specs.Targets.{TargetOf}
-use Rattle.target_parts.specs.declared.stop.TargetStop.TheVariants as stop
+use Rattle.run_opening.specs.target_parts.declared.stop.TargetStop.TheVariants as stop
 use Rattle.vos_store.specs.Calls.{State}
 use Rattle.world_base.specs.declared.target.Life.{Life}
 use Rattle.world_base.specs.declared.target.Life.TheVariants.{Down, Running, Stopped}

@@ -1,5 +1,5 @@
 -- Actors that can have their turns, whatever their stores tell.
-use Rattle.world_contents.specs.posts.KnownSnapshots.{ReadsKnown}
+use Rattle.run_opening.specs.world_contents.posts.KnownSnapshots.{ReadsKnown}
 use Rattle.std.specs.Prelude.{ℕ, ◌≡◌, ◌+◌, ◌<◌, ◌^◌, List, false, true, length, slice_get, Contains, Option, Some}
 use Rattle.std.specs.Option.{ForSome}
 use Rattle.client_core.specs.Clients.{ClientNow}
@@ -8,13 +8,13 @@ use Rattle.run_base.specs.Letters.{IsPicked}
 use Rattle.run_laws.specs.shows.Shows.{IsGoing}
 use Rattle.run_laws.specs.shows.Stages.{IsPlace, StageNow}
 use Rattle.target_core.specs.Targets.{CanHear, TargetOf}
-use Rattle.target_parts.specs.Knowing.{IsHeard}
+use Rattle.run_opening.specs.target_parts.Knowing.{IsHeard}
 use Rattle.vos_store.specs.Calls.{State}
 use Rattle.world_base.specs.declared.letter.Letter.{Letter}
 use Rattle.world_base.specs.declared.target.Life.TheVariants.{Running, Stopped}
 use Rattle.world_base.specs.Events.{Rules, client_plan, target_plan}
 use Rattle.world_base.specs.Letters.{target}
-use Rattle.world_contents.specs.posts.Forms.{ClientsAwait, IsInForm, IsLetter, is_of_client}
+use Rattle.run_opening.specs.world_contents.posts.Forms.{ClientsAwait, IsInForm, IsLetter, is_of_client}
 use Rattle.world_closing.specs.Below.{AreRulesInForm}
 
 -- a target that runs has opened, its store isn't stopped, and it is clients that wait there for the end of attempts

@@ -16,8 +16,8 @@ use Rattle.world_base.specs.declared.target.Life.{Life}
 use Rattle.world_base.specs.declared.target.Life.TheVariants.{Running}
 use Rattle.world_base.specs.Events.{Rules, client_plan}
 use Rattle.world_letters.specs.clients.AnswerLaws.{Tells}
-use Rattle.world_ended.specs.Asking.{Asked, GoesWith, RemembersWith}
-use Rattle.world_ended.specs.Clients.{AllEndWell, IsAskingClient}
+use Rattle.target_core.specs.world_ended.Asking.{Asked, GoesWith, RemembersWith}
+use Rattle.target_core.specs.world_ended.Clients.{AllEndWell, IsAskingClient}
 
 -- letters go with what clients asked to commit
 abbrev pub LettersGoWith : Asked → List Letter → Type 0

@@ -1,5 +1,5 @@
 -- Attempts end well, whatever turns follow one another.
-use Rattle.target_snaps.specs.Following.{TellsNoAttempt}
+use Rattle.target_core.specs.target_snaps.Following.{TellsNoAttempt}
 use Rattle.std.specs.Prelude.{ℕ, ◌≡◌, ◌++◌, Bool, true, false, All, List, [], ◌∷◌, filter, map, slice_get, slice_set, Option, Some, None, Result, Err, IfOk, refl}
 use Rattle.std.proofs.Common.{inl, inr, sym, ◌∙◌, ap, subst, arith}
 use Rattle.std.proofs.lemmas.Bool.{cases_eq}
@@ -36,8 +36,8 @@ use Rattle.run_laws.specs.shows.Steps.{ClientTurned, ClientWorks, Cut, HeardOne,
 use Rattle.run_laws.specs.shows.Turned.{AfterFailure, AfterStop, ByForeign, ByHearing, ByIdling, ByStop, Failed, IsTurned, LastTime, NotFailed, followed, given_up_stage, stopped_stage, swept_between, swept_stage, with_between, with_client_at, with_target_at}
 use Rattle.run_watch.specs.Watches.{fuse_set, opened_again, opening_tried}
 use Rattle.target_core.specs.Targets.{TargetOf}
-use Rattle.target_parts.specs.declared.stop.TargetStop.{TargetStop}
-use Rattle.target_resync.specs.Openings.{TellsRestart}
+use Rattle.run_opening.specs.target_parts.declared.stop.TargetStop.{TargetStop}
+use Rattle.target_core.specs.target_resync.Openings.{TellsRestart}
 use Rattle.vos_store.specs.Calls.{State}
 use Rattle.world_base.specs.declared.client.ClientPlan.{ClientPlan}
 use Rattle.world_base.specs.declared.client.ClientState.{ClientState}
@@ -54,9 +54,9 @@ use Rattle.world_letters.specs.clients.AnswerLaws.{Tells}
 use Rattle.world_letters.specs.clients.Answered.{EndsAsAnswered, EndsWell, IsAnsweredHere, ops_here}
 use Rattle.world_letters.specs.clients.MoveLaws.{clients-begin}
 use Rattle.world_letters.specs.clients.Standing.{number_of}
-use Rattle.world_ended.specs.Asking.{Asked, GoesWith, PostsGoWith, RemembersWith, TurnLeavesWith, TurnsEndAsked}
-use Rattle.world_ended.specs.Clients.{AllEndWell, AreMore, HasEndedWell, LeavesWell}
-use Rattle.world_ended.specs.ClientLaws.{asking-others, clients-begin-asking, goes-more, hear-turn-well, next-turn-well, reset-goes}
+use Rattle.target_core.specs.world_ended.Asking.{Asked, GoesWith, PostsGoWith, RemembersWith, TurnLeavesWith, TurnsEndAsked}
+use Rattle.target_core.specs.world_ended.Clients.{AllEndWell, AreMore, HasEndedWell, LeavesWell}
+use Rattle.target_core.specs.world_ended.ClientLaws.{asking-others, clients-begin-asking, goes-more, hear-turn-well, next-turn-well, reset-goes}
 use Rattle.world_letters.specs.lines.FilledLaws.{stands-of, tries-filled}
 use Rattle.world_letters.specs.lines.Lines.{filled}
 

@@ -1,5 +1,5 @@
 -- Actors that can have their turns can have them after a turn.
-use Rattle.world_contents.specs.posts.KnownSnapshots.{ReadsKnown}
+use Rattle.run_opening.specs.world_contents.posts.KnownSnapshots.{ReadsKnown}
 use Rattle.std.specs.Prelude.{ℕ, ◌≡◌, ◌≤◌, ◌<◌, ◌+◌, ◌==◌, ◌^◌, length, slice_get, slice_set, Bool, true, false, Option, Some, refl, if◌then◌else◌}
 use Rattle.std.proofs.Common.{inl, inr, sym, ◌∙◌, ap, subst, arith}
 use Rattle.std.proofs.lemmas.Bool.{cases_eq}

@@ -1,5 +1,5 @@
 -- What the lines tell of each client's commands begins in turn, whatever turns follow one another.
-use Rattle.target_snaps.specs.Following.{TellsNoAttempt}
+use Rattle.target_core.specs.target_snaps.Following.{TellsNoAttempt}
 use Rattle.std.specs.Prelude.{ℕ, ◌≡◌, ◌<◌, ◌++◌, Bool, List, [], ◌∷◌, filter, length, map, slice_get, slice_set, Option, Some, None, Result, Err, IfOk, refl}
 use Rattle.std.proofs.Common.{append-nil, inl, inr, sym, ◌∙◌, ap, subst}
 use Rattle.std.proofs.lemmas.Bool.{cases_eq}
@@ -21,8 +21,8 @@ use Rattle.run_laws.specs.shows.Steps.{ClientTurned, ClientWorks, Cut, HeardOne,
 use Rattle.run_laws.specs.shows.Turned.{AfterFailure, AfterStop, ByForeign, ByHearing, ByIdling, ByStop, Failed, IsTurned, LastTime, NotFailed, followed, swept_stage, with_between, with_client_at}
 use Rattle.run_watch.specs.Watches.{opening_tried}
 use Rattle.target_core.specs.Targets.{TargetOf}
-use Rattle.target_parts.specs.declared.stop.TargetStop.{TargetStop}
-use Rattle.target_resync.specs.Openings.{TellsRestart}
+use Rattle.run_opening.specs.target_parts.declared.stop.TargetStop.{TargetStop}
+use Rattle.target_core.specs.target_resync.Openings.{TellsRestart}
 use Rattle.vos_store.specs.Calls.{State}
 use Rattle.world_base.specs.declared.did.Did.{Did}
 use Rattle.world_base.specs.ClientTurns.{HearTurn, NextTurn}

@@ -1,5 +1,5 @@
 -- What lines tell of answers and conditions fits, whatever turns follow one another.
-use Rattle.target_snaps.specs.Following.{TellsNoAttempt}
+use Rattle.target_core.specs.target_snaps.Following.{TellsNoAttempt}
 use Rattle.std.specs.Prelude.{ℕ, zero, suc, ◌≡◌, ◌≤◌, ◌+◌, ◌++◌, Bool, true, false, All, List, [], ◌∷◌, filter, map, slice_get, slice_set, Option, Some, None, Result, Ok, Err, IfOk, is_ok, ◌==◌, refl, if◌then◌else◌}
 use Rattle.std.proofs.Common.{inl, inr, sym, ◌∙◌, ap, subst, arith}
 use Rattle.std.proofs.lemmas.Bool.{cases_eq}
@@ -30,8 +30,8 @@ use Rattle.run_laws.specs.shows.Steps.{ClientTurned, ClientWorks, Cut, HeardOne,
 use Rattle.run_laws.specs.shows.Turned.{AfterFailure, AfterStop, ByForeign, ByHearing, ByIdling, ByStop, Failed, IsTurned, LastTime, NotFailed, failed_stage, followed, given_up_stage, stopped_stage, swept_between, swept_stage, with_between, with_client_at, with_target_at}
 use Rattle.run_watch.specs.Watches.{WatchNow, after_fault, fuse_set, opened_again, opening_tried}
 use Rattle.target_core.specs.Targets.{TargetOf}
-use Rattle.target_parts.specs.declared.stop.TargetStop.{TargetStop}
-use Rattle.target_resync.specs.Openings.{TellsRestart}
+use Rattle.run_opening.specs.target_parts.declared.stop.TargetStop.{TargetStop}
+use Rattle.target_core.specs.target_resync.Openings.{TellsRestart}
 use Rattle.vos_store.specs.Calls.{State}
 use Rattle.world_letters.specs.kinds.PostLaws.{CarryNone}
 use Rattle.world_base.specs.declared.did.Did.{Did}

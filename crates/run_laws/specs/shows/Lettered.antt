@@ -17,8 +17,8 @@ use Rattle.world_base.specs.declared.target.TargetPlan.{TargetPlan}
 use Rattle.std.specs.List.{after_first, before_first, position_or_len}
 use Rattle.world_base.specs.Letters.{asked_after, asked_with, is_answer_to, is_answerable, letter_of, letters_of}
 use Rattle.world_base.specs.Stops.{is_not_to, is_to, reset_letter, resets}
-use Rattle.world_contents.specs.posts.FormLaws.{resets-are-letters}
-use Rattle.world_contents.specs.posts.Forms.{IsLetter}
+use Rattle.run_opening.specs.world_contents.posts.FormLaws.{resets-are-letters}
+use Rattle.run_opening.specs.world_contents.posts.Forms.{IsLetter}
 
 has-take : (n : ℕ) (xs : List Letter) (l : Letter) → Has l (take n xs) → Has l xs
 has-take zero xs l i = absurd i

@@ -19,7 +19,7 @@ use Rattle.run_laws.specs.shows.Turned.{followed, swept_stage}
 use Rattle.run_laws.specs.turns.Turns.{Acts, Opening}
 use Rattle.run_watch.specs.Watches.{WatchNow}
 use Rattle.target_core.specs.Targets.{OpensAs, TargetOf}
-use Rattle.target_resync.specs.Openings.{Left, opening_did, opening_floor}
+use Rattle.target_core.specs.target_resync.Openings.{Left, opening_did, opening_floor}
 use Rattle.vos_store.specs.Calls.{State}
 use Rattle.world_base.specs.declared.did.Did.{Did}
 use Rattle.world_base.specs.declared.target.Life.TheVariants.{Running, Stopped}

@@ -9,10 +9,10 @@ use Rattle.run_laws.specs.shows.Accounts.{AreServed, IsServed}
 use Rattle.run_laws.specs.shows.ListLaws.{length-set}
 use Rattle.run_laws.specs.shows.Openings.{HasFuse}
 use Rattle.target_core.specs.Targets.{TargetOf}
-use Rattle.target_parts.specs.Parts.{Runs}
-use Rattle.target_parts.specs.Readings.{IsReadOn, not-read_on, read-further}
-use Rattle.target_parts.specs.declared.stop.TargetStop.{TargetStop}
-use Rattle.target_resync.specs.Openings.{Reopens}
+use Rattle.run_opening.specs.target_parts.Parts.{Runs}
+use Rattle.run_opening.specs.target_parts.Readings.{IsReadOn, not-read_on, read-further}
+use Rattle.run_opening.specs.target_parts.declared.stop.TargetStop.{TargetStop}
+use Rattle.target_core.specs.target_resync.Openings.{Reopens}
 use Rattle.vos_store.specs.Calls.{State}
 use Rattle.world_base.specs.StepLaws.{set-is, set-there}
 

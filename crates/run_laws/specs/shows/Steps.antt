@@ -1,5 +1,5 @@
 -- What a turn leaves of the actors of a run.
-use Rattle.target_snaps.specs.Following.{TellsNoAttempt}
+use Rattle.target_core.specs.target_snaps.Following.{TellsNoAttempt}
 use Rattle.std.specs.Prelude.{ℕ, ◌≡◌, ◌+◌, ◌<◌, ◌^◌, Bool, true, List, [], slice_get, slice_set, Option, Some, Result, Ok, Err, IfOk, IfErr, IsSome, is_ok, false}
 use Rattle.std.specs.Option.{ForSome}
 use Rattle.client_core.specs.Clients.{ClientNow}
@@ -13,11 +13,11 @@ use Rattle.run_laws.specs.shows.Stages.{IsPlace, StageNow}
 use Rattle.run_laws.specs.shows.Turned.{AfterCut, AfterFailure, HasTurned, followed, swept_stage, with_between, with_client_at, with_target_at}
 use Rattle.run_watch.specs.Watches.{next_fuse, opening_tried}
 use Rattle.target_core.specs.Targets.{OpensAs, TargetOf}
-use Rattle.target_parts.specs.Parts.{Runs}
-use Rattle.target_parts.specs.Readings.{IsReadOn}
-use Rattle.target_parts.specs.Stops.{stop_foreign, stop_store}
-use Rattle.target_parts.specs.declared.stop.TargetStop.{TargetStop}
-use Rattle.target_resync.specs.Openings.{IsBare, Left, Reopens, TellsRestart}
+use Rattle.run_opening.specs.target_parts.Parts.{Runs}
+use Rattle.run_opening.specs.target_parts.Readings.{IsReadOn}
+use Rattle.run_opening.specs.target_parts.Stops.{stop_foreign, stop_store}
+use Rattle.run_opening.specs.target_parts.declared.stop.TargetStop.{TargetStop}
+use Rattle.target_core.specs.target_resync.Openings.{IsBare, Left, Reopens, TellsRestart}
 use Rattle.vos_store.specs.Calls.{State}
 use Rattle.vos_store.specs.Refusals.{says}
 use Rattle.world_base.specs.declared.did.Did.{Did}
@@ -25,9 +25,9 @@ use Rattle.world_base.specs.declared.letter.Letter.{Letter}
 use Rattle.world_base.specs.declared.target.Life.TheVariants.{Running, Stopped}
 use Rattle.world_base.specs.ClientTurns.{HearTurn, NextTurn}
 use Rattle.world_base.specs.Letters.{client, target}
-use Rattle.world_ended.specs.Asking.{Asked, TurnLeavesWith, TurnsEndAsked}
+use Rattle.target_core.specs.world_ended.Asking.{Asked, TurnLeavesWith, TurnsEndAsked}
 use Rattle.world_letters.specs.kinds.PostLaws.{CarryNone}
-use Rattle.world_contents.specs.posts.Forms.{TurnFollows, TurnsPostInForm}
+use Rattle.run_opening.specs.world_contents.posts.Forms.{TurnFollows, TurnsPostInForm}
 
 -- ---- a client's turn
 

@@ -20,7 +20,7 @@ use Rattle.run_laws.specs.turns.Readings.{read_at_work}
 use Rattle.run_laws.specs.turns.Turns.{IsAtWork}
 use Rattle.run_watch.specs.Watches.{with_life}
 use Rattle.target_core.specs.Targets.{TargetOf, cutting}
-use Rattle.target_parts.specs.declared.stop.TargetStop.TheVariants as stop
+use Rattle.run_opening.specs.target_parts.declared.stop.TargetStop.TheVariants as stop
 use Rattle.vos_store.specs.Calls.{State}
 use Rattle.world_base.specs.declared.letter.Letter.{Letter}
 use Rattle.world_base.specs.declared.target.Life.{Life}

@@ -13,9 +13,9 @@ use Rattle.run_laws.specs.shows.Stages.{StageNow}
 use Rattle.run_laws.specs.turns.Readings.{GivesOn, read_for}
 use Rattle.target_core.specs.Targets.{HearsOrStops, IdlesOrStops, TargetOf}
 use Rattle.run_watch.specs.Watches.{after_fault, with_life}
-use Rattle.target_parts.specs.Stops.{stop_wanting}
-use Rattle.target_parts.specs.declared.stop.TargetStop.{TargetStop}
-use Rattle.target_parts.specs.declared.stop.TargetStop.TheVariants as stops
+use Rattle.run_opening.specs.target_parts.Stops.{stop_wanting}
+use Rattle.run_opening.specs.target_parts.declared.stop.TargetStop.{TargetStop}
+use Rattle.run_opening.specs.target_parts.declared.stop.TargetStop.TheVariants as stops
 use Rattle.vos_store.specs.Calls.{State}
 use Rattle.vos_store.specs.Refusals.{says}
 use Rattle.world_base.specs.declared.did.Did.{Did}

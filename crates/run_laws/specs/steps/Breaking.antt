@@ -20,9 +20,9 @@ use Rattle.run_laws.specs.steps.Steps.{worked-goes}
 use Rattle.run_laws.specs.steps.Ways.{GoesWithin, Way, turn_of}
 use Rattle.run_watch.specs.Watches.{fuse_set, next_fuse, opened_again, opening_tried}
 use Rattle.target_core.specs.Targets.{TargetOf}
-use Rattle.target_parts.specs.Stops.{stop_store}
-use Rattle.target_parts.specs.declared.stop.TargetStop.{TargetStop}
-use Rattle.target_parts.specs.declared.stop.TargetStop.TheVariants as stop
+use Rattle.run_opening.specs.target_parts.Stops.{stop_store}
+use Rattle.run_opening.specs.target_parts.declared.stop.TargetStop.{TargetStop}
+use Rattle.run_opening.specs.target_parts.declared.stop.TargetStop.TheVariants as stop
 use Rattle.vos_store.specs.Calls.{State}
 use Rattle.vos_store.specs.Refusals.{says}
 use Rattle.world_base.specs.declared.did.Did.{Did}

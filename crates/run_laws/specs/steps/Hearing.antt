@@ -16,15 +16,15 @@ use Rattle.run_laws.specs.shows.Stages.{IsPlace, StageNow}
 use Rattle.run_laws.specs.steps.Going.{AllTell}
 use Rattle.target_core.specs.Targets as target_core
 use Rattle.target_core.specs.Targets.{TargetOf}
-use Rattle.target_writes.specs.CheckLaws.{new-at}
-use Rattle.target_writes.specs.Checks.{AreNewAt}
+use Rattle.target_core.specs.target_writes.CheckLaws.{new-at}
+use Rattle.target_core.specs.target_writes.Checks.{AreNewAt}
 use Rattle.vos_store.specs.Calls.{State}
 use Rattle.world_base.specs.declared.letter.Letter.{Letter}
 use Rattle.world_base.specs.declared.target.Life.TheVariants.{Running}
 use Rattle.world_base.specs.Commits.{own_writes}
 use Rattle.world_base.specs.Events.{Rules, target_plan}
 use Rattle.world_base.specs.Letters.{target}
-use Rattle.world_contents.specs.posts.Forms.{HasFormAfterStops, IsInForm, IsLetter}
+use Rattle.run_opening.specs.world_contents.posts.Forms.{HasFormAfterStops, IsInForm, IsLetter}
 
 -- ---- messages
 

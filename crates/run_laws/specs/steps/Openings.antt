@@ -32,19 +32,19 @@ use Rattle.run_laws.specs.turns.Readings.{GivesOn, gives-none}
 use Rattle.run_laws.specs.turns.Faults.{once_for}
 use Rattle.run_watch.specs.Watches.{WatchNow, fuse_set, next_fuse, opened_again, opening_tried}
 use Rattle.target_core.specs.Targets.{OpensAs, TargetOf}
-use Rattle.target_parts.specs.Readings.{IsReadOn, not-read_on}
-use Rattle.target_parts.specs.Stops.{stop_foreign, stop_store}
-use Rattle.target_parts.specs.declared.stop.TargetStop.{TargetStop}
-use Rattle.target_resync.specs.Openings.{Left, Reopens}
+use Rattle.run_opening.specs.target_parts.Readings.{IsReadOn, not-read_on}
+use Rattle.run_opening.specs.target_parts.Stops.{stop_foreign, stop_store}
+use Rattle.run_opening.specs.target_parts.declared.stop.TargetStop.{TargetStop}
+use Rattle.target_core.specs.target_resync.Openings.{Left, Reopens}
 use Rattle.vos_store.specs.Calls.{Ailed, State}
 use Rattle.vos_store.specs.Refusals.{says}
 use Rattle.world_base.specs.declared.did.Did.{Did}
 use Rattle.world_base.specs.declared.target.Life.TheVariants.{Running, Stopped}
 use Rattle.world_base.specs.Events.{Rules, target_plan}
 use Rattle.world_base.specs.Letters.{target, without_first}
-use Rattle.world_contents.specs.posts.FormLaws.{targets-send-letters}
-use Rattle.world_contents.specs.posts.Forms as posted
-use Rattle.world_contents.specs.posts.Forms.{TargetPosts}
+use Rattle.run_opening.specs.world_contents.posts.FormLaws.{targets-send-letters}
+use Rattle.run_opening.specs.world_contents.posts.Forms as posted
+use Rattle.run_opening.specs.world_contents.posts.Forms.{TargetPosts}
 
 -- ---- stop lines
 

@@ -19,15 +19,15 @@ use Rattle.run_laws.specs.steps.Openings.{reopening-goes}
 use Rattle.run_laws.specs.steps.Turnings.{client-heard-done, client-went-done, cut-done, whole-done}
 use Rattle.run_laws.specs.steps.Ways.{turn_of}
 use Rattle.target_core.specs.Targets.{TargetOf}
-use Rattle.target_parts.specs.Knowing.{IsHeard}
-use Rattle.target_parts.specs.Parts.{Runs}
-use Rattle.target_parts.specs.Stops.{stop_store}
+use Rattle.run_opening.specs.target_parts.Knowing.{IsHeard}
+use Rattle.run_opening.specs.target_parts.Parts.{Runs}
+use Rattle.run_opening.specs.target_parts.Stops.{stop_store}
 use Rattle.vos_store.specs.Calls.{State}
 use Rattle.vos_store.specs.Refusals.{says}
 use Rattle.world_base.specs.declared.target.Life.TheVariants.{Stopped}
 use Rattle.world_base.specs.Events.{Rules}
 use Rattle.world_base.specs.Letters.{client, target}
-use Rattle.world_contents.specs.posts.Forms.{TurnsPostInForm}
+use Rattle.run_opening.specs.world_contents.posts.Forms.{TurnsPostInForm}
 
 module _ {S C : Type 0} (durable : S → Option Durable) (state : S → State) (may : S → Durable → Type 0) where
   module _ (is_read : C → C → Type 0) (next_reading : C → Option ℕ) (findable : AreFindable durable may) (alike : AreAlike durable) (a b : StageNow S C) (can : CanGo durable state may a) where

@@ -36,10 +36,10 @@ use Rattle.run_laws.specs.turns.Faults.{once_for}
 use Rattle.run_laws.specs.turns.Readings.{GivesOn, gives-none, others-read, reading_of}
 use Rattle.run_watch.specs.Watches.{WatchNow, after_fault, with_life}
 use Rattle.target_core.specs.Targets.{TargetOf}
-use Rattle.target_parts.specs.Parts.{Runs}
-use Rattle.target_parts.specs.Readings.{IsReadOn}
-use Rattle.target_parts.specs.Stops.{stop_store, stop_wanting}
-use Rattle.target_parts.specs.declared.stop.TargetStop.TheVariants as stop
+use Rattle.run_opening.specs.target_parts.Parts.{Runs}
+use Rattle.run_opening.specs.target_parts.Readings.{IsReadOn}
+use Rattle.run_opening.specs.target_parts.Stops.{stop_store, stop_wanting}
+use Rattle.run_opening.specs.target_parts.declared.stop.TargetStop.TheVariants as stop
 use Rattle.vos_store.specs.Calls.{Ailed, Fires, State}
 use Rattle.vos_store.specs.Refusals.{says}
 use Rattle.world_base.specs.declared.did.Did.{Did}
@@ -50,11 +50,11 @@ use Rattle.world_base.specs.Events.{Rules, client_plan, target_plan}
 use Rattle.world_base.specs.Letters.{client, target}
 use Rattle.world_base.specs.StepLaws.{set-is, set-there}
 use Rattle.world_letters.specs.lives.Adding.{stops_of}
-use Rattle.world_contents.specs.posts.FormLaws.{clients-send-letters, targets-send-letters}
-use Rattle.world_contents.specs.posts.Forms as posted
-use Rattle.world_contents.specs.posts.Forms.{ClientPosts, TargetPosts, TurnsPostInForm}
-use Rattle.world_contents.specs.posts.KnownSnapshots.{ReadsKnown, clients-keep-reads_known, hearers-keep-reads_known}
-use Rattle.world_contents.specs.posts.ClientPosts.{clients-post-in-form, hearers-post-in-form}
+use Rattle.run_opening.specs.world_contents.posts.FormLaws.{clients-send-letters, targets-send-letters}
+use Rattle.run_opening.specs.world_contents.posts.Forms as posted
+use Rattle.run_opening.specs.world_contents.posts.Forms.{ClientPosts, TargetPosts, TurnsPostInForm}
+use Rattle.run_opening.specs.world_contents.posts.KnownSnapshots.{ReadsKnown, clients-keep-reads_known, hearers-keep-reads_known}
+use Rattle.run_opening.specs.world_contents.posts.ClientPosts.{clients-post-in-form, hearers-post-in-form}
 
 -- what is left of letters beside one that was taken was among them
 rest-among : (letters rest : List Letter) (a : _) (number : ℕ) (l : Letter) → IsPicked letters a number l rest → (m : Letter) → Has m rest → Has m letters

@@ -8,7 +8,7 @@ use Rattle.base_messages.specs.declared.message.Message.{Message}
 use Rattle.run_laws.specs.turns.OrderLaws.{turn-goes}
 use Rattle.run_laws.specs.turns.Turns.{Doing, GivesUp, GivingUp, IsDraw, Opening, OpensBy, TurnOf}
 use Rattle.target_core.specs.Targets.{has_epoch}
-use Rattle.target_parts.specs.Readings.{AreReadings, ReadOn, Unread, most_readings}
+use Rattle.run_opening.specs.target_parts.Readings.{AreReadings, ReadOn, Unread, most_readings}
 use Rattle.world_base.specs.declared.world.World.{World}
 use Rattle.world_base.specs.Events.{ByClient, ByTarget, Rules, ToClient, ToTarget}
 use Rattle.world_base.specs.Stops.{AtWork, Begins, Draws as DrawsNumbers, Fails, Further, GivenUp, Goes, Happening, Hearing, IdleWork, IsCut, Opens, Plainly, WorldRun}

@@ -27,7 +27,7 @@ use Rattle.daos_model.specs.CausesShown.{ShowsFloor}
 use Rattle.daos_model.specs.Durables.{is_row_of, row_of, row_or_new}
 use Rattle.daos_model.specs.Opening.{Opening, top}
 use Rattle.daos_model.specs.Versions.{blocks_read, first_between, first_blocking, is_between, map_below, version_path}
-use Rattle.vos_stamp.specs.Stamps.{aggregated_cause, floor_cause, later_cause, or_later, write_later}
+use Rattle.world_base.specs.vos_stamp.Stamps.{aggregated_cause, floor_cause, later_cause, or_later, write_later}
 use Rattle.vos_store.specs.declared.refusal.FetchNo.TheVariants as fetch
 use Rattle.vos_store.specs.Answers.{answer_unless, fetched, floor_of, is_past, later_floor, later_write, shown_or_none, shown_version}
 use Rattle.world_base.specs.declared.request.FetchRequest.{FetchRequest}

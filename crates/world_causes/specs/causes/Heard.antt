@@ -18,7 +18,7 @@ use Rattle.world_base.specs.Events.{Rules, kept, target_plan}
 use Rattle.world_base.specs.Letters.{client}
 use Rattle.world_base.specs.Requests.{fetch_message}
 use Rattle.world_base.specs.Roles.{leader_at}
-use Rattle.world_letters.specs.talks.Asked.{commit_of}
+use Rattle.world_contents.specs.world_letters.talks.Asked.{commit_of}
 use Rattle.world_causes.specs.causes.AtFloors.{IsTarget}
 use Rattle.world_causes.specs.causes.Causes.{Stored}
 use Rattle.world_causes.specs.causes.CommitTurns.{IsCommit}

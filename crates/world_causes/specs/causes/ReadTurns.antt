@@ -34,13 +34,13 @@ use Rattle.daos_model.specs.Order.{told_by_cause}
 use Rattle.daos_model.specs.Transactions.{attempt_ops}
 use Rattle.daos_model.specs.Versions.{version_path}
 use Rattle.dtx_base.specs.declared.member.Parked.{Parked}
-use Rattle.vos_stamp.specs.Stamps.{write_later}
+use Rattle.world_base.specs.vos_stamp.Stamps.{write_later}
 use Rattle.world_base.specs.declared.did.Did.{Did}
 use Rattle.world_base.specs.declared.request.FetchRequest.{FetchRequest}
 use Rattle.world_base.specs.declared.target.TargetMemory.{TargetMemory}
 use Rattle.world_base.specs.declared.target.TargetPlan.{TargetPlan}
 use Rattle.world_base.specs.ClientTurns.{told_by_reply}
-use Rattle.world_letters.specs.epochs.Epochs.{BearsEpoch}
+use Rattle.world_contents.specs.world_letters.epochs.Epochs.{BearsEpoch}
 use Rattle.world_base.specs.Events.{Rules, listed}
 use Rattle.world_base.specs.Letters.{client}
 use Rattle.world_base.specs.Changes.{Kept}

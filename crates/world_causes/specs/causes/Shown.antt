@@ -38,7 +38,7 @@ use Rattle.world_base.specs.declared.world.World.{World}
 use Rattle.world_base.specs.Events.{Rules}
 use Rattle.world_base.specs.Letters.{client}
 use Rattle.world_causes.specs.causes.Causes.{Dated, EndsOf, IsAskedFor, IsUnanswered, IsUndecidedFor, MeetsOther, ShowsLack, ShowsRead, Space, Stored, epochs_told, limit}
-use Rattle.world_letters.specs.epochs.Epochs.{BearsEpoch, IsPresent}
+use Rattle.world_contents.specs.world_letters.epochs.Epochs.{BearsEpoch, IsPresent}
 
 -- ---- what is counted
 

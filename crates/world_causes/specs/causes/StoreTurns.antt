@@ -28,7 +28,7 @@ use Rattle.dtx_base.specs.Joining.{all_unresolved_told, inquired, inquiry_for, i
 use Rattle.dtx_base.specs.Leading.{LeaderOf, abort_to, ack_heard, answer_heard, answer_if_awaited, batched, begun, begun_alone, begun_with_others, commit_mark, counted_at, decided, ended, entry_led, mark_with, marks_for, ok_heard, owed, prepare_to, quietly, to_target, undecided_of, with_undecided}
 use Rattle.dtx_base.specs.Members.{all_targets, are_all_counted, is_other_member, other_members, with_target}
 use Rattle.dtx_base.specs.Rows.{is_empty}
-use Rattle.world_commit.specs.attempts.Turning.{one-or_other}
+use Rattle.world_contents.specs.world_commit.attempts.Turning.{one-or_other}
 use Rattle.world_base.specs.declared.did.Did.{Did}
 use Rattle.world_base.specs.declared.request.CommitRequest.{CommitRequest}
 use Rattle.world_base.specs.declared.request.FetchRequest.{FetchRequest}

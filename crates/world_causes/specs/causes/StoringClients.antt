@@ -22,8 +22,8 @@ use Rattle.world_base.specs.ClientTurns.{Move, listed, moved, waits}
 use Rattle.world_base.specs.Events.{with_client, with_epoch}
 use Rattle.world_base.specs.Letters.{client, letter_of, letters_of}
 use Rattle.world_base.specs.Steps.{KeptByCounting, after_client, without}
-use Rattle.world_letters.specs.talks.AskLaws.{move-is, waiting-rests}
-use Rattle.world_letters.specs.talks.Asked.{ARead, ASnapshot, AnAggregation, Asked, Asking, IsMove, ItsWrites, Silent, Telling}
+use Rattle.world_contents.specs.world_letters.talks.AskLaws.{move-is, waiting-rests}
+use Rattle.world_contents.specs.world_letters.talks.Asked.{ARead, ASnapshot, AnAggregation, Asked, Asking, IsMove, ItsWrites, Silent, Telling}
 use Rattle.world_causes.specs.causes.Causes.{Dated, Stored}
 use Rattle.world_causes.specs.causes.ClientLaws.{IsQuiet, IsQuietLine}
 use Rattle.world_causes.specs.causes.Storing.{HasItsLine, IsAskedAt, IsPrepareOf, IsRefusedAt, IsTold, RefusesAt, StoredOnce}

@@ -17,14 +17,14 @@ use Rattle.daos_model.specs.Durables.{attempt_key, entry_key, entry_of, is_entry
 use Rattle.daos_model.specs.EntryLaws.{same_attempt-itself}
 use Rattle.daos_model.specs.Ordered.{all_after, is_rising}
 use Rattle.daos_model.specs.OrderLaws.{before-itself}
-use Rattle.world_commit.specs.attempts.Attempts.{entry_at, entry_in}
+use Rattle.world_contents.specs.world_commit.attempts.Attempts.{entry_at, entry_in}
 use Rattle.world_base.specs.declared.did.Did.{Did}
 use Rattle.world_base.specs.declared.letter.Letter.{Letter}
 use Rattle.world_base.specs.declared.request.CommitRequest.{CommitRequest}
 use Rattle.world_base.specs.declared.target.TargetState.{TargetState}
 use Rattle.world_base.specs.declared.world.World.{World}
 use Rattle.world_base.specs.Letters.{letter_of, letters_of, target}
-use Rattle.world_letters.specs.talks.Asked.{commit_of}
+use Rattle.world_contents.specs.world_letters.talks.Asked.{commit_of}
 use Rattle.world_base.specs.Changes.{Kept}
 use Rattle.world_causes.specs.causes.Causes.{EndsOf, Stored, is_new_to, stored_as, stored_by}
 use Rattle.world_causes.specs.causes.Storing.{AreApart, HasItsLine, IsAskedAt, IsPrepareOf, IsRefusedAt, IsTold, RefusesAt, StoredOnce}

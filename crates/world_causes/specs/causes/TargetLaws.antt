@@ -17,10 +17,10 @@ use Rattle.world_base.specs.declared.target.TargetMemory.{TargetMemory}
 use Rattle.world_base.specs.declared.target.TargetState.{TargetState}
 use Rattle.world_base.specs.declared.target.Life.TheVariants.{Running}
 use Rattle.world_base.specs.declared.world.World.{World}
-use Rattle.world_letters.specs.epochs.Epochs.{IsPresent}
+use Rattle.world_contents.specs.world_letters.epochs.Epochs.{IsPresent}
 use Rattle.world_base.specs.Events.{Rules, TargetHearsRightly, TargetIdles, after_turn, kept, listed, target_after, target_plan, with_epoch, with_target}
 use Rattle.world_base.specs.Letters.{asked_after, client, letter_of, letters_of, target}
-use Rattle.world_letters.specs.talks.TalkLaws.{left-is-among, taken-is-among}
+use Rattle.world_contents.specs.world_letters.talks.TalkLaws.{left-is-among, taken-is-among}
 use Rattle.world_base.specs.Acks as ack
 use Rattle.world_base.specs.Changes.{Kept}
 use Rattle.world_base.specs.MemoryLaws.{hears-follows, idles-follows}

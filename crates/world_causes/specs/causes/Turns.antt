@@ -13,7 +13,7 @@ use Rattle.daos_model.specs.Opening.{Opening}
 use Rattle.dtx_base.specs.declared.member.Parked.{Parked}
 use Rattle.world_base.specs.declared.did.Did.{Did}
 use Rattle.world_base.specs.declared.target.TargetMemory.{TargetMemory}
-use Rattle.world_letters.specs.epochs.Epochs.{BearsEpoch}
+use Rattle.world_contents.specs.world_letters.epochs.Epochs.{BearsEpoch}
 use Rattle.world_base.specs.Events.{Rules, listed}
 use Rattle.world_base.specs.Letters.{client}
 use Rattle.world_base.specs.Changes.{Kept}

@@ -20,7 +20,7 @@ use Rattle.daos_model.specs.EntryLaws.{same_attempt-itself}
 use Rattle.daos_model.specs.Laws.{tries-append}
 use Rattle.daos_model.specs.Transactions.{command_of, numbered, numbered_at}
 use Rattle.base_types.specs.Scripts.{is_numbered}
-use Rattle.world_letters.specs.clients.AnswerLaws.{numbered-here}
+use Rattle.world_contents.specs.world_letters.clients.AnswerLaws.{numbered-here}
 use Rattle.model_laws.specs.EntryLaws.{same-attempt}
 use Rattle.model_laws.specs.Members.{Has, contains-from_has, has-cases, has-from_contains, has-from_map, has-right}
 use Rattle.world_base.specs.declared.client.ClientPlan.{ClientPlan}
@@ -36,16 +36,16 @@ use Rattle.world_base.specs.Steps.{KeptByCounting, KeptByHearing, KeptByMoves, a
 use Rattle.world_causes.specs.causes.Causes.{Dated}
 use Rattle.world_causes.specs.causes.Growth.{at-set}
 use Rattle.world_causes.specs.causes.Shown.{AreLostBefore, IsFirstOf, WasLost}
-use Rattle.world_letters.specs.clients.MoveLaws.{is-at}
-use Rattle.world_letters.specs.clients.Snapshots.{at-same, is_at_snapshot}
-use Rattle.world_letters.specs.clients.Standing.{HasTold}
-use Rattle.world_letters.specs.endings.Clients.{IsQuestion, heard-asks}
-use Rattle.world_letters.specs.epochs.Epochs as epochs
-use Rattle.world_letters.specs.epochs.Epochs.{ClientsStand, Epochs, IsIssued, IsOwn, IsSeen}
-use Rattle.world_letters.specs.epochs.EventLaws.{stands-by-counting, stands-by-hearing, stands-by-moves}
-use Rattle.world_letters.specs.talks.AskLaws.{move-is, waiting-rests}
-use Rattle.world_letters.specs.talks.Asked.{ARead, ASnapshot, AnAggregation, Asked, Asking, IsMove, ItsWrites, Silent, Telling}
-use Rattle.world_letters.specs.talks.TalkLaws.{left-is-among, taken-is-among}
+use Rattle.world_contents.specs.world_letters.clients.MoveLaws.{is-at}
+use Rattle.world_contents.specs.world_letters.clients.Snapshots.{at-same, is_at_snapshot}
+use Rattle.world_contents.specs.world_letters.clients.Standing.{HasTold}
+use Rattle.world_contents.specs.world_letters.endings.Clients.{IsQuestion, heard-asks}
+use Rattle.world_contents.specs.world_letters.epochs.Epochs as epochs
+use Rattle.world_contents.specs.world_letters.epochs.Epochs.{ClientsStand, Epochs, IsIssued, IsOwn, IsSeen}
+use Rattle.world_contents.specs.world_letters.epochs.EventLaws.{stands-by-counting, stands-by-hearing, stands-by-moves}
+use Rattle.world_contents.specs.world_letters.talks.AskLaws.{move-is, waiting-rests}
+use Rattle.world_contents.specs.world_letters.talks.Asked.{ARead, ASnapshot, AnAggregation, Asked, Asking, IsMove, ItsWrites, Silent, Telling}
+use Rattle.world_contents.specs.world_letters.talks.TalkLaws.{left-is-among, taken-is-among}
 use Rattle.world_causes.specs.firsts.Firsts.{Firsts, IsKept, Keeps, MessageTells}
 use Rattle.world_causes.specs.firsts.Keeping.{IsMore, follows-keeps, kept-stays, lines-only, lost-of, tells-stay}
 use Rattle.world_causes.specs.firsts.Moves.{Begins, GoesFrom, IfRestart, IsNew, IsNext, IsNone, IsOver, IsSame, LeadsOn, MovesOn, ReplyMayRestart, Stays, ended-leads, moved-moves, replied-leads, reset-by_leads}

@@ -35,9 +35,9 @@ use Rattle.world_base.specs.Stops.{Draws, Fails, Further, GivenUp, Happening, Is
 use Rattle.world_causes.specs.causes.Causes.{Dated}
 use Rattle.world_causes.specs.causes.FirstTurns.{Knows, all-hear-knows, idle-knows, is_undated}
 use Rattle.world_causes.specs.causes.Premises.{RequestKnows}
-use Rattle.world_letters.specs.epochs.Epochs as epochs
-use Rattle.world_letters.specs.epochs.Epochs.{ClientsStand, Epochs}
-use Rattle.world_letters.specs.talks.TalkLaws.{left-is-among, taken-is-among}
+use Rattle.world_contents.specs.world_letters.epochs.Epochs as epochs
+use Rattle.world_contents.specs.world_letters.epochs.Epochs.{ClientsStand, Epochs}
+use Rattle.world_contents.specs.world_letters.talks.TalkLaws.{left-is-among, taken-is-among}
 use Rattle.world_causes.specs.firsts.Clients.{Standing, answers-bear, by-counts, by-hears, by-moves}
 use Rattle.world_causes.specs.firsts.Firsts.{Firsts, GoesWith, MessageTells, WaitsSo}
 use Rattle.world_causes.specs.firsts.Further.{AllWait, Leaves, PostsTell, all-bear, further-leaves}

@@ -18,7 +18,7 @@ use Rattle.world_base.specs.Events.{Rules, client_plan}
 use Rattle.world_causes.specs.causes.Causes.{Dated}
 use Rattle.world_causes.specs.causes.Premises.{IsNoRestart, MessageBears}
 use Rattle.world_causes.specs.causes.Shown.{AreLostBefore, IsFirstEpoch, IsFirstOf}
-use Rattle.world_letters.specs.clients.Snapshots.{is_at_snapshot}
+use Rattle.world_contents.specs.world_letters.clients.Snapshots.{is_at_snapshot}
 
 -- what goes with an attempt: the first epoch of its command. Of one that reads at a snapshot nothing is said.
 abbrev pub GoesWith : Rules → Dated → List Line → AttemptId → Option Epoch → Type 0

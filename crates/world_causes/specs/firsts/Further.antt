@@ -32,8 +32,8 @@ use Rattle.world_base.specs.Statuses.{AtOnce, EndsAs, IsDone, ask_left, reset_le
 use Rattle.world_base.specs.TargetTurns.{commit_request}
 use Rattle.world_causes.specs.causes.Causes.{Dated}
 use Rattle.world_causes.specs.causes.FirstTurns.{Knows, all-hear-knows, is_undated}
-use Rattle.world_letters.specs.endings.Answers as follows
-use Rattle.world_letters.specs.endings.Answers.{AnswersAsk, SaysCommitted, SaysUnknown, SaysUnresolved, ask-answers, left-follows}
+use Rattle.world_contents.specs.world_letters.endings.Answers as follows
+use Rattle.world_contents.specs.world_letters.endings.Answers.{AnswersAsk, SaysCommitted, SaysUnknown, SaysUnresolved, ask-answers, left-follows}
 use Rattle.world_causes.specs.causes.Premises.{MessageBears}
 use Rattle.world_causes.specs.firsts.Firsts.{GoesWith, MessageTells, WaitsSo}
 use Rattle.world_base.specs.Events.{Rules}

@@ -5,7 +5,7 @@ use Rattle.world_base.specs.declared.target.TargetState.{TargetState}
 use Rattle.world_base.specs.declared.world.World.{World}
 use Rattle.world_base.specs.Events.{Rules}
 use Rattle.world_base.specs.Stops.{WorldEvent}
-use Rattle.world_letters.specs.epochs.Epochs.{ClientsStand, Epochs}
+use Rattle.world_contents.specs.world_letters.epochs.Epochs.{ClientsStand, Epochs}
 use Rattle.world_causes.specs.firsts.Firsts.{Firsts}
 
 -- where no client is at an attempt, nothing is in flight, and no Fetch waits

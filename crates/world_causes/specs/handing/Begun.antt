@@ -15,8 +15,8 @@ use Rattle.dtx_base.specs.Joining.{is_asker}
 use Rattle.dtx_base.specs.LeaderLaws.{same-is}
 use Rattle.model_laws.specs.Members.{Has, contains-from_has, has-filter, has-left, has-map, has-right}
 use Rattle.model_laws.specs.TargetLaws.{same_number}
-use Rattle.world_commit.specs.attempts.Attempts.{IsBorn, leader_of}
-use Rattle.world_commit.specs.attempts.History.{History}
+use Rattle.world_contents.specs.world_commit.attempts.Attempts.{IsBorn, leader_of}
+use Rattle.world_contents.specs.world_commit.attempts.History.{History}
 use Rattle.world_base.specs.declared.client.ClientPlan.{ClientPlan}
 use Rattle.world_base.specs.declared.client.ClientState.{ClientState}
 use Rattle.world_base.specs.declared.client.Present.{Present}
@@ -26,9 +26,9 @@ use Rattle.world_base.specs.ClientTurns.{attempt_id, is_waiting, request_of, wai
 use Rattle.world_base.specs.Events.{Rules, client_plan}
 use Rattle.world_base.specs.Letters.{is_tell, talk_of}
 use Rattle.world_base.specs.Reads.{fetch_at}
-use Rattle.world_letters.specs.clients.Answered.{ops_here}
-use Rattle.world_letters.specs.epochs.Asking.{ops-at}
-use Rattle.world_letters.specs.epochs.Epochs.{ClientsStand, IsPast, IsPresent}
+use Rattle.world_contents.specs.world_letters.clients.Answered.{ops_here}
+use Rattle.world_contents.specs.world_letters.epochs.Asking.{ops-at}
+use Rattle.world_contents.specs.world_letters.epochs.Epochs.{ClientsStand, IsPast, IsPresent}
 use Rattle.world_causes.specs.handing.Fitting.{answers-no_reset, is_handing, is_reset, question-before}
 use Rattle.world_causes.specs.handing.Handing.{IsToldTo, asked-by, told-to}
 use Rattle.world_causes.specs.handing.Targets.{PlacesAreRight, leader-is_target}
@@ -38,16 +38,16 @@ use Rattle.world_causes.specs.losses.Losses.{LeadersAreTargets, is_asked_of}
 use Rattle.world_causes.specs.losses.Readers.{InFlight, ReadersAreNew, Waiting}
 use Rattle.world_causes.specs.outcomes.ClientLaws.{present-not-past, unborn}
 use Rattle.world_causes.specs.outcomes.Outcomes.{Outcomes, WaitsForEnd}
-use Rattle.world_letters.specs.talks.AskLaws.{sent-is-asked}
-use Rattle.world_letters.specs.talks.Asked.{ARead, ASnapshot, AnAggregation, Asked, ItsWrites}
-use Rattle.world_letters.specs.talks.TalkLaws.{taken-from}
-use Rattle.world_letters.specs.waits.ClientLaws.{present-of, question-about}
-use Rattle.world_letters.specs.waits.Parts.{parked_part}
-use Rattle.world_letters.specs.waits.Passing.{held-beside}
-use Rattle.world_letters.specs.waits.Premises.{RequestsAreOfClients}
-use Rattle.world_letters.specs.waits.Requests.{is_request}
-use Rattle.world_letters.specs.waits.Waits as holds
-use Rattle.world_letters.specs.waits.Waits.{Conversation, Held, HoldsIt, IsAnswer, IsAsked, IsHeld, IsLost, IsQuestion, IsReplied, IsReplyTo, ItsAsk, ItsRequest, ParkedAt, TalksSo, asked_of, held_by, held_of, is_parked_of, parked_at}
+use Rattle.world_contents.specs.world_letters.talks.AskLaws.{sent-is-asked}
+use Rattle.world_contents.specs.world_letters.talks.Asked.{ARead, ASnapshot, AnAggregation, Asked, ItsWrites}
+use Rattle.world_contents.specs.world_letters.talks.TalkLaws.{taken-from}
+use Rattle.world_contents.specs.world_letters.waits.ClientLaws.{present-of, question-about}
+use Rattle.world_contents.specs.world_letters.waits.Parts.{parked_part}
+use Rattle.world_contents.specs.world_letters.waits.Passing.{held-beside}
+use Rattle.world_contents.specs.world_letters.waits.Premises.{RequestsAreOfClients}
+use Rattle.world_contents.specs.world_letters.waits.Requests.{is_request}
+use Rattle.world_contents.specs.world_letters.waits.Waits as holds
+use Rattle.world_contents.specs.world_letters.waits.Waits.{Conversation, Held, HoldsIt, IsAnswer, IsAsked, IsHeld, IsLost, IsQuestion, IsReplied, IsReplyTo, ItsAsk, ItsRequest, ParkedAt, TalksSo, asked_of, held_by, held_of, is_parked_of, parked_at}
 
 -- ---- what a client asked
 

@@ -7,14 +7,14 @@ use Rattle.base_types.specs.declared.operation.MinorWrite.{MinorWrite}
 use Rattle.base_messages.specs.declared.message.Message.TheVariants as message
 use Rattle.daos_model.specs.Attempts.{snapshot_of}
 use Rattle.model_laws.specs.Members.{Has, contains-from_has, has-from_contains}
-use Rattle.world_commit.specs.attempts.Attempts.{writes_of}
+use Rattle.world_contents.specs.world_commit.attempts.Attempts.{writes_of}
 use Rattle.world_base.specs.declared.letter.Letter.{Letter}
 use Rattle.world_base.specs.declared.world.World.{World}
 use Rattle.world_base.specs.Events.{Rules}
-use Rattle.world_letters.specs.epochs.Epochs.{ClientsStand, Epochs, GoesWith, IsEpochOf, IsOwn, IsSeen}
+use Rattle.world_contents.specs.world_letters.epochs.Epochs.{ClientsStand, Epochs, GoesWith, IsEpochOf, IsOwn, IsSeen}
 use Rattle.world_causes.specs.handing.Handing.{EpochsOfCommits, commit-asked}
-use Rattle.world_letters.specs.waits.Premises.{RequestsAreOfClients}
-use Rattle.world_letters.specs.waits.Waits.{Conversation}
+use Rattle.world_contents.specs.world_letters.waits.Premises.{RequestsAreOfClients}
+use Rattle.world_contents.specs.world_letters.waits.Waits.{Conversation}
 
 -- what reads at a snapshot writes nothing
 abbrev pub SnapshotsAreRead : Rules → Type 0

@@ -11,7 +11,7 @@ use Rattle.daos_model.specs.Accesses.{minor_writes}
 use Rattle.daos_model.specs.EntryLaws.{same_attempt-itself}
 use Rattle.daos_model.specs.Transactions.{ops_or_none}
 use Rattle.model_laws.specs.Members.{contains-from_has}
-use Rattle.world_commit.specs.attempts.Counting.{has-taken}
+use Rattle.world_contents.specs.world_commit.attempts.Counting.{has-taken}
 use Rattle.world_base.specs.declared.client.ClientPlan.{ClientPlan}
 use Rattle.world_base.specs.declared.client.ClientState.{ClientState}
 use Rattle.world_base.specs.declared.client.Present.{Present}
@@ -20,15 +20,15 @@ use Rattle.world_base.specs.declared.world.World.{World}
 use Rattle.world_base.specs.ClientTurns.{about, attempt_id, is_about}
 use Rattle.world_base.specs.Events.{Rules, client_plan}
 use Rattle.world_base.specs.Letters.{Takes, client, is_tell}
-use Rattle.world_letters.specs.clients.Answered.{ops_here}
+use Rattle.world_contents.specs.world_letters.clients.Answered.{ops_here}
 use Rattle.world_causes.specs.handing.Handing.{IsToldTo, question-hands, told-to}
-use Rattle.world_letters.specs.lines.Lines.{Endings, TellsEnd}
+use Rattle.world_contents.specs.world_letters.lines.Lines.{Endings, TellsEnd}
 use Rattle.world_causes.specs.outcomes.Premises.{HearsFitly, IsBefore, IsFit, IsLossFit, IsResetFit, hands}
 use Rattle.world_causes.specs.outcomes.TalkLaws.{refusal-other}
-use Rattle.world_letters.specs.talks.AskLaws.{sent-is-asked}
-use Rattle.world_letters.specs.talks.Asked.{ARead, ASnapshot, AnAggregation, Asked, ItsWrites}
-use Rattle.world_letters.specs.talks.Conversation.{Answers}
-use Rattle.world_letters.specs.waits.Waits.{Conversation, IsAnswer, IsLost, IsQuestion, IsReplyTo, ItsAsk, ItsRequest}
+use Rattle.world_contents.specs.world_letters.talks.AskLaws.{sent-is-asked}
+use Rattle.world_contents.specs.world_letters.talks.Asked.{ARead, ASnapshot, AnAggregation, Asked, ItsWrites}
+use Rattle.world_contents.specs.world_letters.talks.Conversation.{Answers}
+use Rattle.world_contents.specs.world_letters.waits.Waits.{Conversation, IsAnswer, IsLost, IsQuestion, IsReplyTo, ItsAsk, ItsRequest}
 
 -- a client hands an attempt over, or asks what became of it
 abbrev pub is_handing : Message → Bool

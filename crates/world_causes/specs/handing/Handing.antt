@@ -19,10 +19,10 @@ use Rattle.daos_model.specs.EntryLaws.{same_attempt-itself}
 use Rattle.daos_model.specs.Transactions.{attempt_ops, ops_or_none}
 use Rattle.dtx_base.specs.LeaderLaws.{same-is}
 use Rattle.model_laws.specs.Members.{Has, contains-from_has}
-use Rattle.world_commit.specs.attempts.Asked.{IsCommitNew}
-use Rattle.world_commit.specs.attempts.Attempts.{IsBorn, entry_at, leader_of, writes_of}
-use Rattle.world_commit.specs.attempts.Counting.{has-taken}
-use Rattle.world_commit.specs.attempts.History.{History}
+use Rattle.world_contents.specs.world_commit.attempts.Asked.{IsCommitNew}
+use Rattle.world_contents.specs.world_commit.attempts.Attempts.{IsBorn, entry_at, leader_of, writes_of}
+use Rattle.world_contents.specs.world_commit.attempts.Counting.{has-taken}
+use Rattle.world_contents.specs.world_commit.attempts.History.{History}
 use Rattle.world_base.specs.declared.client.ClientPlan.{ClientPlan}
 use Rattle.world_base.specs.declared.client.ClientState.{ClientState}
 use Rattle.world_base.specs.declared.client.Present.{Present}
@@ -32,22 +32,22 @@ use Rattle.world_base.specs.declared.world.World.{World}
 use Rattle.world_base.specs.ClientTurns.{attempt_id, command_at, request_of, waits}
 use Rattle.world_base.specs.Events.{Rules, client_plan}
 use Rattle.world_base.specs.Letters.{Takes, client, is_talk_of, is_tell, letter_of, reset_message, talk_of, target}
-use Rattle.world_letters.specs.clients.Answered.{ops_here}
-use Rattle.world_letters.specs.epochs.Asking.{ops-at}
-use Rattle.world_letters.specs.epochs.Epochs.{ClientsStand}
-use Rattle.world_commit.specs.fates.Asked.{AskedRight}
+use Rattle.world_contents.specs.world_letters.clients.Answered.{ops_here}
+use Rattle.world_contents.specs.world_letters.epochs.Asking.{ops-at}
+use Rattle.world_contents.specs.world_letters.epochs.Epochs.{ClientsStand}
+use Rattle.world_contents.specs.world_commit.fates.Asked.{AskedRight}
 use Rattle.world_causes.specs.outcomes.Outcomes.{IsBehind, Outcomes, WaitsForEnd, commits}
 use Rattle.world_causes.specs.outcomes.Premises.{AsksGoRight, CommitsAreOfClients, HandsOver, IsWaitedFor, hands}
 use Rattle.world_causes.specs.outcomes.TalkLaws.{asks-commit}
-use Rattle.world_letters.specs.talks.AskLaws.{asked-commit, sent-is-asked}
-use Rattle.world_letters.specs.talks.Asked.{ARead, ASnapshot, AnAggregation, Asked, ItsWrites, commit_of}
-use Rattle.world_letters.specs.talks.Conversation.{Answers}
-use Rattle.world_letters.specs.talks.TalkLaws.{got-is-talk, sent-is-talk, taken-from, talk-none, talk-only}
-use Rattle.world_letters.specs.waits.ClientLaws.{present-of, question-about}
-use Rattle.world_letters.specs.waits.Passing.{IsOfClient, question-of}
-use Rattle.world_letters.specs.waits.Premises.{RequestsAreOfClients, is_end}
-use Rattle.world_letters.specs.waits.Requests.{is_request, request-tells}
-use Rattle.world_letters.specs.waits.Waits.{Conversation, IsAnswer, IsAsked, IsHeld, IsLost, IsQuestion, IsReplied, IsReply, IsReplyTo, ItsAsk, ItsRequest, TalksSo, asked_of, held_of}
+use Rattle.world_contents.specs.world_letters.talks.AskLaws.{asked-commit, sent-is-asked}
+use Rattle.world_contents.specs.world_letters.talks.Asked.{ARead, ASnapshot, AnAggregation, Asked, ItsWrites, commit_of}
+use Rattle.world_contents.specs.world_letters.talks.Conversation.{Answers}
+use Rattle.world_contents.specs.world_letters.talks.TalkLaws.{got-is-talk, sent-is-talk, taken-from, talk-none, talk-only}
+use Rattle.world_contents.specs.world_letters.waits.ClientLaws.{present-of, question-about}
+use Rattle.world_contents.specs.world_letters.waits.Passing.{IsOfClient, question-of}
+use Rattle.world_contents.specs.world_letters.waits.Premises.{RequestsAreOfClients, is_end}
+use Rattle.world_contents.specs.world_letters.waits.Requests.{is_request, request-tells}
+use Rattle.world_contents.specs.world_letters.waits.Waits.{Conversation, IsAnswer, IsAsked, IsHeld, IsLost, IsQuestion, IsReplied, IsReply, IsReplyTo, ItsAsk, ItsRequest, TalksSo, asked_of, held_of}
 
 -- ---- what is in flight of a client
 

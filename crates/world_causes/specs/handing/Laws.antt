@@ -7,7 +7,7 @@ use Rattle.daos_model.specs.declared.durable.Version.{Version}
 use Rattle.daos_model.specs.Opening.{Opening}
 use Rattle.world_causes.specs.causes.HearingLaws.{LossesStand}
 use Rattle.world_contents.specs.reads.Versions.{Versions}
-use Rattle.world_commit.specs.attempts.History.{History}
+use Rattle.world_contents.specs.world_commit.attempts.History.{History}
 use Rattle.world_base.specs.declared.client.ClientState.{ClientState}
 use Rattle.world_base.specs.declared.letter.Letter.{Letter}
 use Rattle.world_base.specs.declared.world.World.{World}
@@ -15,23 +15,23 @@ use Rattle.world_base.specs.Events.{Rules, client_plan}
 use Rattle.world_causes.specs.causes.Causes.{EndsOf}
 use Rattle.world_base.specs.Letters.{Takes, client}
 use Rattle.world_base.specs.Stops.{WorldEvent}
-use Rattle.world_letters.specs.epochs.Epochs.{ClientsStand, Epochs}
-use Rattle.world_commit.specs.fates.Asked.{AskedRight}
+use Rattle.world_contents.specs.world_letters.epochs.Epochs.{ClientsStand, Epochs}
+use Rattle.world_contents.specs.world_commit.fates.Asked.{AskedRight}
 use Rattle.world_causes.specs.handing.Dates.{SnapshotsAreRead}
 use Rattle.world_causes.specs.handing.Losing.{GivenUpAreTold}
 use Rattle.world_causes.specs.handing.Groups.{ClientsAskWithin}
 use Rattle.world_causes.specs.handing.Handing.{EpochsOfCommits}
-use Rattle.world_commit.specs.fates.Facts.{Attempts}
+use Rattle.world_contents.specs.world_commit.fates.Facts.{Attempts}
 use Rattle.world_causes.specs.handing.Targets.{PlacesAreRight}
-use Rattle.world_letters.specs.lines.Lines.{Endings}
+use Rattle.world_contents.specs.world_letters.lines.Lines.{Endings}
 use Rattle.world_causes.specs.losses.ClientHears.{LossesAreAsked}
 use Rattle.world_causes.specs.losses.Clients.{AreBegun}
 use Rattle.world_causes.specs.losses.Losses.{AsksItsTargets, LeadersAreTargets, Losses}
 use Rattle.world_causes.specs.losses.Readers.{OpenAreHeld, ReadersAreNew}
 use Rattle.world_causes.specs.outcomes.Outcomes.{Outcomes}
 use Rattle.world_causes.specs.outcomes.Premises.{AsksGoRight, CommitsAreOfClients, HandsOver, HearsFitly}
-use Rattle.world_letters.specs.waits.Premises.{RequestsAreOfClients}
-use Rattle.world_letters.specs.waits.Waits.{Conversation}
+use Rattle.world_contents.specs.world_letters.waits.Premises.{RequestsAreOfClients}
+use Rattle.world_contents.specs.world_letters.waits.Waits.{Conversation}
 
 -- where conversations are in order and requests come from clients, clients hand attempts over one at a time
 abbrev pub ConversationsHandOver : Type 0

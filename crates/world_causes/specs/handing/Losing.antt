@@ -10,9 +10,9 @@ use Rattle.daos_model.specs.Accesses.{attempt_targets}
 use Rattle.daos_model.specs.Opening.{Opening}
 use Rattle.dtx_base.specs.LeaderLaws.{same-is}
 use Rattle.model_laws.specs.Members.{Has, contains-from_has}
-use Rattle.world_commit.specs.attempts.Attempts.{entry_in}
-use Rattle.world_commit.specs.attempts.Counting.{has-taken}
-use Rattle.world_commit.specs.attempts.History.{History}
+use Rattle.world_contents.specs.world_commit.attempts.Attempts.{entry_in}
+use Rattle.world_contents.specs.world_commit.attempts.Counting.{has-taken}
+use Rattle.world_contents.specs.world_commit.attempts.History.{History}
 use Rattle.world_base.specs.declared.client.ClientState.{ClientState}
 use Rattle.world_base.specs.declared.letter.Letter.{Letter}
 use Rattle.world_base.specs.declared.world.World.{World}
@@ -20,7 +20,7 @@ use Rattle.world_base.specs.ClientTurns.{about, attempt_id, is_about, request_of
 use Rattle.world_base.specs.Events.{Rules, client_plan}
 use Rattle.world_base.specs.Letters.{Takes, client}
 use Rattle.world_causes.specs.causes.HearingLaws.{LossStands, LossesStand}
-use Rattle.world_letters.specs.epochs.Epochs.{IsPresent}
+use Rattle.world_contents.specs.world_letters.epochs.Epochs.{IsPresent}
 use Rattle.world_causes.specs.losses.ClientHears.{LossesAreAsked, TellsLoss}
 use Rattle.world_causes.specs.losses.Losses.{Losses, is_asked_of, tells_stop}
 use Rattle.world_causes.specs.losses.Readers.{OpenAreHeld}

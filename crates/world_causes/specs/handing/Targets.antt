@@ -23,8 +23,8 @@ use Rattle.model_laws.specs.JoinLaws.{has-range}
 use Rattle.model_laws.specs.Members.{Has, contains-from_has, has-filter, has-from_contains, has-from_filter, has-left, has-right, has-map}
 use Rattle.model_laws.specs.TargetLaws.{same_number}
 use Rattle.world_contents.specs.posts.Members.{bit-of}
-use Rattle.world_commit.specs.attempts.Attempts.{IsOther, first_entry, leader_of, members_of, writes_of}
-use Rattle.world_commit.specs.attempts.History.{History}
+use Rattle.world_contents.specs.world_commit.attempts.Attempts.{IsOther, first_entry, leader_of, members_of, writes_of}
+use Rattle.world_contents.specs.world_commit.attempts.History.{History}
 use Rattle.world_base.specs.declared.request.CommitRequest.{CommitRequest}
 use Rattle.world_base.specs.declared.client.ClientPlan.{ClientPlan}
 use Rattle.world_base.specs.declared.client.ClientState.{ClientState}
@@ -35,18 +35,18 @@ use Rattle.world_base.specs.ClientTurns.{attempt_id, command_at, group_asked, gr
 use Rattle.world_base.specs.Events.{Rules, client_plan}
 use Rattle.world_base.specs.Letters.{client, letter_of, talk_of, target}
 use Rattle.world_causes.specs.causes.Growth.{question-asks}
-use Rattle.world_letters.specs.epochs.Epochs.{ClientsStand}
-use Rattle.world_commit.specs.fates.Facts.{Attempts, IsAskedSo}
+use Rattle.world_contents.specs.world_letters.epochs.Epochs.{ClientsStand}
+use Rattle.world_contents.specs.world_commit.fates.Facts.{Attempts, IsAskedSo}
 use Rattle.world_causes.specs.handing.Groups.{ClientsAskWithin, InGroup, IsWithin}
 use Rattle.world_causes.specs.handing.Handing.{commit-goes}
 use Rattle.world_causes.specs.losses.Losses.{AsksItsTargets, is_asked_of}
-use Rattle.world_letters.specs.snapshots.Events.{command-is}
-use Rattle.world_letters.specs.talks.AskLaws.{sent-is-asked}
-use Rattle.world_letters.specs.talks.Asked.{ARead, ASnapshot, AnAggregation, Asked, ItsWrites}
-use Rattle.world_letters.specs.waits.ClientLaws.{present-of, question-about}
-use Rattle.world_letters.specs.waits.Premises.{RequestsAreOfClients}
-use Rattle.world_letters.specs.waits.Requests.{is_request}
-use Rattle.world_letters.specs.waits.Waits.{Conversation, IsAsked, IsHeld, IsQuestion, IsReplied, ItsAsk, ItsRequest, TalksSo, asked_of, held_of, is_asked_by}
+use Rattle.world_contents.specs.world_letters.snapshots.Events.{command-is}
+use Rattle.world_contents.specs.world_letters.talks.AskLaws.{sent-is-asked}
+use Rattle.world_contents.specs.world_letters.talks.Asked.{ARead, ASnapshot, AnAggregation, Asked, ItsWrites}
+use Rattle.world_contents.specs.world_letters.waits.ClientLaws.{present-of, question-about}
+use Rattle.world_contents.specs.world_letters.waits.Premises.{RequestsAreOfClients}
+use Rattle.world_contents.specs.world_letters.waits.Requests.{is_request}
+use Rattle.world_contents.specs.world_letters.waits.Waits.{Conversation, IsAsked, IsHeld, IsQuestion, IsReplied, ItsAsk, ItsRequest, TalksSo, asked_of, held_of, is_asked_by}
 
 -- ---- what else holds, of which this makes use
 

@@ -13,8 +13,8 @@ use Rattle.daos_model.specs.BoolLaws.{and_left}
 use Rattle.daos_model.specs.Durables.{same_attempt}
 use Rattle.dtx_base.specs.LeaderLaws.{same-is}
 use Rattle.model_laws.specs.Members.{Has, contains-from_has}
-use Rattle.world_commit.specs.attempts.Attempts.{IsBorn}
-use Rattle.world_commit.specs.attempts.History.{History}
+use Rattle.world_contents.specs.world_commit.attempts.Attempts.{IsBorn}
+use Rattle.world_contents.specs.world_commit.attempts.History.{History}
 use Rattle.world_base.specs.declared.client.ClientState.{ClientState}
 use Rattle.world_base.specs.declared.client.Present.{Present}
 use Rattle.world_base.specs.declared.letter.Letter.{Letter}
@@ -22,8 +22,8 @@ use Rattle.world_base.specs.declared.world.World.{World}
 use Rattle.world_base.specs.ClientTurns.{attempt_id, request_of}
 use Rattle.world_base.specs.Events.{Rules, client_plan}
 use Rattle.world_base.specs.Letters.{client, is_tell, reset_message}
-use Rattle.world_letters.specs.epochs.Epochs.{IsPresent}
-use Rattle.world_commit.specs.fates.Facts.{Attempts, IsAskedSo, IsSaidSo}
+use Rattle.world_contents.specs.world_letters.epochs.Epochs.{IsPresent}
+use Rattle.world_contents.specs.world_commit.fates.Facts.{Attempts, IsAskedSo, IsSaidSo}
 use Rattle.world_causes.specs.handing.Begun.{handed-where, lost-question}
 use Rattle.world_causes.specs.handing.Handing.{asked-by, ended-attempt, told-to}
 use Rattle.world_causes.specs.causes.Causes.{EndsOf}
@@ -32,13 +32,13 @@ use Rattle.world_causes.specs.losses.ClientHears.{TellsLoss}
 use Rattle.world_causes.specs.losses.Clients.{AreBegun, IsOver}
 use Rattle.world_causes.specs.losses.Losses.{is_asked_of, tells_stop}
 use Rattle.world_causes.specs.outcomes.Outcomes.{Outcomes}
-use Rattle.world_letters.specs.talks.Conversation.{Answers}
-use Rattle.world_letters.specs.talks.TalkLaws.{taken-from}
-use Rattle.world_letters.specs.waits.ClientLaws.{present-of, question-about}
-use Rattle.world_letters.specs.waits.Premises.{RequestsAreOfClients, is_end}
-use Rattle.world_letters.specs.waits.Passing.{IsOfClient, question-of}
-use Rattle.world_letters.specs.waits.Requests.{is_lost_request, is_request}
-use Rattle.world_letters.specs.waits.Waits.{Conversation, IsAnswer, IsLost, IsQuestion, IsReplyTo}
+use Rattle.world_contents.specs.world_letters.talks.Conversation.{Answers}
+use Rattle.world_contents.specs.world_letters.talks.TalkLaws.{taken-from}
+use Rattle.world_contents.specs.world_letters.waits.ClientLaws.{present-of, question-about}
+use Rattle.world_contents.specs.world_letters.waits.Premises.{RequestsAreOfClients, is_end}
+use Rattle.world_contents.specs.world_letters.waits.Passing.{IsOfClient, question-of}
+use Rattle.world_contents.specs.world_letters.waits.Requests.{is_lost_request, is_request}
+use Rattle.world_contents.specs.world_letters.waits.Waits.{Conversation, IsAnswer, IsLost, IsQuestion, IsReplyTo}
 
 -- what a read is answered, its attempt asked for
 fetched-attempt : (q : Post) (x : AttemptId) (op group : ℕ) (own : Option Epoch) (b : Reply) (m : Message) → m ≡ message.Fetched x op group own b → IsReplyTo q m → request_of q.message ≡ Some x

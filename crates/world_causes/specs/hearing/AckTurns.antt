@@ -20,8 +20,8 @@ use Rattle.daos_model.specs.Opening.{Opening}
 use Rattle.dtx_base.specs.Leading.{abort_to, ended}
 use Rattle.dtx_base.specs.Members.{other_members}
 use Rattle.dtx_base.specs.Rows.{is_among}
-use Rattle.world_commit.specs.attempts.Attempts.{Entries, entry_in, writes_of}
-use Rattle.world_commit.specs.attempts.History.{Decided, GrowsBy, History, Served, Tells, is_decided}
+use Rattle.world_contents.specs.world_commit.attempts.Attempts.{Entries, entry_in, writes_of}
+use Rattle.world_contents.specs.world_commit.attempts.History.{Decided, GrowsBy, History, Served, Tells, is_decided}
 use Rattle.world_base.specs.declared.did.Did.{Did}
 use Rattle.world_base.specs.declared.letter.Letter.{Letter}
 use Rattle.world_base.specs.declared.target.Life.TheVariants.{Running}
@@ -34,7 +34,7 @@ use Rattle.world_base.specs.Events.{Rules, kept, listed, target_plan}
 use Rattle.world_base.specs.PathLaws.{reached-keeps}
 use Rattle.world_base.specs.Roles.{leader_at}
 use Rattle.world_base.specs.Turns.{Whole}
-use Rattle.world_commit.specs.fates.Told.{refused_end, silent_end, told_end}
+use Rattle.world_contents.specs.world_commit.fates.Told.{refused_end, silent_end, told_end}
 use Rattle.world_contents.specs.reads.AckLaws as acks
 use Rattle.world_contents.specs.reads.AckLaws.{AckTells, Nothing, Refused, TellsCommit, ack-tells, refusal-silent}
 use Rattle.world_contents.specs.reads.Adds.{AreAnswered, NoneIs, is_answer, none-answered}

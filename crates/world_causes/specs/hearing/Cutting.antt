@@ -18,7 +18,7 @@ use Rattle.world_base.specs.CutTurns.{CutHere, CutTurn, Cutting, HearingIsCut, I
 use Rattle.world_base.specs.Roles.{is_prepared}
 use Rattle.world_base.specs.TargetTurns.{commit_request}
 use Rattle.world_causes.specs.restarts.CutLaws.{commit-is-cut}
-use Rattle.world_commit.specs.stops.CutEvents.{is_without_snapshots}
+use Rattle.world_contents.specs.world_commit.stops.CutEvents.{is_without_snapshots}
 
 -- a request for which an epoch may be issued
 abbrev pub is_request : Message → Bool

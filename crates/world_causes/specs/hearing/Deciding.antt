@@ -11,8 +11,8 @@ use Rattle.model_laws.specs.Members.{Has, has-from_contains, has-from_map, has-m
 use Rattle.daos_model.specs.declared.durable.Version.{Version}
 use Rattle.daos_model.specs.BoolLaws.{clash}
 use Rattle.daos_model.specs.Opening.{Opening}
-use Rattle.world_commit.specs.attempts.Attempts.{writes_of}
-use Rattle.world_commit.specs.attempts.History.{Decided, GrowsBy, History, Tells, decides, is_decided}
+use Rattle.world_contents.specs.world_commit.attempts.Attempts.{writes_of}
+use Rattle.world_contents.specs.world_commit.attempts.History.{Decided, GrowsBy, History, Tells, decides, is_decided}
 use Rattle.world_base.specs.declared.world.World.{World}
 use Rattle.world_base.specs.Events.{Rules}
 use Rattle.world_contents.specs.reads.ChangeLaws.{WasDecided, decided-has, has-decided}
@@ -22,7 +22,7 @@ use Rattle.world_contents.specs.reads.LaterLaws.{IsHeldByAll, answered-as, stand
 use Rattle.world_contents.specs.reads.Reads.{Reads}
 use Rattle.world_contents.specs.reads.Versions.{Versions}
 use Rattle.world_causes.specs.restarts.DecideLaws.{decision-keeps}
-use Rattle.world_commit.specs.stops.Openings.{committed_end}
+use Rattle.world_contents.specs.world_commit.stops.Openings.{committed_end}
 
 -- ---- more are aborted
 

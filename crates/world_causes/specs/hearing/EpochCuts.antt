@@ -11,9 +11,9 @@ use Rattle.world_base.specs.declared.world.World.{World}
 use Rattle.world_base.specs.CutTurns.{Cutting}
 use Rattle.world_base.specs.Events.{Rules, listed, target_after}
 use Rattle.world_base.specs.Stops.{is_not_to}
-use Rattle.world_letters.specs.epochs.Epochs.{AsksEpoch, LacksEpoch}
-use Rattle.world_letters.specs.epochs.Sayings.{AreKnown}
-use Rattle.world_letters.specs.epochs.TargetLaws.{IsNew, issued_then}
+use Rattle.world_contents.specs.world_letters.epochs.Epochs.{AsksEpoch, LacksEpoch}
+use Rattle.world_contents.specs.world_letters.epochs.Sayings.{AreKnown}
+use Rattle.world_contents.specs.world_letters.epochs.TargetLaws.{IsNew, issued_then}
 
 -- what a target would have been once its turn went on, with ticks that cover an epoch of these
 abbrev pub gone_on : TargetState → Cutting → ℕ → TargetState

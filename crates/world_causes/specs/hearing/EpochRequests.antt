@@ -19,8 +19,8 @@ use Rattle.world_base.specs.PathLaws.{AllPlain, path-keeps}
 use Rattle.world_base.specs.Reads as read
 use Rattle.world_base.specs.Requests.{issued_for, request_epoch}
 use Rattle.world_base.specs.TurnLaws.{commit-plain, fetch-plain}
-use Rattle.world_letters.specs.epochs.FetchTurns.{Covers, FetchSoFar, fetch-step, lease-covers}
-use Rattle.world_letters.specs.epochs.Sayings.{AreKnown, Known, Stays, known-all, known-each, step-stays}
+use Rattle.world_contents.specs.world_letters.epochs.FetchTurns.{Covers, FetchSoFar, fetch-step, lease-covers}
+use Rattle.world_contents.specs.world_letters.epochs.Sayings.{AreKnown, Known, Stays, known-all, known-each, step-stays}
 use Rattle.world_causes.specs.restarts.Cuts.{none-in_part}
 
 -- ---- what holds where a turn was cut

@@ -11,11 +11,11 @@ use Rattle.world_base.specs.declared.world.World.{World}
 use Rattle.world_base.specs.Events.{ByClient, ByTarget, Rules, ToClient, ToTarget, kept, target_plan, with_epoch}
 use Rattle.world_base.specs.Letters.{target}
 use Rattle.world_base.specs.Stops.{AtWork, CutOf, Draws, Fails, Further, GivenUp, Happening, Hearing, IdleWork, IsCut, Opens, Plainly}
-use Rattle.world_letters.specs.epochs.Sayings.{AreKnown, Known, known-all}
+use Rattle.world_contents.specs.world_letters.epochs.Sayings.{AreKnown, Known, known-all}
 use Rattle.world_contents.specs.reads.EventLaws.{at-or-there}
 use Rattle.world_causes.specs.causes.FloorLaws.{KeepsFloors, RowsStay, openings-keep-floors, staying-keeps-floors, stops-keep-floors}
-use Rattle.world_commit.specs.statuses.Events.{HappensWithoutSnapshots}
-use Rattle.world_commit.specs.stops.CutEvents.{IsWithoutSnapshots}
+use Rattle.world_contents.specs.world_commit.statuses.Events.{HappensWithoutSnapshots}
+use Rattle.world_contents.specs.world_commit.stops.CutEvents.{IsWithoutSnapshots}
 use Rattle.world_causes.specs.hearing.Storing.{BringsKnown, KeptSo, further-kept, hearing-cut-kept, hears-kept, idle-cut-kept, idle-kept}
 
 abbrev pub HappeningsKeepFloors : Type 0

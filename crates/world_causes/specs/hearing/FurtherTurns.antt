@@ -17,9 +17,9 @@ use Rattle.daos_model.specs.declared.durable.Durable.{Durable}
 use Rattle.daos_model.specs.declared.durable.Version.{Version}
 use Rattle.daos_model.specs.Opening.{Opening}
 use Rattle.dtx_base.specs.declared.member.Parked.{Parked}
-use Rattle.world_commit.specs.attempts.Attempts.{Entries, IsToLeader}
-use Rattle.world_commit.specs.attempts.Counting.{has-taken}
-use Rattle.world_commit.specs.attempts.History.{GrowsBy, History, Served, Tells}
+use Rattle.world_contents.specs.world_commit.attempts.Attempts.{Entries, IsToLeader}
+use Rattle.world_contents.specs.world_commit.attempts.Counting.{has-taken}
+use Rattle.world_contents.specs.world_commit.attempts.History.{GrowsBy, History, Served, Tells}
 use Rattle.world_base.specs.declared.did.Did.{Did}
 use Rattle.world_base.specs.declared.target.TargetMemory.{TargetMemory}
 use Rattle.world_base.specs.declared.world.World.{World}
@@ -32,7 +32,7 @@ use Rattle.world_base.specs.Statuses.{status_refusal}
 use Rattle.world_base.specs.Stops.{Further, HearsMore}
 use Rattle.world_base.specs.TargetTurns.{commit_request}
 use Rattle.world_base.specs.Turns.{Whole}
-use Rattle.world_commit.specs.fates.Facts.{IsSaidSo}
+use Rattle.world_contents.specs.world_commit.fates.Facts.{IsSaidSo}
 use Rattle.world_contents.specs.reads.Adds.{AreAnswered, NoneIs, is_answer, none-answered}
 use Rattle.world_contents.specs.reads.CommitLaws as commits
 use Rattle.world_contents.specs.reads.EventLaws.{After, commit-heard, told-so, turn-begins, turn-keeps}
@@ -42,8 +42,8 @@ use Rattle.world_contents.specs.reads.Midway.{IsServedRight, Sound}
 use Rattle.world_contents.specs.reads.Reads.{Reads}
 use Rattle.world_contents.specs.reads.Standing.{Knows}
 use Rattle.world_contents.specs.reads.Versions.{Versions}
-use Rattle.world_commit.specs.statuses.Fates.{tells_fate, told_by_it, told_further}
-use Rattle.world_commit.specs.statuses.Heard.{further-keeps, is_of_attempts}
+use Rattle.world_contents.specs.world_commit.statuses.Fates.{tells_fate, told_by_it, told_further}
+use Rattle.world_contents.specs.world_commit.statuses.Heard.{further-keeps, is_of_attempts}
 use Rattle.world_causes.specs.hearing.AckTurns.{ack-goes}
 use Rattle.world_causes.specs.hearing.Going.{AnswersAreServed, Before, GoesOn}
 use Rattle.world_causes.specs.hearing.Growing.{tells-grow}

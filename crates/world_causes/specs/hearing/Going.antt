@@ -5,19 +5,19 @@ use Rattle.base_messages.specs.declared.message.Post.{Post}
 use Rattle.model_laws.specs.Members.{Has}
 use Rattle.daos_model.specs.declared.durable.Version.{Version}
 use Rattle.daos_model.specs.Opening.{Opening}
-use Rattle.world_commit.specs.attempts.Attempts.{writes_of}
-use Rattle.world_commit.specs.attempts.History.{GrowsBy, History, Served}
+use Rattle.world_contents.specs.world_commit.attempts.Attempts.{writes_of}
+use Rattle.world_contents.specs.world_commit.attempts.History.{GrowsBy, History, Served}
 use Rattle.world_base.specs.declared.target.TargetState.{TargetState}
 use Rattle.world_base.specs.declared.world.World.{World}
 use Rattle.world_base.specs.Events.{Rules, ToTarget}
 use Rattle.world_base.specs.Stops.{Further, Happening, Plainly}
-use Rattle.world_commit.specs.fates.Asked.{AskedRight}
-use Rattle.world_commit.specs.fates.Facts.{Attempts}
+use Rattle.world_contents.specs.world_commit.fates.Asked.{AskedRight}
+use Rattle.world_contents.specs.world_commit.fates.Facts.{Attempts}
 use Rattle.world_contents.specs.reads.Adds.{AreAnswered}
 use Rattle.world_contents.specs.reads.Given.{Given}
 use Rattle.world_contents.specs.reads.Reads.{Reads}
 use Rattle.world_contents.specs.reads.Versions.{Versions}
-use Rattle.world_commit.specs.statuses.Senders.{SendersAreRight}
+use Rattle.world_contents.specs.world_commit.statuses.Senders.{SendersAreRight}
 
 -- every attempt of which a target has an entry writes something
 abbrev pub EntriesWrite : Rules → World → Type 0

@@ -11,7 +11,7 @@ use Rattle.base_messages.specs.declared.message.Message.TheVariants as message
 use Rattle.base_messages.specs.declared.message.Post.{Post}
 use Rattle.base_messages.specs.declared.message.Reply.TheVariants as reply
 use Rattle.daos_model.specs.Transactions.{ops_or_none, ops_of}
-use Rattle.world_commit.specs.attempts.History.{History}
+use Rattle.world_contents.specs.world_commit.attempts.History.{History}
 use Rattle.world_base.specs.declared.client.ClientPlan.{ClientPlan}
 use Rattle.world_base.specs.declared.client.ClientState.{ClientState}
 use Rattle.world_base.specs.declared.client.Present.{Present}
@@ -22,16 +22,16 @@ use Rattle.world_base.specs.Events.{ClientGoes, ClientHears, Rules, client_plan,
 use Rattle.world_base.specs.Letters.{Takes, client, is_tell, letters_of}
 use Rattle.world_base.specs.StepLaws.{by-hearing, by-next}
 use Rattle.world_base.specs.Steps.{KeptByCounting, KeptByHearing, KeptByMoves, after_move, without}
-use Rattle.world_letters.specs.clients.Standing.{HasTold}
-use Rattle.world_letters.specs.epochs.Epochs.{ClientsStand}
-use Rattle.world_letters.specs.epochs.EventLaws.{stands-by-counting, stands-by-hearing, stands-by-moves}
-use Rattle.world_letters.specs.epochs.Talking.{TalksOnce, silent-unless, taken-silent}
+use Rattle.world_contents.specs.world_letters.clients.Standing.{HasTold}
+use Rattle.world_contents.specs.world_letters.epochs.Epochs.{ClientsStand}
+use Rattle.world_contents.specs.world_letters.epochs.EventLaws.{stands-by-counting, stands-by-hearing, stands-by-moves}
+use Rattle.world_contents.specs.world_letters.epochs.Talking.{TalksOnce, silent-unless, taken-silent}
 use Rattle.world_contents.specs.gots.GotLaws.{Here, KeepsGots, at-command, ends-gots, silent-gots, waits-gots, waits-served, IsServedHere}
 use Rattle.world_contents.specs.gots.Gots.{Gots, IsServedAnswer}
 use Rattle.world_contents.specs.gots.HearGots.{answer-gots, ended-gots, outcome-gots}
 use Rattle.world_contents.specs.gots.StepGots.{AreFlying, gots-moved, here-of, is_fetched, sends-one, turned}
-use Rattle.world_letters.specs.talks.HearLaws.{replied-silent}
-use Rattle.world_letters.specs.talks.TalkLaws.{got-is-talk, left-is-among, none-among, taken-is-among}
+use Rattle.world_contents.specs.world_letters.talks.HearLaws.{replied-silent}
+use Rattle.world_contents.specs.world_letters.talks.TalkLaws.{got-is-talk, left-is-among, none-among, taken-is-among}
 use Rattle.base_types.specs.declared.answer.Answer.{Answer}
 use Rattle.base_types.specs.declared.epoch.Epoch.{Epoch}
 use Rattle.world_contents.specs.gots.MoreLaws.{knows-more}

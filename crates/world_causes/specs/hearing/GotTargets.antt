@@ -10,8 +10,8 @@ use Rattle.base_messages.specs.declared.message.Reply.TheVariants as reply
 use Rattle.model_laws.specs.Members.{Has, has-filter, has-left, has-map, has-right}
 use Rattle.model_laws.specs.TargetLaws.{same_number}
 use Rattle.dtx_base.specs.declared.member.Parked.{Parked}
-use Rattle.world_commit.specs.attempts.Counting.{has-taken}
-use Rattle.world_commit.specs.attempts.History.{History}
+use Rattle.world_contents.specs.world_commit.attempts.Counting.{has-taken}
+use Rattle.world_contents.specs.world_commit.attempts.History.{History}
 use Rattle.world_base.specs.declared.client.ClientPlan.{ClientPlan}
 use Rattle.world_base.specs.declared.client.ClientState.{ClientState}
 use Rattle.world_base.specs.declared.client.Present.{Present}
@@ -27,14 +27,14 @@ use Rattle.world_base.specs.TargetTurns.{Hearing}
 use Rattle.world_contents.specs.gots.Gots.{Gots, IsServedAnswer, Remembers}
 use Rattle.world_contents.specs.gots.TargetGots.{AnswersClient, answer-remembered, client-served, same-clients, same-request, sent-or_left}
 use Rattle.world_contents.specs.reads.Adds.{AreAnswered, Heard, IsAnswered, IsAskedIn, Waited, served_at}
-use Rattle.world_commit.specs.statuses.Senders.{IsSentRightly, SendersAreRight}
-use Rattle.world_letters.specs.talks.Asked.{AsksRead}
-use Rattle.world_letters.specs.talks.AskLaws.{asked-is-request, asked-read, sent-is-asked}
-use Rattle.world_letters.specs.talks.Conversation.{is_fetch_of}
-use Rattle.world_letters.specs.talks.HearLaws.{answer-is}
-use Rattle.world_letters.specs.talks.TalkLaws.{got-is-talk, left-is-among, sent-is-talk}
-use Rattle.world_letters.specs.waits.ClientLaws.{present-of}
-use Rattle.world_letters.specs.waits.Waits.{ARead, Conversation, Held, HoldsIt, IsAnswer, IsAsked, IsHeld, IsLost, IsQuestion, IsReplied, IsReplyTo, ItsAsk, ItsRequest, TalksSo, asked_of, held_by, held_from, held_of, is_parked_of, parked_at}
+use Rattle.world_contents.specs.world_commit.statuses.Senders.{IsSentRightly, SendersAreRight}
+use Rattle.world_contents.specs.world_letters.talks.Asked.{AsksRead}
+use Rattle.world_contents.specs.world_letters.talks.AskLaws.{asked-is-request, asked-read, sent-is-asked}
+use Rattle.world_contents.specs.world_letters.talks.Conversation.{is_fetch_of}
+use Rattle.world_contents.specs.world_letters.talks.HearLaws.{answer-is}
+use Rattle.world_contents.specs.world_letters.talks.TalkLaws.{got-is-talk, left-is-among, sent-is-talk}
+use Rattle.world_contents.specs.world_letters.waits.ClientLaws.{present-of}
+use Rattle.world_contents.specs.world_letters.waits.Waits.{ARead, Conversation, Held, HoldsIt, IsAnswer, IsAsked, IsHeld, IsLost, IsQuestion, IsReplied, IsReplyTo, ItsAsk, ItsRequest, TalksSo, asked_of, held_by, held_from, held_of, is_parked_of, parked_at}
 
 -- ---- lists
 

@@ -6,7 +6,7 @@ use Rattle.base_types.specs.declared.id.AttemptId.{AttemptId}
 use Rattle.base_types.specs.declared.outcome.Outcome.TheVariants.{Committed}
 use Rattle.base_messages.specs.declared.message.Post.{Post}
 use Rattle.model_laws.specs.Members.{Has, has-cases, has-left, has-right}
-use Rattle.world_commit.specs.attempts.History.{Decided, GrowsBy, History, Served, Tells}
+use Rattle.world_contents.specs.world_commit.attempts.History.{Decided, GrowsBy, History, Served, Tells}
 use Rattle.world_contents.specs.reads.Growing.{committed_in, grown, refused_in}
 use Rattle.world_contents.specs.reads.GrowLaws.{grown-grows}
 

@@ -1,18 +1,18 @@
 -- Clients stay at the commands of their numbers, whatever happens.
 use Rattle.std.specs.Prelude.{◌≡◌, ◌<◌, Bool, true, false, slice_get, refl}
 use Rattle.std.proofs.Common.{sym, ◌∙◌, ap}
-use Rattle.world_commit.specs.attempts.History.{History}
+use Rattle.world_contents.specs.world_commit.attempts.History.{History}
 use Rattle.world_base.specs.declared.world.World.{World}
 use Rattle.world_base.specs.ClientTurns.{waits}
 use Rattle.world_base.specs.Events.{Rules, client_plan}
 use Rattle.world_base.specs.Letters.{talk_of}
 use Rattle.world_base.specs.Stops.{Draws, Fails, Further, GivenUp, Happening, IsCut, Opens, Plainly, WorldEvent}
-use Rattle.world_letters.specs.epochs.Epochs.{ClientsStand}
-use Rattle.world_letters.specs.epochs.EventLaws.{clients-stand}
-use Rattle.world_letters.specs.epochs.Talking.{AtMostOne, NoLetter, OneLetter, TalksOnce}
-use Rattle.world_commit.specs.fates.Facts.{Attempts}
-use Rattle.world_commit.specs.fates.Rightly.{events-are-right}
-use Rattle.world_letters.specs.waits.Waits.{Conversation, IsAsked, IsHeld, IsReplied, TalksSo, asked_of, held_of}
+use Rattle.world_contents.specs.world_letters.epochs.Epochs.{ClientsStand}
+use Rattle.world_contents.specs.world_letters.epochs.EventLaws.{clients-stand}
+use Rattle.world_contents.specs.world_letters.epochs.Talking.{AtMostOne, NoLetter, OneLetter, TalksOnce}
+use Rattle.world_contents.specs.world_commit.fates.Facts.{Attempts}
+use Rattle.world_contents.specs.world_commit.fates.Rightly.{events-are-right}
+use Rattle.world_contents.specs.world_letters.waits.Waits.{Conversation, IsAsked, IsHeld, IsReplied, TalksSo, asked_of, held_of}
 
 -- ---- the statements
 

@@ -16,8 +16,8 @@ use Rattle.model_laws.specs.Members.{Has, contains-from_has, has-cases, has-from
 use Rattle.daos_model.specs.Attempts.{tries}
 use Rattle.daos_model.specs.BoolLaws.{clash}
 use Rattle.daos_model.specs.Laws.{tries-append}
-use Rattle.world_commit.specs.attempts.Counting.{has-taken}
-use Rattle.world_commit.specs.attempts.History.{History}
+use Rattle.world_contents.specs.world_commit.attempts.Counting.{has-taken}
+use Rattle.world_contents.specs.world_commit.attempts.History.{History}
 use Rattle.world_base.specs.declared.client.ClientState.{ClientState}
 use Rattle.world_base.specs.declared.client.Present.{Present}
 use Rattle.world_base.specs.declared.did.Did.{Did}
@@ -36,20 +36,20 @@ use Rattle.world_base.specs.MemoryLaws.{hears-follows, idles-follows}
 use Rattle.world_base.specs.RightTurns.{HearsRightly}
 use Rattle.world_base.specs.Stops.{AtWork, CutOf, Draws, Fails, Further, GivenUp, Happening, Hearing, IdleWork, IsCut, Opens, Plainly, TargetCut, is_not_to, is_to, reset_letter, resets, stops_so_far}
 use Rattle.world_base.specs.TargetTurns.{commit_request}
-use Rattle.world_letters.specs.epochs.Epochs.{ClientsStand}
-use Rattle.world_commit.specs.fates.Facts.{Attempts}
-use Rattle.world_commit.specs.fates.Rightly.{letters-tell}
+use Rattle.world_contents.specs.world_letters.epochs.Epochs.{ClientsStand}
+use Rattle.world_contents.specs.world_commit.fates.Facts.{Attempts}
+use Rattle.world_contents.specs.world_commit.fates.Rightly.{letters-tell}
 use Rattle.world_contents.specs.gots.Gots.{Gots, IsLineServed, IsServedAnswer, Remembers}
 use Rattle.world_contents.specs.gots.StepGots.{is_fetched}
 use Rattle.world_contents.specs.gots.TargetGots.{ends-none, gots-remembered, same-clients, sent-or_left}
 use Rattle.world_causes.specs.restarts.EpochLaws.{rests-gots}
 use Rattle.world_causes.specs.restarts.Resting.{failure-rests, given_up-rests, numbers-rests, opening-rests, tries-none}
-use Rattle.world_commit.specs.statuses.Events.{HappensWithoutSnapshots}
-use Rattle.world_commit.specs.statuses.Heard.{is_of_attempts}
-use Rattle.world_commit.specs.statuses.Senders.{SendersAreRight}
-use Rattle.world_commit.specs.stops.CutEvents.{IsWithoutSnapshots}
-use Rattle.world_letters.specs.waits.ClientLaws.{counting-keeps, hearing-keeps, moves-keep}
-use Rattle.world_letters.specs.waits.Waits.{Conversation}
+use Rattle.world_contents.specs.world_commit.statuses.Events.{HappensWithoutSnapshots}
+use Rattle.world_contents.specs.world_commit.statuses.Heard.{is_of_attempts}
+use Rattle.world_contents.specs.world_commit.statuses.Senders.{SendersAreRight}
+use Rattle.world_contents.specs.world_commit.stops.CutEvents.{IsWithoutSnapshots}
+use Rattle.world_contents.specs.world_letters.waits.ClientLaws.{counting-keeps, hearing-keeps, moves-keep}
+use Rattle.world_contents.specs.world_letters.waits.Waits.{Conversation}
 use Rattle.world_causes.specs.hearing.Cutting.{hearing-cut-tells, turn-silent}
 use Rattle.world_causes.specs.hearing.Going.{AnswersAreServed}
 use Rattle.world_causes.specs.hearing.GotClients.{client-goes-told, client-hears-told}

@@ -20,28 +20,28 @@ use Rattle.daos_model.specs.Opening.{Opening}
 use Rattle.dtx_base.specs.Leading.{is_led, is_open_alone}
 use Rattle.dtx_base.specs.Members.{other_members}
 use Rattle.dtx_base.specs.Rows.{is_empty}
-use Rattle.world_commit.specs.attempts.Attempts.{IsItsEntry, IsOther, entry_at, entry_in, leader_of}
-use Rattle.world_commit.specs.attempts.Counting.{has-taken}
-use Rattle.world_commit.specs.attempts.History.{History, Tells}
-use Rattle.world_commit.specs.attempts.Stored.{found-here}
-use Rattle.world_commit.specs.attempts.MemberBits.{others-same}
+use Rattle.world_contents.specs.world_commit.attempts.Attempts.{IsItsEntry, IsOther, entry_at, entry_in, leader_of}
+use Rattle.world_contents.specs.world_commit.attempts.Counting.{has-taken}
+use Rattle.world_contents.specs.world_commit.attempts.History.{History, Tells}
+use Rattle.world_contents.specs.world_commit.attempts.Stored.{found-here}
+use Rattle.world_contents.specs.world_commit.attempts.MemberBits.{others-same}
 use Rattle.world_base.specs.declared.target.TargetState.{TargetState}
 use Rattle.world_base.specs.declared.world.World.{World}
 use Rattle.world_base.specs.CutTurns.{HearingIsCut}
 use Rattle.world_base.specs.Events.{Rules, kept, target_plan}
 use Rattle.world_base.specs.Roles.{is_prepared}
 use Rattle.world_base.specs.Stops.{AtWork, CutOf, Draws, Fails, Further, GivenUp, Happening, Hearing, IdleWork, IsCut, IsInHand, Opens, Plainly, TargetCut, TargetOpens}
-use Rattle.world_commit.specs.fates.Told.{silent_end}
+use Rattle.world_contents.specs.world_commit.fates.Told.{silent_end}
 use Rattle.world_contents.specs.reads.Given.{IsMessageRight, IsRefusalRight}
 use Rattle.world_contents.specs.reads.Growing.{refused_in}
 use Rattle.world_contents.specs.reads.Reads.{Reads}
 use Rattle.world_contents.specs.reads.Versions.{Versions}
 use Rattle.world_causes.specs.restarts.CutLaws.{IsPlainWork, cuts-keep, is_heard_plainly}
 use Rattle.world_causes.specs.restarts.OpenLaws.{failure-keeps, given_up-keeps, numbers-keep, opening-keeps}
-use Rattle.world_commit.specs.statuses.Events.{HappensWithoutSnapshots, told_by}
-use Rattle.world_commit.specs.stops.CutAnswers.{ack_told}
-use Rattle.world_commit.specs.stops.CutEvents.{IsWithoutSnapshots, cut_told, is_without_snapshots, message_told}
-use Rattle.world_commit.specs.stops.Openings.{alone, opening_told}
+use Rattle.world_contents.specs.world_commit.statuses.Events.{HappensWithoutSnapshots, told_by}
+use Rattle.world_contents.specs.world_commit.stops.CutAnswers.{ack_told}
+use Rattle.world_contents.specs.world_commit.stops.CutEvents.{IsWithoutSnapshots, cut_told, is_without_snapshots, message_told}
+use Rattle.world_contents.specs.world_commit.stops.Openings.{alone, opening_told}
 use Rattle.world_causes.specs.hearing.Deciding.{AreEnded, MayEnd, aborted-on, end-all, ended-grow}
 use Rattle.world_causes.specs.hearing.FurtherTurns.{further-goes, state-right}
 use Rattle.world_causes.specs.hearing.Going.{AnswersAreServed, Before, GoesOn}

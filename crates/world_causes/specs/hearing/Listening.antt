@@ -19,8 +19,8 @@ use Rattle.world_base.specs.Further.{HearsFurther, reset_by}
 use Rattle.world_base.specs.Roles.{member_at}
 use Rattle.world_base.specs.Statuses.{ask_left, reset_left, state_of, status_left}
 use Rattle.daos_model.specs.Durables.{entry_of}
-use Rattle.world_commit.specs.statuses.ResetTurns.{is_collecting}
-use Rattle.world_commit.specs.statuses.Turns.{Looked, looked}
+use Rattle.world_contents.specs.world_commit.statuses.ResetTurns.{is_collecting}
+use Rattle.world_contents.specs.world_commit.statuses.Turns.{Looked, looked}
 use Rattle.world_causes.specs.hearing.Saying.{AllSay, TellsState, ask-says, reset-says}
 
 -- such a message

@@ -9,16 +9,16 @@ use Rattle.model_laws.specs.Members.{Has, has-from_filter, has-right}
 use Rattle.daos_model.specs.declared.durable.Version.{Version}
 use Rattle.daos_model.specs.Opening.{Opening}
 use Rattle.dtx_base.specs.Members.{all_targets, is_other_member, other_members}
-use Rattle.world_commit.specs.attempts.Attempts.{Entries, IsOther, IsToLeader, first_entry, writes_of}
-use Rattle.world_commit.specs.attempts.Counting.{has-taken}
-use Rattle.world_commit.specs.attempts.History.{GrowsBy, History}
+use Rattle.world_contents.specs.world_commit.attempts.Attempts.{Entries, IsOther, IsToLeader, first_entry, writes_of}
+use Rattle.world_contents.specs.world_commit.attempts.Counting.{has-taken}
+use Rattle.world_contents.specs.world_commit.attempts.History.{GrowsBy, History}
 use Rattle.world_base.specs.declared.world.World.{World}
 use Rattle.world_base.specs.Events.{ByClient, ByTarget, Event, Rules, TargetHears, TargetHearsRightly, TargetIdles, ToClient, ToTarget, kept, listed, target_after, target_plan, rightly}
 use Rattle.world_base.specs.RightTurns.{HearsRightly}
 use Rattle.world_base.specs.Stops.{NoneDown, Plainly}
-use Rattle.world_commit.specs.fates.Facts.{IsSaidSo}
-use Rattle.world_commit.specs.fates.KeepingLaws.{attempts-kept}
-use Rattle.world_commit.specs.fates.Told.{silent_at}
+use Rattle.world_contents.specs.world_commit.fates.Facts.{IsSaidSo}
+use Rattle.world_contents.specs.world_commit.fates.KeepingLaws.{attempts-kept}
+use Rattle.world_contents.specs.world_commit.fates.Told.{silent_at}
 use Rattle.world_contents.specs.reads.AckLaws.{other-writes}
 use Rattle.world_contents.specs.reads.Adds.{AreAnswered}
 use Rattle.world_contents.specs.reads.EventLaws.{After, clients-keep, hears-sound, idle-keeps, idle-leaves, right, told-so, turn-keeps}
@@ -28,7 +28,7 @@ use Rattle.world_contents.specs.reads.Midway.{TurnLeaves}
 use Rattle.world_contents.specs.reads.Reads.{Reads}
 use Rattle.world_contents.specs.reads.Standing.{Knows}
 use Rattle.world_contents.specs.reads.Versions.{Versions}
-use Rattle.world_commit.specs.stops.Happenings.{told_plainly}
+use Rattle.world_contents.specs.world_commit.stops.Happenings.{told_plainly}
 use Rattle.world_causes.specs.hearing.AckTurns.{ack-goes}
 use Rattle.world_causes.specs.hearing.Going.{AnswersAreServed, Before, GoesOn}
 use Rattle.world_causes.specs.hearing.Standing.{attempts-stand}

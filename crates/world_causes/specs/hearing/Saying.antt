@@ -26,8 +26,8 @@ use Rattle.dtx_base.specs.Leading.{entry_led, is_led, reset_of}
 use Rattle.world_base.specs.declared.target.TargetMemory.{TargetMemory}
 use Rattle.world_base.specs.declared.target.TargetPlan.{TargetPlan}
 use Rattle.world_base.specs.Roles.{leader_at, member_at}
-use Rattle.world_letters.specs.endings.Answers as follows
-use Rattle.world_letters.specs.endings.Answers.{AnswersAsk, SaysCommitted, SaysUnknown, SaysUnresolved, ask-answers, joins-follow, leads-follow}
+use Rattle.world_contents.specs.world_letters.endings.Answers as follows
+use Rattle.world_contents.specs.world_letters.endings.Answers.{AnswersAsk, SaysCommitted, SaysUnknown, SaysUnresolved, ask-answers, joins-follow, leads-follow}
 
 -- ---- the statement
 

@@ -17,8 +17,8 @@ use Rattle.daos_model.specs.Durables.{same_attempt}
 use Rattle.daos_model.specs.EntryLaws.{same_attempt-itself}
 use Rattle.dtx_base.specs.Leading.{entry_led, undecided_of}
 use Rattle.dtx_base.specs.Members.{writes_at}
-use Rattle.world_commit.specs.attempts.Attempts.{IsOther, IsToLeader, entry_at, inc_at, inc_in, is_asked_by, leader_of, writes_of}
-use Rattle.world_commit.specs.attempts.History.{Aborted, History}
+use Rattle.world_contents.specs.world_commit.attempts.Attempts.{IsOther, IsToLeader, entry_at, inc_at, inc_in, is_asked_by, leader_of, writes_of}
+use Rattle.world_contents.specs.world_commit.attempts.History.{Aborted, History}
 use Rattle.world_base.specs.declared.letter.Letter.{Letter}
 use Rattle.world_base.specs.declared.target.TargetState.{TargetState}
 use Rattle.world_base.specs.declared.world.World.{World}
@@ -27,9 +27,9 @@ use Rattle.world_base.specs.Events.{Rules, target_plan}
 use Rattle.world_base.specs.Letters.{target}
 use Rattle.world_base.specs.Roles.{leader_at}
 use Rattle.world_base.specs.Statuses.{status_refusal}
-use Rattle.world_commit.specs.fates.Facts.{Attempts, IsPrepareRight, IsSaidSo, refuses_for}
-use Rattle.world_commit.specs.fates.KeepingLaws.{none-is-both}
-use Rattle.world_commit.specs.fates.Rightly.{letters-tell}
+use Rattle.world_contents.specs.world_commit.fates.Facts.{Attempts, IsPrepareRight, IsSaidSo, refuses_for}
+use Rattle.world_contents.specs.world_commit.fates.KeepingLaws.{none-is-both}
+use Rattle.world_contents.specs.world_commit.fates.Rightly.{letters-tell}
 use Rattle.world_contents.specs.reads.ChangeLaws.{WasDecided}
 use Rattle.world_contents.specs.reads.Standing.{AttemptsStand, IsPrepareSo, IsRefusalSo, IsToldSo, asked-prepares, mark-so, verdict-so}
 

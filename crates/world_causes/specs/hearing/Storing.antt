@@ -34,12 +34,12 @@ use Rattle.world_base.specs.Statuses.{Looks, NoChange, status_refusal}
 use Rattle.world_base.specs.TargetTurns.{Hears, IdlesWhole, commit_request, fetch_request, prepare_request}
 use Rattle.world_base.specs.Turns.{Whole}
 use Rattle.world_base.specs.Verdicts as verdict
-use Rattle.world_letters.specs.epochs.FetchTurns.{lease-covers}
-use Rattle.world_letters.specs.epochs.Sayings.{AreKnown, Known, Stays, StepFits, step-stays}
+use Rattle.world_contents.specs.world_letters.epochs.FetchTurns.{lease-covers}
+use Rattle.world_contents.specs.world_letters.epochs.Sayings.{AreKnown, Known, Stays, StepFits, step-stays}
 use Rattle.world_causes.specs.restarts.CutLaws.{commit-is-cut}
 use Rattle.world_causes.specs.restarts.Cuts.{cut-keeps}
-use Rattle.world_commit.specs.statuses.Heard.{is_of_attempts}
-use Rattle.world_commit.specs.stops.CutEvents.{is_without_snapshots}
+use Rattle.world_contents.specs.world_commit.statuses.Heard.{is_of_attempts}
+use Rattle.world_contents.specs.world_commit.stops.CutEvents.{is_without_snapshots}
 
 -- ---- steps
 

@@ -9,9 +9,9 @@ use Rattle.daos_model.specs.declared.durable.Durable.{Durable}
 use Rattle.daos_model.specs.declared.durable.Version.{Version}
 use Rattle.daos_model.specs.Changes.{reopened}
 use Rattle.daos_model.specs.Opening.{Opening}
-use Rattle.world_commit.specs.attempts.Attempts.{writes_of}
-use Rattle.world_commit.specs.attempts.Counting.{has-taken}
-use Rattle.world_commit.specs.attempts.History.{History}
+use Rattle.world_contents.specs.world_commit.attempts.Attempts.{writes_of}
+use Rattle.world_contents.specs.world_commit.attempts.Counting.{has-taken}
+use Rattle.world_contents.specs.world_commit.attempts.History.{History}
 use Rattle.world_base.specs.declared.letter.Letter.{Letter}
 use Rattle.world_base.specs.declared.target.Life.TheVariants.{Running}
 use Rattle.world_base.specs.declared.target.TargetState.{TargetState}
@@ -19,12 +19,12 @@ use Rattle.world_base.specs.declared.world.World.{World}
 use Rattle.world_base.specs.Events.{ByClient, ByTarget, Rules, ToClient, ToTarget, kept, target_plan}
 use Rattle.world_base.specs.Letters.{target}
 use Rattle.world_base.specs.Stops.{AtWork, CutOf, Draws, Fails, Further, GivenUp, Happening, Hearing, IdleWork, IsCut, IsInHand, Opens, Plainly}
-use Rattle.world_letters.specs.epochs.Sayings.{AreKnown, Known, known-all, known-each}
-use Rattle.world_commit.specs.fates.Facts.{Attempts, IsSaidSo}
+use Rattle.world_contents.specs.world_letters.epochs.Sayings.{AreKnown, Known, known-all, known-each}
+use Rattle.world_contents.specs.world_commit.fates.Facts.{Attempts, IsSaidSo}
 use Rattle.world_contents.specs.reads.EventLaws.{at-or-there}
 use Rattle.world_contents.specs.reads.Given.{Given, IsMessageRight}
-use Rattle.world_commit.specs.statuses.Events.{HappensWithoutSnapshots}
-use Rattle.world_commit.specs.stops.CutEvents.{IsWithoutSnapshots}
+use Rattle.world_contents.specs.world_commit.statuses.Events.{HappensWithoutSnapshots}
+use Rattle.world_contents.specs.world_commit.stops.CutEvents.{IsWithoutSnapshots}
 use Rattle.world_causes.specs.hearing.Going.{EntriesWrite}
 use Rattle.world_causes.specs.hearing.PlainTurns.{others-write}
 use Rattle.world_causes.specs.hearing.Storing.{BringsKnown, KeptSo, further-kept, hearing-cut-kept, hears-kept, idle-cut-kept, idle-kept}

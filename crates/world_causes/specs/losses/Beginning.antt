@@ -7,7 +7,7 @@ use Rattle.base_types.specs.declared.report.Line.{Line}
 use Rattle.base_types.specs.declared.report.Line.TheVariants as line
 use Rattle.model_laws.specs.Members.{Has}
 use Rattle.daos_model.specs.Durables.{entry_of, is_entry_of}
-use Rattle.world_commit.specs.attempts.Attempts.{entry_in, leader_of}
+use Rattle.world_contents.specs.world_commit.attempts.Attempts.{entry_in, leader_of}
 use Rattle.world_causes.specs.losses.Keeping.{LossesBegin}
 use Rattle.world_causes.specs.losses.Losses.{Rests}
 

@@ -28,7 +28,7 @@ use Rattle.world_base.specs.declared.world.World.{World}
 use Rattle.world_base.specs.ClientTurns.{Move, about, answered, asks_again, at_present, attempt_id, command_at, end_line, ends, goes, heard, heard_at, hears_epochs, is_about, knows, listed, op_of, op_told, replied, request_of, reset, snaps_known}
 use Rattle.world_base.specs.Events.{Rules, client_plan}
 use Rattle.world_base.specs.Steps.{without}
-use Rattle.world_letters.specs.epochs.Epochs.{IsPast, IsPresent}
+use Rattle.world_contents.specs.world_letters.epochs.Epochs.{IsPast, IsPresent}
 use Rattle.world_causes.specs.losses.Clients.{Stepped}
 use Rattle.world_causes.specs.losses.Losses.{Losses, StoppedSince, is_asked_of, tells_stop}
 use Rattle.world_causes.specs.losses.Moving.{end-is}

@@ -2,7 +2,7 @@
 use Rattle.std.specs.Prelude.{◌≡◌, true}
 use Rattle.std.proofs.Common.{append-nil, sym, ap, subst}
 use Rattle.model_laws.specs.Members.{Has}
-use Rattle.world_commit.specs.attempts.Counting.{has-left_over, has-taken}
+use Rattle.world_contents.specs.world_commit.attempts.Counting.{has-left_over, has-taken}
 use Rattle.world_base.specs.declared.world.World.{World}
 use Rattle.world_base.specs.ClientTurns.{Ended_by, HearTurn, Heard_on, Move, heard, listed}
 use Rattle.world_base.specs.Events.{ClientGoes, ClientHears, Rules, after_turn, client_plan, with_client}

@@ -13,8 +13,8 @@ use Rattle.daos_model.specs.CausesShown.{IsLostAtStop}
 use Rattle.model_laws.specs.Members.{Has, contains-from_has, has-cases, has-from_contains, has-from_map}
 use Rattle.model_laws.specs.TargetLaws.{number_same}
 use Rattle.std.specs.List.{list_any}
-use Rattle.world_commit.specs.attempts.Attempts.{entry_in, leader_of}
-use Rattle.world_commit.specs.attempts.Turning.{one-or_another}
+use Rattle.world_contents.specs.world_commit.attempts.Attempts.{entry_in, leader_of}
+use Rattle.world_contents.specs.world_commit.attempts.Turning.{one-or_another}
 use Rattle.world_base.specs.declared.client.ClientState.{ClientState}
 use Rattle.world_base.specs.declared.client.Present.{Present}
 use Rattle.world_base.specs.declared.letter.Letter.{Letter}
@@ -25,10 +25,10 @@ use Rattle.world_base.specs.Letters.{client, letter_of, letters_of}
 use Rattle.world_base.specs.StepLaws.{by-next, set-here, set-there}
 use Rattle.world_base.specs.Steps.{KeptByCounting, KeptByMoves, after_move, without}
 use Rattle.world_causes.specs.causes.Lasting.{AreOfOthers, since-more}
-use Rattle.world_letters.specs.epochs.Epochs.{IsPast, IsPresent}
-use Rattle.world_letters.specs.epochs.Lists.{each-push}
-use Rattle.world_commit.specs.fates.Asking.{asked-was}
-use Rattle.world_letters.specs.lines.Lines.{filled}
+use Rattle.world_contents.specs.world_letters.epochs.Epochs.{IsPast, IsPresent}
+use Rattle.world_contents.specs.world_letters.epochs.Lists.{each-push}
+use Rattle.world_contents.specs.world_commit.fates.Asking.{asked-was}
+use Rattle.world_contents.specs.world_letters.lines.Lines.{filled}
 use Rattle.world_causes.specs.losses.Losses.{Losses, Rests, StoppedSince, is_asked_of, tells_stop}
 use Rattle.world_causes.specs.losses.Moving.{LinesSo, StaysOrEnds, moved-lines, moved-none, moved-stays}
 use Rattle.world_causes.specs.outcomes.ClientLaws.{present-not-past}

@@ -22,9 +22,9 @@ use Rattle.dtx_base.specs.Asking.{ask_heard, asked_of, asked_open, tells_end}
 use Rattle.dtx_base.specs.Leading.{LeaderOf, abort_to, ack_heard, answer_heard, answer_if_awaited, counted_at, decided, ended, entry_led, first_down, quietly, undecided_of, with_undecided}
 use Rattle.dtx_base.specs.Members.{are_all_counted, is_other_member, other_members, with_target}
 use Rattle.dtx_base.specs.Rows.{is_among}
-use Rattle.world_commit.specs.attempts.Attempts.{leader_of}
-use Rattle.world_commit.specs.attempts.Counting.{has-left_over, has-taken}
-use Rattle.world_commit.specs.attempts.Turning.{one-or_another}
+use Rattle.world_contents.specs.world_commit.attempts.Attempts.{leader_of}
+use Rattle.world_contents.specs.world_commit.attempts.Counting.{has-left_over, has-taken}
+use Rattle.world_contents.specs.world_commit.attempts.Turning.{one-or_another}
 use Rattle.world_base.specs.declared.did.Did.{Did}
 use Rattle.world_base.specs.declared.letter.Letter.{Letter}
 use Rattle.world_base.specs.declared.target.Life.TheVariants.{Running}
@@ -41,10 +41,10 @@ use Rattle.world_base.specs.Further.{HearsFurther}
 use Rattle.world_base.specs.Statuses.{AtOnce, EndsAs, IsDone, ask_left, state_of, status_left, status_refusal}
 use Rattle.world_base.specs.TargetTurns.{Hearing}
 use Rattle.world_base.specs.Turns.{Reached}
-use Rattle.world_letters.specs.epochs.Epochs.{IsPresent}
-use Rattle.world_commit.specs.fates.Asking.{asked-was}
-use Rattle.world_letters.specs.lines.FilledLaws.{tries-filled}
-use Rattle.world_letters.specs.lines.Lines.{filled}
+use Rattle.world_contents.specs.world_letters.epochs.Epochs.{IsPresent}
+use Rattle.world_contents.specs.world_commit.fates.Asking.{asked-was}
+use Rattle.world_contents.specs.world_letters.lines.FilledLaws.{tries-filled}
+use Rattle.world_contents.specs.world_letters.lines.Lines.{filled}
 use Rattle.world_causes.specs.losses.Losses.{Losses, Rests, StoppedSince, tells_stop}
 use Rattle.world_causes.specs.losses.Recalling.{Recalls}
 use Rattle.world_causes.specs.losses.Since.{since-more}

@@ -1,17 +1,17 @@
 -- The laws of losses, as statements.
 use Rattle.std.specs.Prelude.{ℕ, ◌≡◌, true, []}
-use Rattle.world_commit.specs.attempts.History.{History}
+use Rattle.world_contents.specs.world_commit.attempts.History.{History}
 use Rattle.world_base.specs.declared.world.World.{World}
 use Rattle.world_base.specs.Events.{ClientGoes, ClientHears, Rules, TargetHears, TargetHearsBy, TargetIdles}
 use Rattle.world_base.specs.Further.{HearsFurther}
 use Rattle.world_base.specs.Stops.{HearsMore, NumbersDrawn, OpeningFails, TargetCut, TargetGivenUp, TargetOpens, swept}
-use Rattle.world_commit.specs.fates.Facts.{Attempts}
-use Rattle.world_commit.specs.fates.Keeping.{HasNoneYet}
+use Rattle.world_contents.specs.world_commit.fates.Facts.{Attempts}
+use Rattle.world_contents.specs.world_commit.fates.Keeping.{HasNoneYet}
 use Rattle.world_causes.specs.losses.ClientHears.{LossesAreAsked}
 use Rattle.world_causes.specs.losses.Clients.{AreBegun}
 use Rattle.world_causes.specs.losses.Hearing.{is_answered_back}
 use Rattle.world_causes.specs.losses.Readers.{OpenAreHeld, ReadersAreNew}
-use Rattle.world_commit.specs.statuses.Heard.{is_of_attempts}
+use Rattle.world_contents.specs.world_commit.statuses.Heard.{is_of_attempts}
 use Rattle.world_causes.specs.losses.Resets.{WaitForOthers, is_reset}
 use Rattle.world_causes.specs.losses.Losses.{AsksItsTargets, LeadersAreTargets, Losses}
 

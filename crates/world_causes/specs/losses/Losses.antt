@@ -10,13 +10,13 @@ use Rattle.daos_model.specs.Accesses.{attempt_targets}
 use Rattle.daos_model.specs.Attempts.{EachTry, is_lost, up_to_last_of}
 use Rattle.daos_model.specs.CausesShown.{IsLostAtStop, StopsAfter}
 use Rattle.daos_model.specs.Durables.{same_attempt}
-use Rattle.world_commit.specs.attempts.Attempts.{IsHeld, leader_of}
+use Rattle.world_contents.specs.world_commit.attempts.Attempts.{IsHeld, leader_of}
 use Rattle.world_base.specs.declared.letter.Letter.{Letter}
 use Rattle.world_base.specs.declared.target.Life.TheVariants.{Running}
 use Rattle.world_base.specs.declared.target.TargetState.{TargetState}
 use Rattle.world_base.specs.declared.world.World.{World}
 use Rattle.world_base.specs.Events.{Rules}
-use Rattle.world_letters.specs.epochs.Epochs.{IsPresent}
+use Rattle.world_contents.specs.world_letters.epochs.Epochs.{IsPresent}
 
 -- ---- a stop
 

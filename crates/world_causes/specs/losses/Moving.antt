@@ -21,12 +21,12 @@ use Rattle.world_base.specs.declared.client.Present.{Present}
 use Rattle.world_base.specs.declared.client.Stage.{Stage}
 use Rattle.world_base.specs.declared.client.Stage.TheVariants as stage
 use Rattle.world_base.specs.ClientTurns.{Move, asks_or_goes, attempt_id, attempt_moves, begun, command_at, commits, end_line, ends, listed, moved, moves_at, next_stage, op_moves, question, rests, run_moves, waits}
-use Rattle.world_letters.specs.epochs.Epochs.{IsPast}
+use Rattle.world_contents.specs.world_letters.epochs.Epochs.{IsPast}
 use Rattle.world_causes.specs.losses.Losses.{tells_stop}
 use Rattle.world_causes.specs.losses.Silent.{TellNone, none-tell, one-tells}
 use Rattle.world_causes.specs.outcomes.Moving.{end-own}
-use Rattle.world_letters.specs.talks.AskLaws.{move-is, waiting-rests}
-use Rattle.world_letters.specs.talks.Asked.{ARead, ASnapshot, AnAggregation, Asked, Asking, IsMove, ItsWrites, Silent, Telling}
+use Rattle.world_contents.specs.world_letters.talks.AskLaws.{move-is, waiting-rests}
+use Rattle.world_contents.specs.world_letters.talks.Asked.{ARead, ASnapshot, AnAggregation, Asked, Asking, IsMove, ItsWrites, Silent, Telling}
 use Rattle.world_causes.specs.outcomes.TellLaws.{AllRead, MoveTells, NoSnap, Nothing, moved-tells}
 
 -- ---- its attempt

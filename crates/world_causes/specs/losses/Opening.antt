@@ -9,11 +9,11 @@ use Rattle.daos_model.specs.Changes.{reopened}
 use Rattle.daos_model.specs.Durables.{entry_of}
 use Rattle.dtx_base.specs.Leading.{is_led, is_open}
 use Rattle.dtx_base.specs.LeaderLaws.{same-is}
-use Rattle.world_commit.specs.attempts.Attempts.{entry_at, entry_in, leader_of}
-use Rattle.world_commit.specs.attempts.History.{History}
-use Rattle.world_commit.specs.attempts.Stored.{found-here}
-use Rattle.world_commit.specs.fates.Asking.{asked-was}
-use Rattle.world_commit.specs.attempts.Turning.{one-or_another}
+use Rattle.world_contents.specs.world_commit.attempts.Attempts.{entry_at, entry_in, leader_of}
+use Rattle.world_contents.specs.world_commit.attempts.History.{History}
+use Rattle.world_contents.specs.world_commit.attempts.Stored.{found-here}
+use Rattle.world_contents.specs.world_commit.fates.Asking.{asked-was}
+use Rattle.world_contents.specs.world_commit.attempts.Turning.{one-or_another}
 use Rattle.world_base.specs.declared.letter.Letter.{Letter}
 use Rattle.world_base.specs.declared.target.Life.TheVariants.{Running}
 use Rattle.world_base.specs.declared.world.World.{World}
@@ -22,9 +22,9 @@ use Rattle.world_base.specs.Letters.{letter_of, letters_of, target}
 use Rattle.world_base.specs.Statuses.{opening_posts}
 use Rattle.world_base.specs.StepLaws.{set-here}
 use Rattle.world_base.specs.Stops.{TargetOpens, opened_at, restart_line}
-use Rattle.world_letters.specs.epochs.Epochs.{IsPresent}
-use Rattle.world_commit.specs.fates.Facts.{Attempts}
-use Rattle.world_commit.specs.stops.Questions.{IsQuestion, opening-asks, question-is, reopened_rows}
+use Rattle.world_contents.specs.world_letters.epochs.Epochs.{IsPresent}
+use Rattle.world_contents.specs.world_commit.fates.Facts.{Attempts}
+use Rattle.world_contents.specs.world_commit.stops.Questions.{IsQuestion, opening-asks, question-is, reopened_rows}
 use Rattle.world_causes.specs.losses.Losses.{Losses, Rests, StoppedSince, tells_stop}
 use Rattle.world_causes.specs.losses.Recalling.{Recalls}
 use Rattle.world_causes.specs.losses.Since.{since-more}

@@ -9,13 +9,13 @@ use Rattle.dtx_base.specs.declared.member.Parked.{Parked}
 use Rattle.dtx_base.specs.Joining as member
 use Rattle.dtx_base.specs.LeaderLaws.{same-is}
 use Rattle.model_laws.specs.Members.{Has}
-use Rattle.world_commit.specs.attempts.Attempts.{IsBorn, IsHeld}
-use Rattle.world_commit.specs.attempts.History.{History}
+use Rattle.world_contents.specs.world_commit.attempts.Attempts.{IsBorn, IsHeld}
+use Rattle.world_contents.specs.world_commit.attempts.History.{History}
 use Rattle.world_base.specs.declared.letter.Letter.{Letter}
 use Rattle.world_base.specs.declared.target.TargetState.{TargetState}
 use Rattle.world_base.specs.declared.world.World.{World}
 use Rattle.world_base.specs.Events.{Rules}
-use Rattle.world_commit.specs.fates.Facts.{Attempts, IsAskedSo, IsSaidSo}
+use Rattle.world_contents.specs.world_commit.fates.Facts.{Attempts, IsAskedSo, IsSaidSo}
 use Rattle.world_causes.specs.losses.Reading.{NoneOpen}
 use Rattle.world_causes.specs.losses.Resets.{AsksOfOthers, NoneReads, WaitForOthers}
 

@@ -25,7 +25,7 @@ use Rattle.dtx_base.specs.Joining as member
 use Rattle.dtx_base.specs.LeaderLaws.{same-is}
 use Rattle.daos_model.specs.EntryLaws.{same_attempt-itself}
 use Rattle.model_laws.specs.Members.{Has, has-from_filter, has-from_map}
-use Rattle.vos_stamp.specs.Stamps.{aggregated_cause, later_cause, or_later, write_later}
+use Rattle.world_base.specs.vos_stamp.Stamps.{aggregated_cause, later_cause, or_later, write_later}
 use Rattle.world_base.specs.declared.did.Did.{Did}
 use Rattle.world_base.specs.declared.request.FetchRequest.{FetchRequest}
 use Rattle.world_base.specs.declared.target.TargetMemory.{TargetMemory}

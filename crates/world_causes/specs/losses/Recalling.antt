@@ -9,7 +9,7 @@ use Rattle.daos_model.specs.CausesShown.{IsLostAtStop}
 use Rattle.world_base.specs.declared.letter.Letter.{Letter}
 use Rattle.world_base.specs.declared.world.World.{World}
 use Rattle.world_base.specs.Events.{Rules}
-use Rattle.world_letters.specs.epochs.Epochs.{IsAt, IsPresent}
+use Rattle.world_contents.specs.world_letters.epochs.Epochs.{IsAt, IsPresent}
 use Rattle.world_causes.specs.losses.Losses.{Losses, Rests, StoppedSince, is_asked_of, tells_stop}
 use Rattle.world_causes.specs.losses.Since.{each-more, since-more}
 use Rattle.std.specs.Prelude.{ℕ, slice_get, Some}
@@ -18,7 +18,7 @@ use Rattle.std.proofs.Math.ListN.{set}
 use Rattle.world_base.specs.StepLaws.{set-here}
 use Rattle.world_base.specs.declared.target.Life.TheVariants.{Running}
 use Rattle.world_base.specs.declared.target.TargetState.{TargetState}
-use Rattle.world_commit.specs.attempts.Attempts.{leader_of}
+use Rattle.world_contents.specs.world_commit.attempts.Attempts.{leader_of}
 
 -- no line tells of an attempt more; and what tells of a stop is behind one, or told so before
 pub record Recalls (r : Rules) (w v : World) : Type 0 where

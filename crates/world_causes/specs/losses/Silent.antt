@@ -24,7 +24,7 @@ use Rattle.dtx_base.specs.Leading.{LeaderOf, batched, begun, begun_alone, begun_
 use Rattle.dtx_base.specs.Members.{all_targets, other_members}
 use Rattle.dtx_base.specs.Rows.{is_empty}
 use Rattle.model_laws.specs.Members.{Has, has-cases, has-from_map}
-use Rattle.vos_stamp.specs.Stamps.{floor_cause}
+use Rattle.world_base.specs.vos_stamp.Stamps.{floor_cause}
 use Rattle.vos_store.specs.Answers.{floor_of}
 use Rattle.world_base.specs.declared.did.Did.{Did}
 use Rattle.world_base.specs.declared.request.CommitRequest.{CommitRequest}

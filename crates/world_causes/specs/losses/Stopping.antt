@@ -9,8 +9,8 @@ use Rattle.model_laws.specs.Members.{Has, has-cases, has-from_filter, has-from_m
 use Rattle.daos_model.specs.Accesses.{attempt_targets}
 use Rattle.daos_model.specs.Attempts.{tries}
 use Rattle.daos_model.specs.Durables.{entry_of}
-use Rattle.world_commit.specs.attempts.Attempts.{entry_at, entry_in, leader_of}
-use Rattle.world_commit.specs.attempts.Turning.{one-or_another}
+use Rattle.world_contents.specs.world_commit.attempts.Attempts.{entry_at, entry_in, leader_of}
+use Rattle.world_contents.specs.world_commit.attempts.Turning.{one-or_another}
 use Rattle.world_base.specs.declared.letter.Letter.{Letter}
 use Rattle.world_base.specs.declared.target.Life.{Life}
 use Rattle.world_base.specs.declared.target.Life.TheVariants.{Down, Running, Stopped}
@@ -20,8 +20,8 @@ use Rattle.world_base.specs.Events.{Rules, kept, target_plan}
 use Rattle.world_base.specs.Letters.{target}
 use Rattle.world_base.specs.StepLaws.{set-here, set-there}
 use Rattle.world_base.specs.Stops.{AtWork, CutOf, Hearing, IdleWork, NumbersDrawn, OpeningFails, TargetCut, TargetGivenUp, is_not_to, is_not_to_down, is_to, is_to_down, reset_letter, resets, stopped_at, stops_so_far, swept}
-use Rattle.world_commit.specs.stops.Questions.{reopened-entry}
-use Rattle.world_letters.specs.epochs.Epochs.{IsAt}
+use Rattle.world_contents.specs.world_commit.stops.Questions.{reopened-entry}
+use Rattle.world_contents.specs.world_letters.epochs.Epochs.{IsAt}
 use Rattle.world_causes.specs.losses.Losses.{AsksItsTargets, LeadersAreTargets, Rests, StoppedSince, is_asked_of, tells_stop}
 use Rattle.world_causes.specs.losses.Recalling.{Recalls}
 use Rattle.world_causes.specs.losses.Since.{since-stop}

@@ -13,10 +13,10 @@ use Rattle.daos_model.specs.Attempts.{tries}
 use Rattle.daos_model.specs.EntryLaws.{same_attempt-itself}
 use Rattle.dtx_base.specs.Joining as member
 use Rattle.model_laws.specs.Members.{Has, has-cases, has-from_map}
-use Rattle.world_commit.specs.attempts.Attempts.{leader_of}
-use Rattle.world_commit.specs.attempts.Counting.{has-taken}
-use Rattle.world_commit.specs.attempts.History.{History}
-use Rattle.world_commit.specs.attempts.Turning.{one-or_another}
+use Rattle.world_contents.specs.world_commit.attempts.Attempts.{leader_of}
+use Rattle.world_contents.specs.world_commit.attempts.Counting.{has-taken}
+use Rattle.world_contents.specs.world_commit.attempts.History.{History}
+use Rattle.world_contents.specs.world_commit.attempts.Turning.{one-or_another}
 use Rattle.world_base.specs.declared.did.Did.{Did}
 use Rattle.world_base.specs.declared.letter.Letter.{Letter}
 use Rattle.world_base.specs.declared.target.Life.TheVariants.{Running}
@@ -29,10 +29,10 @@ use Rattle.world_base.specs.Further.{HearsFurther}
 use Rattle.world_base.specs.Letters.{letter_of, letters_of, target}
 use Rattle.world_base.specs.Roles.{is_prepared, told_by}
 use Rattle.world_base.specs.TargetTurns.{Hears, commit_request, fetch_request, prepare_request}
-use Rattle.world_commit.specs.fates.Asking.{asked-was}
-use Rattle.world_commit.specs.fates.Facts.{Attempts}
-use Rattle.world_letters.specs.lines.FilledLaws.{tries-filled}
-use Rattle.world_letters.specs.lines.Lines.{filled}
+use Rattle.world_contents.specs.world_commit.fates.Asking.{asked-was}
+use Rattle.world_contents.specs.world_commit.fates.Facts.{Attempts}
+use Rattle.world_contents.specs.world_letters.lines.FilledLaws.{tries-filled}
+use Rattle.world_contents.specs.world_letters.lines.Lines.{filled}
 use Rattle.world_causes.specs.losses.Hearing.{TellsAsTold, ack-lines, ack-tells-as_told, answered-back-recalls, hearing-recalls, is_answered_back}
 use Rattle.world_causes.specs.losses.Losses.{Losses, Rests, tells_stop}
 use Rattle.world_causes.specs.losses.Reading.{NoneOpen, Reads, fetch-none, fetch-open, verdict-none}
@@ -42,7 +42,7 @@ use Rattle.world_causes.specs.losses.Resets.{NoneReads, WaitForOthers, is_reset,
 use Rattle.world_causes.specs.losses.Silent.{TellNone, as-told, commit-down-none, commit-none, idle-none, mark-none, marked-none, prepare-none, query-none}
 use Rattle.world_causes.specs.losses.Stopping.{rests-before}
 use Rattle.world_causes.specs.outcomes.Untried.{untried-none}
-use Rattle.world_commit.specs.statuses.Heard.{is_of_attempts}
+use Rattle.world_contents.specs.world_commit.statuses.Heard.{is_of_attempts}
 use Rattle.world_causes.specs.losses.Recalling.{turn-runs}
 
 -- ---- what is heard as without stops

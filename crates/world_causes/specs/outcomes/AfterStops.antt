@@ -23,10 +23,10 @@ use Rattle.dtx_base.specs.Asking.{ask_heard}
 use Rattle.dtx_base.specs.Joining as member
 use Rattle.dtx_base.specs.Leading.{LeaderOf, entry_led}
 use Rattle.dtx_base.specs.Rows.{is_among}
-use Rattle.world_commit.specs.attempts.Attempts.{IsBorn, IsHeld, IsUnsettled, entry_at, entry_in, is_known_at, is_known_in, leader_of}
-use Rattle.world_commit.specs.attempts.Counting.{has-taken}
-use Rattle.world_commit.specs.attempts.History.{Decided, GrowsBy, History, Tells}
-use Rattle.world_commit.specs.attempts.Stored.{found-led, led-found, target-is}
+use Rattle.world_contents.specs.world_commit.attempts.Attempts.{IsBorn, IsHeld, IsUnsettled, entry_at, entry_in, is_known_at, is_known_in, leader_of}
+use Rattle.world_contents.specs.world_commit.attempts.Counting.{has-taken}
+use Rattle.world_contents.specs.world_commit.attempts.History.{Decided, GrowsBy, History, Tells}
+use Rattle.world_contents.specs.world_commit.attempts.Stored.{found-led, led-found, target-is}
 use Rattle.world_base.specs.declared.did.Did.{Did}
 use Rattle.world_base.specs.declared.request.CommitRequest.{CommitRequest}
 use Rattle.world_base.specs.declared.target.TargetMemory.{TargetMemory}
@@ -49,19 +49,19 @@ use Rattle.world_base.specs.EntryLaws.{entry-leased}
 use Rattle.world_base.specs.Statuses.{ask_left, reset_left, status_left, status_refusal}
 use Rattle.world_base.specs.TargetTurns.{commit_request}
 use Rattle.world_base.specs.Turns.{Reached}
-use Rattle.world_commit.specs.fates.Facts.{Attempts, IsSaidSo, IsStateRight}
-use Rattle.world_commit.specs.fates.Told.{silent_end}
-use Rattle.world_commit.specs.statuses.Fates.{tells_fate, told_by_it}
+use Rattle.world_contents.specs.world_commit.fates.Facts.{Attempts, IsSaidSo, IsStateRight}
+use Rattle.world_contents.specs.world_commit.fates.Told.{silent_end}
+use Rattle.world_contents.specs.world_commit.statuses.Fates.{tells_fate, told_by_it}
 use Rattle.world_causes.specs.outcomes.Concluding.{Concludes}
 use Rattle.world_causes.specs.outcomes.Hearing.{AreToldOf, IsToldOf, SendsSo, entry-now, held-back, hearing-concludes}
 use Rattle.world_causes.specs.outcomes.Outcomes.{IsEndTrue, Outcomes, commits, is_failed, HasWrites}
-use Rattle.world_letters.specs.endings.Answers as follows
-use Rattle.world_letters.specs.endings.Answers.{AnswersAsk, SaysCommitted, SaysUnknown, SaysUnresolved, ask-answers, left-follows}
+use Rattle.world_contents.specs.world_letters.endings.Answers as follows
+use Rattle.world_contents.specs.world_letters.endings.Answers.{AnswersAsk, SaysCommitted, SaysUnknown, SaysUnresolved, ask-answers, left-follows}
 use Rattle.world_causes.specs.outcomes.Premises.{AsksGoRight, CommitsAreOfClients, hands}
 use Rattle.world_causes.specs.outcomes.Rightly.{row-held, untried}
 use Rattle.world_causes.specs.outcomes.Storing.{further-unstored}
 use Rattle.world_causes.specs.outcomes.Telling.{ack-tells, end_to, post_to, silent-tells, single}
-use Rattle.world_commit.specs.statuses.Turns.{Looked, looked}
+use Rattle.world_contents.specs.world_commit.statuses.Turns.{Looked, looked}
 
 -- ---- what says nothing of ends
 

@@ -13,9 +13,9 @@ use Rattle.model_laws.specs.Members.{Has, has-cases, has-from_map}
 use Rattle.base_messages.specs.declared.message.Post.{Post}
 use Rattle.daos_model.specs.Attempts.{tries}
 use Rattle.dtx_base.specs.LeaderLaws.{same-is}
-use Rattle.world_commit.specs.attempts.Attempts.{IsBorn, entry_at, leader_of}
-use Rattle.world_commit.specs.attempts.History.{History}
-use Rattle.world_commit.specs.attempts.Turning.{one-or_another}
+use Rattle.world_contents.specs.world_commit.attempts.Attempts.{IsBorn, entry_at, leader_of}
+use Rattle.world_contents.specs.world_commit.attempts.History.{History}
+use Rattle.world_contents.specs.world_commit.attempts.Turning.{one-or_another}
 use Rattle.world_base.specs.declared.client.ClientPlan.{ClientPlan}
 use Rattle.world_base.specs.declared.client.ClientState.{ClientState}
 use Rattle.world_base.specs.declared.client.Present.{Present}
@@ -26,10 +26,10 @@ use Rattle.world_base.specs.Events.{Rules, client_plan, with_client}
 use Rattle.world_base.specs.Letters.{client, letter_of, letters_of}
 use Rattle.world_base.specs.StepLaws.{set-here, set-there}
 use Rattle.world_base.specs.Steps.{KeptByCounting, after_client, after_move, without}
-use Rattle.world_letters.specs.epochs.Epochs.{IsPast}
-use Rattle.world_letters.specs.lines.Lines.{Lines, filled}
-use Rattle.world_letters.specs.talks.AskLaws.{move-is, waiting-rests}
-use Rattle.world_letters.specs.talks.Asked.{ARead, ASnapshot, AnAggregation, Asked, Asking, IsMove, ItsWrites, Silent, Telling}
+use Rattle.world_contents.specs.world_letters.epochs.Epochs.{IsPast}
+use Rattle.world_contents.specs.world_letters.lines.Lines.{Lines, filled}
+use Rattle.world_contents.specs.world_letters.talks.AskLaws.{move-is, waiting-rests}
+use Rattle.world_contents.specs.world_letters.talks.Asked.{ARead, ASnapshot, AnAggregation, Asked, Asking, IsMove, ItsWrites, Silent, Telling}
 use Rattle.world_causes.specs.outcomes.TellLaws.{AllRead, MoveTells, NoSnap, Nothing, moved-tells}
 use Rattle.world_causes.specs.outcomes.TurnLaws.{move-ends-nothing, move-tells-decided, none-told, ends-one, EndNothing, tried-cases}
 use Rattle.world_causes.specs.outcomes.Moving.{moved-how}

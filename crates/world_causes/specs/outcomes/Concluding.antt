@@ -10,17 +10,17 @@ use Rattle.model_laws.specs.Members.{Has, contains-from_has}
 use Rattle.base_messages.specs.declared.message.Message.{Message}
 use Rattle.base_messages.specs.declared.message.Message.TheVariants as message
 use Rattle.daos_model.specs.Attempts.{tries}
-use Rattle.world_commit.specs.attempts.Attempts.{IsBorn, IsHeld, entry_at, leader_of}
-use Rattle.world_commit.specs.attempts.Counting.{has-taken}
-use Rattle.world_commit.specs.attempts.History.{Aborted, Decided, History}
+use Rattle.world_contents.specs.world_commit.attempts.Attempts.{IsBorn, IsHeld, entry_at, leader_of}
+use Rattle.world_contents.specs.world_commit.attempts.Counting.{has-taken}
+use Rattle.world_contents.specs.world_commit.attempts.History.{Aborted, Decided, History}
 use Rattle.world_base.specs.declared.client.ClientPlan.{ClientPlan}
 use Rattle.world_base.specs.declared.client.ClientState.{ClientState}
 use Rattle.world_base.specs.declared.letter.Letter.{Letter}
 use Rattle.world_base.specs.declared.world.World.{World}
 use Rattle.world_base.specs.Events.{Rules, client_plan}
 use Rattle.world_base.specs.Letters.{Takes, is_tell}
-use Rattle.world_letters.specs.epochs.Epochs.{IsPast}
-use Rattle.world_letters.specs.talks.TalkLaws.{got-is-talk, left-or-it, none-among, sent-is-talk}
+use Rattle.world_contents.specs.world_letters.epochs.Epochs.{IsPast}
+use Rattle.world_contents.specs.world_letters.talks.TalkLaws.{got-is-talk, left-or-it, none-among, sent-is-talk}
 use Rattle.world_causes.specs.outcomes.Outcomes.{IsEndTrue, IsHandedOver, Outcomes, WaitsForEnd, commits, HasWrites}
 use Rattle.world_causes.specs.outcomes.Premises.{HandsOver, LinesArePast, hands}
 

@@ -14,9 +14,9 @@ use Rattle.base_messages.specs.declared.message.Reply.{Reply}
 use Rattle.base_messages.specs.declared.message.Reply.TheVariants as reply
 use Rattle.daos_model.specs.BoolLaws.{and_left, and_right}
 use Rattle.dtx_base.specs.LeaderLaws.{same-is}
-use Rattle.world_commit.specs.attempts.Attempts.{IsBorn, entry_at, leader_of}
-use Rattle.world_commit.specs.attempts.Counting.{has-left_over, has-taken}
-use Rattle.world_commit.specs.attempts.History.{Decided, History}
+use Rattle.world_contents.specs.world_commit.attempts.Attempts.{IsBorn, entry_at, leader_of}
+use Rattle.world_contents.specs.world_commit.attempts.Counting.{has-left_over, has-taken}
+use Rattle.world_contents.specs.world_commit.attempts.History.{Decided, History}
 use Rattle.world_base.specs.declared.client.ClientPlan.{ClientPlan}
 use Rattle.world_base.specs.declared.client.ClientState.{ClientState}
 use Rattle.world_base.specs.declared.client.Present.{Present}
@@ -26,9 +26,9 @@ use Rattle.world_base.specs.ClientTurns.{Move, about, answered, asks_again, at_p
 use Rattle.world_base.specs.Events.{Rules, client_plan, or_issued}
 use Rattle.world_base.specs.Letters.{Takes}
 use Rattle.world_base.specs.Steps.{after_move, without}
-use Rattle.world_letters.specs.clients.Answered.{ops_here}
-use Rattle.world_letters.specs.epochs.Epochs.{IsPast}
-use Rattle.world_letters.specs.lines.Lines.{filled}
+use Rattle.world_contents.specs.world_letters.clients.Answered.{ops_here}
+use Rattle.world_contents.specs.world_letters.epochs.Epochs.{IsPast}
+use Rattle.world_contents.specs.world_letters.lines.Lines.{filled}
 use Rattle.world_causes.specs.outcomes.TurnLaws.{ends-one, none-told}
 use Rattle.world_causes.specs.outcomes.ClientLaws.{Does, client-keeps, no-entry, present-not-past, unborn}
 use Rattle.world_causes.specs.outcomes.Moving.{AnswerDoes, FailsWith, OnWith, end-own, end-past, op-does, same-past}

@@ -15,10 +15,10 @@ use Rattle.base_messages.specs.declared.message.Post.{Post}
 use Rattle.daos_model.specs.Attempts.{tries}
 use Rattle.daos_model.specs.Durables.{entry_of}
 use Rattle.dtx_base.specs.LeaderLaws.{same-is}
-use Rattle.world_commit.specs.attempts.Attempts.{IsBorn, IsHeld, entry_at, entry_in, leader_of}
-use Rattle.world_commit.specs.attempts.Counting.{has-left_over, has-taken}
-use Rattle.world_commit.specs.attempts.History.{GrowsBy, History, Tells}
-use Rattle.world_commit.specs.attempts.Turning.{one-or_another}
+use Rattle.world_contents.specs.world_commit.attempts.Attempts.{IsBorn, IsHeld, entry_at, entry_in, leader_of}
+use Rattle.world_contents.specs.world_commit.attempts.Counting.{has-left_over, has-taken}
+use Rattle.world_contents.specs.world_commit.attempts.History.{GrowsBy, History, Tells}
+use Rattle.world_contents.specs.world_commit.attempts.Turning.{one-or_another}
 use Rattle.world_base.specs.declared.letter.Letter.{Letter}
 use Rattle.world_base.specs.declared.target.TargetState.{TargetState}
 use Rattle.world_base.specs.declared.world.World.{World}
@@ -26,7 +26,7 @@ use Rattle.world_base.specs.Events.{Rules, TargetHearsBy, target_after}
 use Rattle.world_base.specs.Letters.{letter_of, letters_of, target}
 use Rattle.world_base.specs.StepLaws.{set-here, set-there}
 use Rattle.world_base.specs.TargetTurns.{Hearing}
-use Rattle.world_commit.specs.fates.Facts.{Attempts, IsPrepareRight, IsSaidSo}
+use Rattle.world_contents.specs.world_commit.fates.Facts.{Attempts, IsPrepareRight, IsSaidSo}
 use Rattle.world_causes.specs.outcomes.Concluding.{Concludes, IsTaken}
 use Rattle.world_causes.specs.outcomes.Outcomes.{IsEndTrue, commits, is_failed, HasWrites}
 use Rattle.world_causes.specs.outcomes.Premises.{CommitsAreOfClients, hands}

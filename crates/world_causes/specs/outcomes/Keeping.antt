@@ -6,7 +6,7 @@ use Rattle.base_types.specs.declared.outcome.Outcome.{Outcome}
 use Rattle.base_types.specs.declared.outcome.Outcome.TheVariants.{Committed}
 use Rattle.base_types.specs.declared.report.Attempt.{Attempt}
 use Rattle.daos_model.specs.Attempts.{is_unknown, tries}
-use Rattle.world_commit.specs.attempts.History.{Decided, GrowsBy, History}
+use Rattle.world_contents.specs.world_commit.attempts.History.{Decided, GrowsBy, History}
 use Rattle.world_base.specs.declared.client.ClientState.{ClientState}
 use Rattle.world_base.specs.declared.letter.Letter.{Letter}
 use Rattle.world_base.specs.declared.world.World.{World}
@@ -15,13 +15,13 @@ use Rattle.world_base.specs.Events.{ByClient, ByTarget, RightEvent, Rules, ToCli
 use Rattle.world_base.specs.Letters.{Takes}
 use Rattle.world_base.specs.Steps.{KeptByCounting, after_move, without}
 use Rattle.world_base.specs.Stops.{Happening, Plainly, swept}
-use Rattle.world_commit.specs.fates.Facts.{Attempts}
-use Rattle.world_commit.specs.fates.Keeping.{HasNoneYet}
-use Rattle.world_commit.specs.fates.Told.{told_posts}
-use Rattle.world_letters.specs.lines.Lines.{Lines}
+use Rattle.world_contents.specs.world_commit.fates.Facts.{Attempts}
+use Rattle.world_contents.specs.world_commit.fates.Keeping.{HasNoneYet}
+use Rattle.world_contents.specs.world_commit.fates.Told.{told_posts}
+use Rattle.world_contents.specs.world_letters.lines.Lines.{Lines}
 use Rattle.world_causes.specs.outcomes.Outcomes.{IsEndTrue, Outcomes, is_failed, Agrees, HasWrites}
 use Rattle.world_causes.specs.outcomes.Premises.{AsksGoRight, CommitsAreOfClients, HandsOver, HearsFitly, LinesArePast, MakersWriteNothing}
-use Rattle.world_commit.specs.statuses.Events.{told_by}
+use Rattle.world_contents.specs.world_commit.statuses.Events.{told_by}
 
 -- they hold where nothing is in flight, told or kept
 abbrev pub OutcomesBegin : Type 0

@@ -10,19 +10,19 @@ use Rattle.base_messages.specs.declared.message.Message.{Message}
 use Rattle.base_messages.specs.declared.message.Message.TheVariants as message
 use Rattle.daos_model.specs.Attempts.{is_unknown, tries}
 use Rattle.daos_model.specs.Durables.{entry_of, is_entry_of}
-use Rattle.world_commit.specs.attempts.Attempts.{IsBorn, entry_in, leader_of}
-use Rattle.world_commit.specs.attempts.Counting.{has-taken}
-use Rattle.world_commit.specs.attempts.History.{GrowsBy, History}
+use Rattle.world_contents.specs.world_commit.attempts.Attempts.{IsBorn, entry_in, leader_of}
+use Rattle.world_contents.specs.world_commit.attempts.Counting.{has-taken}
+use Rattle.world_contents.specs.world_commit.attempts.History.{GrowsBy, History}
 use Rattle.world_base.specs.declared.letter.Letter.{Letter}
 use Rattle.world_base.specs.declared.target.TargetState.{TargetState}
 use Rattle.world_base.specs.declared.world.World.{World}
 use Rattle.world_base.specs.Events.{ByClient, ByTarget, Rules, ToClient, ToTarget, kept, target_after, target_plan, rightly}
 use Rattle.world_base.specs.Further.{HearsFurther}
 use Rattle.world_base.specs.Stops.{Draws, Fails, Further, GivenUp, HearsMore, IsCut, Opens, Plainly, swept}
-use Rattle.world_commit.specs.fates.Rightly.{letters-tell}
-use Rattle.world_commit.specs.statuses.Events.{told_by}
-use Rattle.world_commit.specs.statuses.Fates.{told_by_it}
-use Rattle.world_commit.specs.stops.Happenings.{told_in}
+use Rattle.world_contents.specs.world_commit.fates.Rightly.{letters-tell}
+use Rattle.world_contents.specs.world_commit.statuses.Events.{told_by}
+use Rattle.world_contents.specs.world_commit.statuses.Fates.{told_by_it}
+use Rattle.world_contents.specs.world_commit.stops.Happenings.{told_in}
 use Rattle.world_causes.specs.outcomes.AfterStops.{after_stop-concludes, is_after_stop}
 use Rattle.world_causes.specs.outcomes.Making.{is_making_message, making-concludes}
 use Rattle.world_causes.specs.outcomes.Concluding.{Concludes, concluding-keeps}

@@ -15,8 +15,8 @@ use Rattle.base_messages.specs.declared.message.Message.{Message}
 use Rattle.base_messages.specs.declared.message.Message.TheVariants as message
 use Rattle.daos_model.specs.Attempts.{tries}
 use Rattle.daos_model.specs.EntryLaws.{same_attempt-itself}
-use Rattle.world_commit.specs.attempts.Counting.{has-taken}
-use Rattle.world_commit.specs.attempts.History.{GrowsBy, History}
+use Rattle.world_contents.specs.world_commit.attempts.Counting.{has-taken}
+use Rattle.world_contents.specs.world_commit.attempts.History.{GrowsBy, History}
 use Rattle.world_base.specs.declared.did.Did.{Did}
 use Rattle.world_base.specs.declared.target.Collection.{Collection}
 use Rattle.world_base.specs.declared.target.TargetMemory.{TargetMemory}
@@ -28,7 +28,7 @@ use Rattle.world_base.specs.Further.{HearsFurther}
 use Rattle.world_base.specs.PathLaws.{reached-keeps}
 use Rattle.world_base.specs.Snapshots as snap
 use Rattle.world_base.specs.Turns.{Reached}
-use Rattle.world_commit.specs.fates.Facts.{Attempts}
+use Rattle.world_contents.specs.world_commit.fates.Facts.{Attempts}
 use Rattle.world_causes.specs.outcomes.Concluding.{Concludes}
 use Rattle.world_causes.specs.outcomes.Hearing.{hearing-concludes}
 use Rattle.world_causes.specs.outcomes.Premises.{CommitsAreOfClients, MakersWriteNothing, makes}

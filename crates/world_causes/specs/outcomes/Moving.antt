@@ -21,8 +21,8 @@ use Rattle.world_base.specs.declared.client.Present.{Present}
 use Rattle.world_base.specs.declared.client.Stage.{Stage}
 use Rattle.world_base.specs.declared.client.Stage.TheVariants as stage
 use Rattle.world_base.specs.ClientTurns.{Move, after_end, asks_or_goes, at_present, attempt_id, attempt_moves, begins_at, begun, command_at, command_moves, commits, condition_told, ends, first_epoch, goes, group_count, group_told, is_waiting, is_yes, joined, moved, moves_at, next_command, next_stage, op_moves, op_told, question, rests, run_moves, told_at, waits}
-use Rattle.world_letters.specs.epochs.Epochs.{IsPast}
-use Rattle.world_letters.specs.talks.AskLaws.{waiting-rests}
+use Rattle.world_contents.specs.world_letters.epochs.Epochs.{IsPast}
+use Rattle.world_contents.specs.world_letters.talks.AskLaws.{waiting-rests}
 use Rattle.world_causes.specs.outcomes.Outcomes.{WaitsForEnd}
 
 -- ---- what a client is past

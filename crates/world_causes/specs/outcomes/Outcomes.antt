@@ -12,8 +12,8 @@ use Rattle.base_messages.specs.declared.message.Message.TheVariants as message
 use Rattle.daos_model.specs.Accesses.{minor_writes}
 use Rattle.daos_model.specs.Attempts.{tries}
 use Rattle.daos_model.specs.Durables.{same_attempt}
-use Rattle.world_commit.specs.attempts.Attempts.{IsBorn, entry_at, leader_of}
-use Rattle.world_commit.specs.attempts.History.{Decided, History}
+use Rattle.world_contents.specs.world_commit.attempts.Attempts.{IsBorn, entry_at, leader_of}
+use Rattle.world_contents.specs.world_commit.attempts.History.{Decided, History}
 use Rattle.world_base.specs.declared.client.ClientPlan.{ClientPlan}
 use Rattle.world_base.specs.declared.client.ClientState.{ClientState}
 use Rattle.world_base.specs.declared.client.Present.{Present}
@@ -21,8 +21,8 @@ use Rattle.world_base.specs.declared.letter.Letter.{Letter}
 use Rattle.world_base.specs.declared.world.World.{World}
 use Rattle.world_base.specs.ClientTurns.{attempt_id}
 use Rattle.world_base.specs.Events.{Rules, client_plan}
-use Rattle.world_letters.specs.clients.Answered.{ops_here}
-use Rattle.world_letters.specs.epochs.Epochs.{IsPast}
+use Rattle.world_contents.specs.world_letters.clients.Answered.{ops_here}
+use Rattle.world_contents.specs.world_letters.epochs.Epochs.{IsPast}
 use Rattle.daos_model.specs.Transactions.{attempt_ops}
 
 abbrev pub HasWrites : Rules → AttemptId → Type 0

@@ -12,7 +12,7 @@ use Rattle.base_messages.specs.declared.message.Reply.{Reply}
 use Rattle.base_messages.specs.declared.message.Reply.TheVariants as reply
 use Rattle.daos_model.specs.Attempts.{tries}
 use Rattle.daos_model.specs.Durables.{same_attempt}
-use Rattle.world_commit.specs.attempts.Attempts.{leader_of}
+use Rattle.world_contents.specs.world_commit.attempts.Attempts.{leader_of}
 use Rattle.world_base.specs.declared.client.ClientPlan.{ClientPlan}
 use Rattle.world_base.specs.declared.client.ClientState.{ClientState}
 use Rattle.world_base.specs.declared.client.Present.{Present}
@@ -21,8 +21,8 @@ use Rattle.world_base.specs.declared.world.World.{World}
 use Rattle.world_base.specs.ClientTurns.{about, attempt_id, is_about}
 use Rattle.world_base.specs.Events.{Rules, client_plan}
 use Rattle.world_base.specs.Letters.{Takes, client, talk_of, target}
-use Rattle.world_letters.specs.clients.Answered.{ops_here}
-use Rattle.world_letters.specs.epochs.Epochs.{IsPast}
+use Rattle.world_contents.specs.world_letters.clients.Answered.{ops_here}
+use Rattle.world_contents.specs.world_letters.epochs.Epochs.{IsPast}
 use Rattle.world_causes.specs.outcomes.Outcomes.{IsBehind, WaitsForEnd, commits, HasWrites}
 
 -- ---- conversations

@@ -19,10 +19,10 @@ use Rattle.daos_model.specs.Durables.{entry_of}
 use Rattle.daos_model.specs.EntryLaws.{same_attempt-itself}
 use Rattle.dtx_base.specs.Leading.{undecided_attempt}
 use Rattle.dtx_base.specs.Rows.{is_among, row_of}
-use Rattle.world_commit.specs.attempts.Attempts.{IsHeld, IsOpenAt, entry_in, leader_of, row_at, row_in}
-use Rattle.world_commit.specs.attempts.Counting.{has-taken}
-use Rattle.world_commit.specs.attempts.History.{GrowsBy, History, Tells}
-use Rattle.world_commit.specs.attempts.Stored.{target-is}
+use Rattle.world_contents.specs.world_commit.attempts.Attempts.{IsHeld, IsOpenAt, entry_in, leader_of, row_at, row_in}
+use Rattle.world_contents.specs.world_commit.attempts.Counting.{has-taken}
+use Rattle.world_contents.specs.world_commit.attempts.History.{GrowsBy, History, Tells}
+use Rattle.world_contents.specs.world_commit.attempts.Stored.{target-is}
 use Rattle.world_base.specs.declared.letter.Letter.{Letter}
 use Rattle.world_base.specs.declared.target.TargetState.{TargetState}
 use Rattle.world_base.specs.declared.world.World.{World}
@@ -35,10 +35,10 @@ use Rattle.world_base.specs.TargetTurns.{commit_request, prepare_request}
 use Rattle.world_base.specs.Changes.{Kept}
 use Rattle.world_base.specs.declared.did.Did.{Did}
 use Rattle.world_base.specs.declared.target.TargetMemory.{TargetMemory}
-use Rattle.world_commit.specs.fates.Facts.{Attempts, IsAckRight, IsSaidSo}
-use Rattle.world_commit.specs.fates.Lefts.{fetch-left, idle-left, mark-answers, marked-left, query-answers, verdict-left}
-use Rattle.world_commit.specs.fates.Told.{silent_at}
-use Rattle.world_commit.specs.fates.Working.{ArePlain, mild-untold, plain-mild}
+use Rattle.world_contents.specs.world_commit.fates.Facts.{Attempts, IsAckRight, IsSaidSo}
+use Rattle.world_contents.specs.world_commit.fates.Lefts.{fetch-left, idle-left, mark-answers, marked-left, query-answers, verdict-left}
+use Rattle.world_contents.specs.world_commit.fates.Told.{silent_at}
+use Rattle.world_contents.specs.world_commit.fates.Working.{ArePlain, mild-untold, plain-mild}
 use Rattle.world_causes.specs.outcomes.Concluding.{Concludes}
 use Rattle.world_causes.specs.outcomes.Hearing.{AreToldOf, held-back, hearing-concludes}
 use Rattle.world_causes.specs.outcomes.Premises.{CommitsAreOfClients, hands}

@@ -17,10 +17,10 @@ use Rattle.daos_model.specs.Attempts.{tries}
 use Rattle.daos_model.specs.Changes.{reopened}
 use Rattle.daos_model.specs.Durables.{entry_of}
 use Rattle.dtx_base.specs.LeaderLaws.{same-is}
-use Rattle.world_commit.specs.attempts.Attempts.{IsBorn, IsHeld, IsToLeader, entry_in, leader_of}
-use Rattle.world_commit.specs.attempts.Counting.{has-taken}
-use Rattle.world_commit.specs.attempts.History.{Aborted, Decided, GrowsBy, History, Tells}
-use Rattle.world_commit.specs.attempts.Stored.{target-is}
+use Rattle.world_contents.specs.world_commit.attempts.Attempts.{IsBorn, IsHeld, IsToLeader, entry_in, leader_of}
+use Rattle.world_contents.specs.world_commit.attempts.Counting.{has-taken}
+use Rattle.world_contents.specs.world_commit.attempts.History.{Aborted, Decided, GrowsBy, History, Tells}
+use Rattle.world_contents.specs.world_commit.attempts.Stored.{target-is}
 use Rattle.world_base.specs.declared.letter.Letter.{Letter}
 use Rattle.world_base.specs.declared.target.Life.TheVariants.{Down}
 use Rattle.world_base.specs.declared.target.TargetState.{TargetState}
@@ -29,12 +29,12 @@ use Rattle.world_base.specs.Events.{Rules, kept, target_plan}
 use Rattle.world_base.specs.Letters.{Takes, letter_of, letters_of, target}
 use Rattle.world_base.specs.Statuses.{opening_posts, status_refusal}
 use Rattle.world_base.specs.Stops.{AtWork, CutOf, Hearing, IdleWork, IsInHand, NumbersDrawn, OpeningFails, TargetCut, TargetGivenUp, TargetOpens, is_not_to, is_not_to_down, is_to, is_to_down, opened_at, reset_letter, resets, restart_line, stopped_at, stops_so_far, swept}
-use Rattle.world_commit.specs.fates.Facts.{Attempts, IsAckRight, IsPrepareRight, IsSaidSo, IsStateRight}
-use Rattle.world_commit.specs.stops.CutAnswers.{ack_told}
-use Rattle.world_commit.specs.stops.CutEvents.{cut_told, message_told}
-use Rattle.world_commit.specs.stops.Openings.{alone, committed_end, opening_told}
-use Rattle.world_commit.specs.stops.Questions.{opening-asks, question-is, reopened-entry, reopened_rows}
-use Rattle.world_letters.specs.talks.TalkLaws.{left-or-it}
+use Rattle.world_contents.specs.world_commit.fates.Facts.{Attempts, IsAckRight, IsPrepareRight, IsSaidSo, IsStateRight}
+use Rattle.world_contents.specs.world_commit.stops.CutAnswers.{ack_told}
+use Rattle.world_contents.specs.world_commit.stops.CutEvents.{cut_told, message_told}
+use Rattle.world_contents.specs.world_commit.stops.Openings.{alone, committed_end, opening_told}
+use Rattle.world_contents.specs.world_commit.stops.Questions.{opening-asks, question-is, reopened-entry, reopened_rows}
+use Rattle.world_contents.specs.world_letters.talks.TalkLaws.{left-or-it}
 use Rattle.world_causes.specs.outcomes.Concluding.{Concludes, IsTaken, aside-no_commit, aside-no_end, is_aside}
 use Rattle.world_causes.specs.outcomes.Hearing.{held-back}
 use Rattle.world_causes.specs.outcomes.Outcomes.{commits}

@@ -21,7 +21,7 @@ use Rattle.daos_model.specs.Durables.{entry_of, is_frozen, same_attempt, snap_ke
 use Rattle.daos_model.specs.EntryLaws.{same_attempt-itself}
 use Rattle.daos_model.specs.Ordered.{put}
 use Rattle.daos_model.specs.declared.durable.Durable.{Durable}
-use Rattle.world_commit.specs.attempts.Turning.{one-or_other}
+use Rattle.world_contents.specs.world_commit.attempts.Turning.{one-or_other}
 use Rattle.world_base.specs.declared.did.Did.{Did}
 use Rattle.world_base.specs.declared.request.CommitRequest.{CommitRequest}
 use Rattle.world_base.specs.declared.request.FetchRequest.{FetchRequest}

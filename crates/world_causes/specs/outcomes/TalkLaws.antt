@@ -15,9 +15,9 @@ use Rattle.world_base.specs.declared.client.ClientPlan.{ClientPlan}
 use Rattle.world_base.specs.declared.client.ClientState.{ClientState}
 use Rattle.world_base.specs.declared.client.Present.{Present}
 use Rattle.world_base.specs.ClientTurns.{attempt_id}
-use Rattle.world_letters.specs.clients.Answered.{is_refusal, ops_here}
-use Rattle.world_letters.specs.lines.Lines.{IsRefusalOrNone}
-use Rattle.world_letters.specs.talks.Asked.{ARead, ASnapshot, AnAggregation, Asked, ItsWrites}
+use Rattle.world_contents.specs.world_letters.clients.Answered.{is_refusal, ops_here}
+use Rattle.world_contents.specs.world_letters.lines.Lines.{IsRefusalOrNone}
+use Rattle.world_contents.specs.world_letters.talks.Asked.{ARead, ASnapshot, AnAggregation, Asked, ItsWrites}
 use Rattle.world_causes.specs.outcomes.Outcomes.{IsBehind}
 use Rattle.world_causes.specs.outcomes.Premises.{IsReplyFit, hands}
 

@@ -18,7 +18,7 @@ use Rattle.dtx_base.specs.declared.leading.Undecided.{Undecided}
 use Rattle.dtx_base.specs.Leading.{LeaderOf, abort_to, ack_heard, answer_heard, answer_if_awaited, begun, begun_alone, begun_with_others, counted_at, decided, ended, entry_led, prepare_to, quietly, undecided_attempt, undecided_of, with_undecided}
 use Rattle.dtx_base.specs.Members.{are_all_counted, is_other_member, other_members, with_target}
 use Rattle.dtx_base.specs.Rows.{is_empty, row_of}
-use Rattle.world_commit.specs.attempts.History.{Tells}
+use Rattle.world_contents.specs.world_commit.attempts.History.{Tells}
 use Rattle.world_base.specs.declared.did.Did.{Did}
 use Rattle.world_base.specs.declared.request.CommitRequest.{CommitRequest}
 use Rattle.world_base.specs.declared.target.TargetMemory.{TargetMemory}
@@ -29,7 +29,7 @@ use Rattle.world_base.specs.Commits.{CommitEnds, CommitStage, HasBegun, HasNoSpa
 use Rattle.world_base.specs.PathLaws.{path-keeps}
 use Rattle.world_base.specs.Roles.{leader_at}
 use Rattle.world_base.specs.Turns.{Reached}
-use Rattle.world_commit.specs.fates.Told.{refused_end, silent_end, told_end}
+use Rattle.world_contents.specs.world_commit.fates.Told.{refused_end, silent_end, told_end}
 
 -- ---- an end that is told
 

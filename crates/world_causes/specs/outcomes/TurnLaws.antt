@@ -18,19 +18,19 @@ use Rattle.world_base.specs.declared.client.ClientState.{ClientState}
 use Rattle.world_base.specs.declared.client.Present.{Present}
 use Rattle.world_base.specs.declared.world.World.{World}
 use Rattle.world_base.specs.ClientTurns.{Move, attempt_id, begun, command_at, ends, listed, moved, waits}
-use Rattle.world_letters.specs.clients.AnswerLaws.{numbered-here}
-use Rattle.world_letters.specs.clients.MoveLaws.{IsAt, is-at}
-use Rattle.world_letters.specs.clients.Standing.{HasTold}
+use Rattle.world_contents.specs.world_letters.clients.AnswerLaws.{numbered-here}
+use Rattle.world_contents.specs.world_letters.clients.MoveLaws.{IsAt, is-at}
+use Rattle.world_contents.specs.world_letters.clients.Standing.{HasTold}
 use Rattle.world_base.specs.Events.{Rules, client_plan, commands_or_none, with_epoch}
-use Rattle.world_letters.specs.lines.Lines.{Lines, filled}
-use Rattle.world_commit.specs.attempts.History.{Decided, History}
-use Rattle.world_letters.specs.talks.AskLaws.{move-is, waiting-rests}
-use Rattle.world_letters.specs.talks.Asked.{ARead, ASnapshot, AnAggregation, Asked, Asking, IsMove, ItsWrites, Silent, Telling}
+use Rattle.world_contents.specs.world_letters.lines.Lines.{Lines, filled}
+use Rattle.world_contents.specs.world_commit.attempts.History.{Decided, History}
+use Rattle.world_contents.specs.world_letters.talks.AskLaws.{move-is, waiting-rests}
+use Rattle.world_contents.specs.world_letters.talks.Asked.{ARead, ASnapshot, AnAggregation, Asked, Asking, IsMove, ItsWrites, Silent, Telling}
 use Rattle.world_causes.specs.outcomes.TellLaws.{AllRead, MoveTells, NoSnap, Nothing, moved-tells}
 use Rattle.world_causes.specs.outcomes.Outcomes.{HasWrites}
 use Rattle.base_types.specs.declared.report.Line.{Line}
 use Rattle.daos_model.specs.Laws.{tries-append}
-use Rattle.world_letters.specs.lines.FilledLaws.{tries-filled}
+use Rattle.world_contents.specs.world_letters.lines.FilledLaws.{tries-filled}
 
 -- an attempt of more lines is of those before, or of the lines that were added, with its epoch filled in
 pub tried-cases : (issued : List (AttemptId × Epoch)) (lines more : List Line) (a : Attempt) → Contains (tries (lines ++ map (with_epoch issued) more)) a

@@ -14,7 +14,7 @@ use Rattle.base_messages.specs.declared.message.Post.{Post}
 use Rattle.daos_model.specs.declared.durable.Durable.{Durable}
 use Rattle.daos_model.specs.declared.durable.Version.{Version}
 use Rattle.daos_model.specs.Opening.{Opening}
-use Rattle.world_commit.specs.attempts.History.{History}
+use Rattle.world_contents.specs.world_commit.attempts.History.{History}
 use Rattle.world_base.specs.declared.letter.Letter.{Letter}
 use Rattle.world_base.specs.declared.request.CommitRequest.{CommitRequest}
 use Rattle.world_base.specs.declared.request.FetchRequest.{FetchRequest}
@@ -63,7 +63,7 @@ use Rattle.base_types.specs.declared.operation.MinorWrite.{MinorWrite}
 use Rattle.base_types.specs.declared.entry.Entry.{Entry}
 use Rattle.dtx_base.specs.declared.member.Parked.{Parked}
 use Rattle.world_contents.specs.reads.Given.{IsParkedRight}
-use Rattle.world_commit.specs.attempts.Counting.{has-taken}
+use Rattle.world_contents.specs.world_commit.attempts.Counting.{has-taken}
 
 -- a message whose turn makes no snapshot, and aggregates nothing
 abbrev pub is_heard_plainly : Message → Bool

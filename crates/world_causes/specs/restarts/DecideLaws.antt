@@ -9,8 +9,8 @@ use Rattle.base_types.specs.Paths.{overlaps}
 use Rattle.model_laws.specs.Members.{Has}
 use Rattle.daos_model.specs.declared.durable.Version.{Version}
 use Rattle.daos_model.specs.Opening.{Opening}
-use Rattle.world_commit.specs.attempts.Attempts.{IsOther, leader_of, writes_of}
-use Rattle.world_commit.specs.attempts.History.{Decided, History, Served, decides}
+use Rattle.world_contents.specs.world_commit.attempts.Attempts.{IsOther, leader_of, writes_of}
+use Rattle.world_contents.specs.world_commit.attempts.History.{Decided, History, Served, decides}
 use Rattle.world_base.specs.declared.target.TargetState.{TargetState}
 use Rattle.world_base.specs.declared.world.World.{World}
 use Rattle.world_base.specs.Events.{Rules}

@@ -11,14 +11,14 @@ use Rattle.base_messages.specs.declared.message.Message.TheVariants as message
 use Rattle.model_laws.specs.Members.{Has, has-right}
 use Rattle.daos_model.specs.Attempts.{EachTry, own_epochs, tries}
 use Rattle.daos_model.specs.BoolLaws.{clash}
-use Rattle.world_commit.specs.attempts.History.{History}
+use Rattle.world_contents.specs.world_commit.attempts.History.{History}
 use Rattle.world_base.specs.declared.client.ClientState.{ClientState}
 use Rattle.world_base.specs.declared.letter.Letter.{Letter}
 use Rattle.world_base.specs.declared.target.Life.TheVariants.{Running}
 use Rattle.world_base.specs.declared.target.TargetState.{TargetState}
 use Rattle.world_base.specs.declared.world.World.{World}
 use Rattle.world_base.specs.Events.{Rules}
-use Rattle.world_letters.specs.epochs.Epochs.{AsksEpoch, Epochs, GoesWith, InCause, IsEpochOf, IsIssued, IsOwn, IsPresent, IsReadOf, IsSeen, IsTold, IsUnissued, ItsOwn, LacksEpoch, answers_undated}
+use Rattle.world_contents.specs.world_letters.epochs.Epochs.{AsksEpoch, Epochs, GoesWith, InCause, IsEpochOf, IsIssued, IsOwn, IsPresent, IsReadOf, IsSeen, IsTold, IsUnissued, ItsOwn, LacksEpoch, answers_undated}
 use Rattle.world_contents.specs.gots.Gots.{Gots, IsLineServed}
 use Rattle.world_causes.specs.restarts.Resting.{Rests, RestsAt, is_silent, same-tries}
 use Rattle.std.specs.List.{IsDistinct}

@@ -6,8 +6,8 @@ use Rattle.base_types.specs.declared.report.Line.TheVariants as line
 use Rattle.model_laws.specs.Members.{Has}
 use Rattle.daos_model.specs.declared.durable.Version.{Version}
 use Rattle.daos_model.specs.Opening.{Opening}
-use Rattle.world_commit.specs.attempts.Attempts.{writes_of}
-use Rattle.world_commit.specs.attempts.History.{History, decides}
+use Rattle.world_contents.specs.world_commit.attempts.Attempts.{writes_of}
+use Rattle.world_contents.specs.world_commit.attempts.History.{History, decides}
 use Rattle.world_base.specs.declared.target.TargetState.{TargetState}
 use Rattle.world_base.specs.declared.world.World.{World}
 use Rattle.world_base.specs.Events.{Rules}
@@ -22,7 +22,7 @@ use Rattle.world_causes.specs.restarts.CutLaws.{IsPlainWork}
 use Rattle.base_types.specs.declared.entry.Entry.{Entry}
 use Rattle.base_types.specs.declared.report.Attempt.{Attempt}
 use Rattle.world_base.specs.CutTurns.{Cutting}
-use Rattle.world_letters.specs.epochs.Epochs.{Epochs}
+use Rattle.world_contents.specs.world_letters.epochs.Epochs.{Epochs}
 use Rattle.world_contents.specs.gots.Gots.{Gots}
 
 -- A turn is cut in which a target hears what it hears without snapshots and aggregation, or does its idle work.

@@ -14,7 +14,7 @@ use Rattle.daos_model.specs.Changes.{reopened}
 use Rattle.daos_model.specs.Durables.{entry_of, row_of}
 use Rattle.daos_model.specs.Opening.{Opening}
 use Rattle.vos_store.specs.Answers.{floor_of}
-use Rattle.world_commit.specs.attempts.History.{History, Served}
+use Rattle.world_contents.specs.world_commit.attempts.History.{History, Served}
 use Rattle.world_base.specs.declared.target.Life.TheVariants.{Running, Down}
 use Rattle.world_base.specs.declared.target.TargetState.{TargetState}
 use Rattle.world_base.specs.declared.world.World.{World}

@@ -18,7 +18,7 @@ use Rattle.daos_model.specs.Laws.{tries-append}
 use Rattle.dtx_base.specs.declared.member.Parked.{Parked}
 use Rattle.dtx_base.specs.Leading.{is_led, is_open}
 use Rattle.dtx_base.specs.Members.{other_members}
-use Rattle.world_commit.specs.attempts.Turning.{one-or_another}
+use Rattle.world_contents.specs.world_commit.attempts.Turning.{one-or_another}
 use Rattle.world_base.specs.declared.letter.Letter.{Letter}
 use Rattle.world_base.specs.declared.target.Life.TheVariants.{Down, Running}
 use Rattle.world_base.specs.declared.target.TargetState.{TargetState}

@@ -14,7 +14,7 @@ use Rattle.daos_model.specs.declared.durable.Durable.{Durable}
 use Rattle.daos_model.specs.declared.durable.Version.{Version}
 use Rattle.daos_model.specs.Opening.{Opening}
 use Rattle.daos_model.specs.Versions.{version_path}
-use Rattle.world_commit.specs.attempts.History.{History, Served}
+use Rattle.world_contents.specs.world_commit.attempts.History.{History, Served}
 use Rattle.world_base.specs.declared.target.Life.TheVariants.{Running}
 use Rattle.world_base.specs.declared.target.TargetState.{TargetState}
 use Rattle.world_base.specs.declared.world.World.{World}

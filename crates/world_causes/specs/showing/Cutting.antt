@@ -47,10 +47,10 @@ use Rattle.world_base.specs.TurnLaws.{RaisesAll, ack-plain, ack-raises, commit-p
 use Rattle.world_base.specs.Verdicts as verdict
 use Rattle.world_causes.specs.restarts.Cuts.{cut-of}
 use Rattle.world_causes.specs.restarts.Resting.{is_silent}
-use Rattle.world_commit.specs.stops.CutEvents.{is_without_snapshots}
+use Rattle.world_contents.specs.world_commit.stops.CutEvents.{is_without_snapshots}
 use Rattle.world_causes.specs.causes.Causes.{Dated, Stored, blocks_of_stored}
 use Rattle.world_contents.specs.reads.EventLaws.{at-or-there}
-use Rattle.world_letters.specs.talks.Asked.{commit_of}
+use Rattle.world_contents.specs.world_letters.talks.Asked.{commit_of}
 use Rattle.world_causes.specs.causes.CommitTurns.{IsCommit, need-is}
 use Rattle.world_causes.specs.causes.PrepareTurns.{IsPrepare}
 use Rattle.world_causes.specs.causes.ReadTurns.{IsFetch}

@@ -21,7 +21,7 @@ use Rattle.world_base.specs.declared.target.Life.TheVariants.{Running}
 use Rattle.world_base.specs.declared.target.TargetState.{TargetState}
 use Rattle.world_base.specs.declared.world.World.{World}
 use Rattle.world_base.specs.Events.{Rules}
-use Rattle.world_letters.specs.epochs.Epochs.{BearsEpoch, IsPresent, reads_snapshot}
+use Rattle.world_contents.specs.world_letters.epochs.Epochs.{BearsEpoch, IsPresent, reads_snapshot}
 use Rattle.world_causes.specs.losses.Since.{each-more}
 use Rattle.world_causes.specs.causes.Causes.{Dated, IsAskedFor, IsUndecidedFor, MeetsOther, Stored, blocks_of_stored, epochs_told}
 use Rattle.world_causes.specs.causes.Dates.{limit-rises}

@@ -37,7 +37,7 @@ use Rattle.world_base.specs.Events.{Rules, kept, target_plan}
 use Rattle.world_base.specs.Letters.{client}
 use Rattle.world_base.specs.Roles.{leader_at, member_at}
 use Rattle.world_base.specs.Statuses.{down_of, status_refusal}
-use Rattle.world_letters.specs.talks.Asked.{commit_of}
+use Rattle.world_contents.specs.world_letters.talks.Asked.{commit_of}
 use Rattle.world_causes.specs.causes.Causes.{Dated, Stored}
 use Rattle.world_causes.specs.causes.CommitTurns.{IsCommit}
 use Rattle.world_causes.specs.causes.Heard.{IsKnownAt}

@@ -31,8 +31,8 @@ use Rattle.world_base.specs.Stops.{HearsMore}
 use Rattle.world_base.specs.TargetTurns.{commit_request}
 use Rattle.world_base.specs.TurnLaws.{KeepsAs, ack-plain, ack-raises, commit-plain, commit-raises, whole-raises}
 use Rattle.world_base.specs.Turns.{Whole}
-use Rattle.world_letters.specs.talks.Asked.{commit_of}
-use Rattle.world_letters.specs.talks.TalkLaws.{left-is-among}
+use Rattle.world_contents.specs.world_letters.talks.Asked.{commit_of}
+use Rattle.world_contents.specs.world_letters.talks.TalkLaws.{left-is-among}
 use Rattle.world_causes.specs.causes.Causes.{Dated, Stored, stored_by}
 use Rattle.world_causes.specs.causes.CommitTurns.{IsCommit, commit-ends, ends-left, writing}
 use Rattle.world_causes.specs.causes.Heard.{meet-at}
@@ -43,8 +43,8 @@ use Rattle.world_causes.specs.causes.Shown.{Causes, limit_over}
 use Rattle.world_causes.specs.causes.TargetLaws.{leaves-keep}
 use Rattle.world_causes.specs.causes.Turns.{AllMeet, AllShow, Leaves, all-both}
 use Rattle.std.specs.Prelude.{not}
-use Rattle.world_commit.specs.statuses.Heard.{is_of_attempts}
-use Rattle.world_commit.specs.statuses.ResetTurns.{is_collecting}
+use Rattle.world_contents.specs.world_commit.statuses.Heard.{is_of_attempts}
+use Rattle.world_contents.specs.world_commit.statuses.ResetTurns.{is_collecting}
 use Rattle.daos_model.specs.Durables.{entry_of}
 use Rattle.daos_model.specs.declared.durable.Durable.{Durable}
 use Rattle.world_base.specs.Events as events
@@ -53,7 +53,7 @@ use Rattle.world_causes.specs.causes.CommitTurns.{space-same}
 use Rattle.world_causes.specs.causes.ReadTurns.{meet-more}
 use Rattle.world_causes.specs.causes.Turns.{ParkedMeets, all-more}
 use Rattle.world_causes.specs.showing.Further.{IsHeardFurther, TellsReset, ask-shows, joins-show, leads-show, state-shows}
-use Rattle.world_commit.specs.statuses.Turns.{looked}
+use Rattle.world_contents.specs.world_commit.statuses.Turns.{looked}
 
 not-false : (b : Bool) → not b ≡ true → b ≡ false
 not-false true h = let no : ⊥ = cc in absurd no

@@ -12,8 +12,8 @@ use Rattle.model_laws.specs.Members.{contains-from_has, has-cases, has-from_cont
 use Rattle.daos_model.specs.Attempts.{tries}
 use Rattle.daos_model.specs.BoolLaws.{clash}
 use Rattle.daos_model.specs.Laws.{tries-append}
-use Rattle.world_commit.specs.attempts.Attempts.{IsBorn}
-use Rattle.world_commit.specs.attempts.History.{History}
+use Rattle.world_contents.specs.world_commit.attempts.Attempts.{IsBorn}
+use Rattle.world_contents.specs.world_commit.attempts.History.{History}
 use Rattle.world_base.specs.declared.letter.Letter.{Letter}
 use Rattle.world_base.specs.declared.request.CommitRequest.{CommitRequest}
 use Rattle.world_base.specs.declared.target.TargetMemory.{TargetMemory}
@@ -37,8 +37,8 @@ use Rattle.world_base.specs.Stops.{AtWork, CutOf, Hearing, IdleWork, IsInHand, T
 use Rattle.world_base.specs.TargetTurns.{commit_request, fetch_request, prepare_request}
 use Rattle.world_base.specs.Verdicts as verdict
 use Rattle.world_causes.specs.outcomes.Outcomes.{IsHandedOver}
-use Rattle.world_letters.specs.talks.Asked.{commit_of}
-use Rattle.world_letters.specs.talks.TalkLaws.{taken-is-among}
+use Rattle.world_contents.specs.world_letters.talks.Asked.{commit_of}
+use Rattle.world_contents.specs.world_letters.talks.TalkLaws.{taken-is-among}
 use Rattle.world_causes.specs.causes.Causes.{Stored}
 use Rattle.world_causes.specs.causes.Storing.{IsAskedAt, IsPrepareOf, IsRefusedAt}
 use Rattle.world_causes.specs.causes.StoreTurns.{IsCommitOf}

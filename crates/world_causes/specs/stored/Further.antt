@@ -19,7 +19,7 @@ use Rattle.dtx_base.specs.Joining as joining
 use Rattle.dtx_base.specs.Joining.{MemberOf, is_waiting, unresolved}
 use Rattle.dtx_base.specs.Leading.{LeaderOf, down_told, entry_led, first_down, mark_reset, prepare_reset, quietly, reset_of, status_asked, to_target, undecided_of}
 use Rattle.dtx_base.specs.Rows.{is_among}
-use Rattle.world_commit.specs.attempts.History.{History}
+use Rattle.world_contents.specs.world_commit.attempts.History.{History}
 use Rattle.world_base.specs.declared.did.Did.{Did}
 use Rattle.world_base.specs.declared.request.CommitRequest.{CommitRequest}
 use Rattle.world_base.specs.declared.target.TargetMemory.{TargetMemory}
@@ -39,8 +39,8 @@ use Rattle.world_base.specs.Turns.{Whole}
 use Rattle.world_causes.specs.causes.Causes.{stored_by, Stored}
 use Rattle.world_causes.specs.causes.Storing.{RefusesAt}
 use Rattle.world_causes.specs.causes.StoreTurns.{AreSaid, AsksFor, CommitAsks, Fits, FollowsSaid, NoneAsked, OnlyNew, StoresAs, ack-ends, ack-fits, ack-next, all-unresolved-said, begins-so, both-said, commit-any, commit-next, ended-said, none-said, one-dull, steps-only}
-use Rattle.world_commit.specs.statuses.Heard.{is_of_attempts}
-use Rattle.world_commit.specs.statuses.ResetTurns.{is_collecting}
+use Rattle.world_contents.specs.world_commit.statuses.Heard.{is_of_attempts}
+use Rattle.world_contents.specs.world_commit.statuses.ResetTurns.{is_collecting}
 use Rattle.world_causes.specs.stored.Over.{IsStoringKnown, StoringOver}
 use Rattle.world_causes.specs.stored.Targets.{hearing-over}
 

@@ -1,14 +1,14 @@
 -- What is stored once, in a run of many targets that may stop and open again: the facts, and what they stand on.
 use Rattle.std.specs.Prelude.{ℕ, ◌≡◌, Contains}
 use Rattle.base_types.specs.declared.id.AttemptId.{AttemptId}
-use Rattle.world_commit.specs.attempts.Attempts.{IsBorn}
-use Rattle.world_commit.specs.attempts.History.{History}
+use Rattle.world_contents.specs.world_commit.attempts.Attempts.{IsBorn}
+use Rattle.world_contents.specs.world_commit.attempts.History.{History}
 use Rattle.world_base.specs.declared.letter.Letter.{Letter}
 use Rattle.world_base.specs.declared.world.World.{World}
 use Rattle.world_base.specs.Events.{Rules}
 use Rattle.world_base.specs.Letters.{client}
-use Rattle.world_commit.specs.fates.Asked.{AskedRight}
-use Rattle.world_commit.specs.fates.Facts.{Attempts}
+use Rattle.world_contents.specs.world_commit.fates.Asked.{AskedRight}
+use Rattle.world_contents.specs.world_commit.fates.Facts.{Attempts}
 use Rattle.world_causes.specs.outcomes.Outcomes.{IsHandedOver}
 use Rattle.world_causes.specs.outcomes.Premises.{CommitsAreOfClients, HandsOver, LinesArePast}
 use Rattle.world_causes.specs.causes.Causes.{EndsOf, Stored}

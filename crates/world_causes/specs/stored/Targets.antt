@@ -17,12 +17,12 @@ use Rattle.daos_model.specs.BoolLaws.{both}
 use Rattle.daos_model.specs.Durables.{entry_key, same_attempt}
 use Rattle.daos_model.specs.EntryLaws.{same_attempt-itself}
 use Rattle.daos_model.specs.Ordered.{is_rising}
-use Rattle.world_commit.specs.attempts.Attempts as attempts
-use Rattle.world_commit.specs.attempts.Attempts.{IsBorn, IsFromLeader, IsOther, entry_at, leader_of}
-use Rattle.world_commit.specs.attempts.Asked.{IsCommitNew}
-use Rattle.world_commit.specs.attempts.Counting.{count-some, count-taken}
-use Rattle.world_commit.specs.attempts.History.{History}
-use Rattle.world_commit.specs.attempts.MemberBits.{other-no_leader}
+use Rattle.world_contents.specs.world_commit.attempts.Attempts as attempts
+use Rattle.world_contents.specs.world_commit.attempts.Attempts.{IsBorn, IsFromLeader, IsOther, entry_at, leader_of}
+use Rattle.world_contents.specs.world_commit.attempts.Asked.{IsCommitNew}
+use Rattle.world_contents.specs.world_commit.attempts.Counting.{count-some, count-taken}
+use Rattle.world_contents.specs.world_commit.attempts.History.{History}
+use Rattle.world_contents.specs.world_commit.attempts.MemberBits.{other-no_leader}
 use Rattle.world_base.specs.declared.did.Did.{Did}
 use Rattle.world_base.specs.declared.letter.Letter.{Letter}
 use Rattle.world_base.specs.declared.request.CommitRequest.{CommitRequest}
@@ -35,15 +35,15 @@ use Rattle.world_base.specs.Events as events
 use Rattle.world_base.specs.Letters.{Takes, client, is_client, is_talk_of, is_tell, letter_of, letters_of, target}
 use Rattle.world_base.specs.MemoryLaws.{hears-follows, idles-follows}
 use Rattle.world_base.specs.StepLaws.{set-here}
-use Rattle.world_commit.specs.fates.Facts as fates
-use Rattle.world_commit.specs.fates.Facts.{IsAckRight, IsSaidSo, is_between, is_try, prepares_in_vain, prepares_it, preparing}
+use Rattle.world_contents.specs.world_commit.fates.Facts as fates
+use Rattle.world_contents.specs.world_commit.fates.Facts.{IsAckRight, IsSaidSo, is_between, is_try, prepares_in_vain, prepares_it, preparing}
 use Rattle.world_causes.specs.outcomes.Outcomes.{IsHandedOver, commits}
 use Rattle.world_causes.specs.outcomes.ClientLaws.{present-not-past}
 use Rattle.world_causes.specs.outcomes.Premises.{IsWaitedFor, hands}
-use Rattle.world_letters.specs.epochs.Epochs.{IsPast}
+use Rattle.world_contents.specs.world_letters.epochs.Epochs.{IsPast}
 use Rattle.world_causes.specs.causes.ClientLaws.{ends-no_tell}
-use Rattle.world_letters.specs.talks.Asked.{commit_of}
-use Rattle.world_letters.specs.talks.TalkLaws.{got-is-talk, left-is-among, left-or-it, none-among, taken-from, taken-is-among}
+use Rattle.world_contents.specs.world_letters.talks.Asked.{commit_of}
+use Rattle.world_contents.specs.world_letters.talks.TalkLaws.{got-is-talk, left-is-among, left-or-it, none-among, taken-from, taken-is-among}
 use Rattle.world_causes.specs.causes.Causes.{EndsOf, Stored, stored_by}
 use Rattle.world_causes.specs.causes.Storing.{HasItsLine, IsAskedAt, IsPrepareOf, IsRefusedAt, IsTold, RefusesAt}
 use Rattle.world_causes.specs.causes.StoringLaws.{DidSo, asked-for, asks-cases, cases, commit-is, commit-no_end, entry-now, not-both, target-stores_once}

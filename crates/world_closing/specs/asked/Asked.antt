@@ -8,7 +8,7 @@ use Rattle.world_base.specs.declared.world.World.{World}
 use Rattle.world_base.specs.Ended.{HasEnded}
 use Rattle.world_base.specs.Events.{Rules}
 use Rattle.world_base.specs.Stops.{WorldRun}
-use Rattle.world_causes.specs.causes.Causes.{Stored}
+use Rattle.world_answers.specs.world_causes.causes.Causes.{Stored}
 use Rattle.world_upheld.specs.below.Legal.{AreAll, Concluded, IsStill, NoneGoesToGivenUp, Resolves, WaitersAreAsked, stored_over}
 use Rattle.world_letters.specs.lines.LastLines.{AreDone}
 use Rattle.world_upheld.specs.explained.Explanations.{Explained, HoldNoMoreSnapshots}

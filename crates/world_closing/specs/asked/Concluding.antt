@@ -27,14 +27,14 @@ use Rattle.world_base.specs.Events.{Rules}
 use Rattle.world_commit.specs.fates.Facts.{Attempts}
 use Rattle.world_upheld.specs.below.Legal.{from-durables, durables_of}
 use Rattle.world_letters.specs.epochs.Epochs.{Epochs, HasLine, IsPresent}
-use Rattle.world_causes.specs.hearing.Deciding.{AreEnded, MayEnd, end-all}
-use Rattle.world_causes.specs.hearing.Going.{EntriesWrite}
+use Rattle.world_answers.specs.world_causes.hearing.Deciding.{AreEnded, MayEnd, end-all}
+use Rattle.world_answers.specs.world_causes.hearing.Going.{EntriesWrite}
 use Rattle.world_letters.specs.lines.LastLines.{AreDone}
-use Rattle.world_causes.specs.outcomes.Outcomes.{Outcomes, is_failed, HasWrites}
-use Rattle.world_contents.specs.reads.ChangeLaws.{entry-among}
-use Rattle.world_contents.specs.reads.Given.{Given}
-use Rattle.world_contents.specs.reads.Reads.{Reads}
-use Rattle.world_contents.specs.reads.Versions.{Versions}
+use Rattle.world_answers.specs.world_causes.outcomes.Outcomes.{Outcomes, is_failed, HasWrites}
+use Rattle.world_answers.specs.world_contents.reads.ChangeLaws.{entry-among}
+use Rattle.world_answers.specs.world_contents.reads.Given.{Given}
+use Rattle.world_answers.specs.world_contents.reads.Reads.{Reads}
+use Rattle.world_answers.specs.world_contents.reads.Versions.{Versions}
 use Rattle.world_upheld.specs.below.Legal.{AreHeld, Concluded, HasEntries, IsResolved, IsToldOf, Resolves, decided-held, durable-at, held-at, held-resolved, resolved-held}
 use Rattle.world_upheld.specs.upheld.Begins.{AreRulesInForm, AreBefore}
 use Rattle.world_upheld.specs.upheld.Heard.{all-heard_right}

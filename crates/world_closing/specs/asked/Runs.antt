@@ -13,7 +13,7 @@ use Rattle.world_base.specs.declared.world.World.{World}
 use Rattle.world_base.specs.Ended.{HasEnded}
 use Rattle.world_base.specs.Events.{Rules}
 use Rattle.world_base.specs.Stops.{Begins, Goes, WorldEvent, WorldRun, swept}
-use Rattle.world_causes.specs.causes.Causes.{Stored}
+use Rattle.world_answers.specs.world_causes.causes.Causes.{Stored}
 use Rattle.world_commit.specs.fates.Facts.{talking}
 use Rattle.world_commit.specs.requests.Rows.{commits-find}
 use Rattle.world_letters.specs.lives.Lives.{Lives}

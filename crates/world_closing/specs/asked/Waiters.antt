@@ -31,10 +31,10 @@ use Rattle.world_base.specs.Stops.{Draws, Fails, Further, GivenUp, Happening, He
 use Rattle.world_commit.specs.fates.Concerns.{no-talk}
 use Rattle.world_commit.specs.fates.Facts.{IsOneUnless, down_in, is_talk, knows_down, talking}
 use Rattle.world_upheld.specs.below.Legal.{Answers, AreAsking, Asks, TalkWay, WaitersAreAsked, events-ask, row-runs, some-counted, sweeping-asked, target-is, told-down, way-of}
-use Rattle.world_making.specs.fates.Sends.{making-unconcerned}
-use Rattle.world_making.specs.making.Kinds.{of-attempts}
-use Rattle.world_making.specs.making.Making.{IsOfMaking, MakingLeaves, MakingNext, making_begins, tells_of_snapshots}
-use Rattle.world_making.specs.making.Turns.{hearings-leave}
+use Rattle.world_answers.specs.world_making.fates.Sends.{making-unconcerned}
+use Rattle.world_answers.specs.world_making.making.Kinds.{of-attempts}
+use Rattle.world_answers.specs.world_making.making.Making.{IsOfMaking, MakingLeaves, MakingNext, making_begins, tells_of_snapshots}
+use Rattle.world_answers.specs.world_making.making.Turns.{hearings-leave}
 use Rattle.world_commit.specs.statuses.Events.{HappensWithoutSnapshots}
 use Rattle.world_commit.specs.stops.Parts.{now-here, now-there, now-same}
 

@@ -26,12 +26,12 @@ use Rattle.world_commit.specs.attempts.History.{History}
 use Rattle.world_upheld.specs.below.Legal.{LeasesFit, floor-short as plain-floor, issued-short as plain-issued}
 use Rattle.world_letters.specs.epochs.Epochs.{IsEpochOf, IsIssued, IsOwn, IsSeen, ReadsNamed}
 use Rattle.world_letters.specs.snapshots.Makings.{ComesOf}
-use Rattle.world_making.specs.freezings.Seeing.{SeesFrozen, readers-see}
+use Rattle.world_answers.specs.world_making.freezings.Seeing.{SeesFrozen, readers-see}
 use Rattle.world_closing.specs.forming.ReportForms.{try-among}
 use Rattle.world_upheld.specs.upheld.Upheld.{Grounds}
 use Rattle.world_upheld.specs.reasons.Accounted.{AccountedFor}
 use Rattle.world_upheld.specs.hearing.Leases.{AllKeepCovered}
-use Rattle.world_causes.specs.causes.Causes.{Stored}
+use Rattle.world_answers.specs.world_causes.causes.Causes.{Stored}
 
 -- ---- the statements
 

@@ -23,7 +23,7 @@ use Rattle.model_laws.specs.Members.{Has, has-from_contains, has-right}
 use Rattle.model_reports.specs.Lines.{line-of}
 use Rattle.report_writer.specs.Forms.{IsAttemptId, IsEpoch, IsEpochOrNone, IsFloorOf, IsLineOf, IsNoSpace}
 use Rattle.script_traits.specs.Keyed.{ScriptHasKeys}
-use Rattle.world_causes.specs.causes.Causes.{is_try}
+use Rattle.world_answers.specs.world_causes.causes.Causes.{is_try}
 
 -- What is asked of a script and of lines: the script is in form for some targets, and has keys; attempts have small numbers and epochs, and what
 -- else lines tell is in form.

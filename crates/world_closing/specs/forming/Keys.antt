@@ -24,7 +24,7 @@ use Rattle.daos_model.specs.Transactions.{attempt_ops}
 use Rattle.model_laws.specs.Decided.{taken_in, write_of}
 use Rattle.model_laws.specs.DecidedLaws.{has-all}
 use Rattle.script_traits.specs.Keyed.{HasKeys, MapHasKeys, OpHasKeys, ScriptHasKeys, TakenHasKeys, WriteHasKeys}
-use Rattle.world_contents.specs.reads.Transactions.{decided_of}
+use Rattle.world_answers.specs.world_contents.reads.Transactions.{decided_of}
 use Rattle.world_answers.specs.KeyLaws.{attempt-keys}
 use Rattle.world_closing.specs.forming.Forming.{StandHasKeys}
 use Rattle.world_closing.specs.stands.Created.{kept-from}

@@ -29,9 +29,9 @@ use Rattle.model_laws.specs.Lists.{any-all, any-of}
 use Rattle.model_laws.specs.Members.{Has, has-from_contains, has-right}
 use Rattle.model_reports.specs.Lines.{one-of-any}
 use Rattle.report_writer.specs.Forms.{IsAttemptId, IsCauseOf, IsCond, IsNoSpace, IsOutcomeOf, IsPathOf}
-use Rattle.world_causes.specs.causes.Causes.{Dated, Stored}
-use Rattle.world_causes.specs.causes.Shown.{CauseStands, LacksSpace, MeetsUnresolved, OutcomeStands}
-use Rattle.world_causes.specs.handing.Places.{snapshots-read}
+use Rattle.world_answers.specs.world_causes.causes.Causes.{Dated, Stored}
+use Rattle.world_answers.specs.world_causes.causes.Shown.{CauseStands, LacksSpace, MeetsUnresolved, OutcomeStands}
+use Rattle.world_answers.specs.world_causes.handing.Places.{snapshots-read}
 use Rattle.world_upheld.specs.below.Legal.{AreShort}
 use Rattle.world_letters.specs.clients.Answered.{EndsWell}
 use Rattle.world_letters.specs.clients.Snapshots.{is_at_snapshot}

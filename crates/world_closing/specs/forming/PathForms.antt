@@ -21,7 +21,7 @@ use Rattle.base_types.specs.Scripts.{AreDeclared, IsActInForm, IsAkeyOf, IsDkeyO
 use Rattle.daos_model.specs.Accesses.{minor_write, minor_writes, op_path}
 use Rattle.daos_model.specs.Transactions.{attempt_ops}
 use Rattle.report_writer.specs.Forms.{HasNames, IsBelowOf, IsContOf, IsObjOf, IsPathOf}
-use Rattle.world_contents.specs.gots.FormLaws.{ops-form}
+use Rattle.world_answers.specs.world_contents.gots.FormLaws.{ops-form}
 use Rattle.script_traits.specs.Keyed.{HasKeys, IsKeyOrNone, OpHasKeys, ScriptHasKeys}
 use Rattle.world_answers.specs.KeyLaws.{attempt-keys}
 

@@ -19,17 +19,17 @@ use Rattle.report_writer.specs.Forms.{IsAttemptOf, IsCond, IsGot, IsLineOf, IsRe
 use Rattle.world_base.specs.declared.client.ClientState.{ClientState}
 use Rattle.world_base.specs.declared.world.World.{World}
 use Rattle.world_base.specs.Events.{Rules, client_plan}
-use Rattle.world_causes.specs.causes.Causes.{Stored, is_try}
+use Rattle.world_answers.specs.world_causes.causes.Causes.{Stored, is_try}
 use Rattle.world_commit.specs.attempts.History.{History}
-use Rattle.world_contents.specs.gots.FormLaws.{ops-form}
-use Rattle.world_contents.specs.gots.Gots.{IsLineServed}
-use Rattle.world_contents.specs.gots.ToldLaws.{lines-right}
-use Rattle.world_contents.specs.reads.Transactions.{transactions}
+use Rattle.world_answers.specs.world_contents.gots.FormLaws.{ops-form}
+use Rattle.world_answers.specs.world_contents.gots.Gots.{IsLineServed}
+use Rattle.world_answers.specs.world_contents.gots.ToldLaws.{lines-right}
+use Rattle.world_answers.specs.world_contents.reads.Transactions.{transactions}
 use Rattle.world_upheld.specs.below.Legal.{AreShort, issued-id, report_over, stored_over, told-id}
 use Rattle.world_letters.specs.clients.Answered.{EndsAsAnswered, ops_numbered}
 use Rattle.world_letters.specs.lines.LastLines.{lines-answered}
 use Rattle.world_letters.specs.snapshots.Makings.{ComesOf}
-use Rattle.world_contents.specs.posts.ScriptForm.{ops-few}
+use Rattle.world_answers.specs.world_contents.posts.ScriptForm.{ops-few}
 use Rattle.world_closing.specs.forming.ReportForms.{down-is, try-among}
 use Rattle.world_answers.specs.KeyLaws.{as_of-keys}
 use Rattle.world_answers.specs.AnswerForms.{told-form}

@@ -20,8 +20,8 @@ use Rattle.daos_model.specs.ExtentForms.{written-length}
 use Rattle.daos_model.specs.Forms.{AreWritesInForm, ends_at_akey, is_length, is_write_in_form}
 use Rattle.daos_model.specs.Transactions.{attempt_ops}
 use Rattle.report_writer.specs.Forms.{IsNoSpace}
-use Rattle.world_contents.specs.posts.ScriptForm.{ops-few, writes-in-form}
-use Rattle.world_contents.specs.gots.FormLaws.{ops-form}
+use Rattle.world_answers.specs.world_contents.posts.ScriptForm.{ops-few, writes-in-form}
+use Rattle.world_answers.specs.world_contents.gots.FormLaws.{ops-form}
 
 -- ---- blocks
 

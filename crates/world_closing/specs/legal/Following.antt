@@ -36,7 +36,7 @@ use Rattle.world_base.specs.Events.{ByClient, ByTarget, Rules, ToClient, ToTarge
 use Rattle.world_base.specs.StepLaws.{by-hearing, by-next, set-is, set-there}
 use Rattle.world_base.specs.Steps.{KeptByCounting, KeptByHearing, KeptByMoves, without}
 use Rattle.world_base.specs.Stops.{Draws, Fails, Further, GivenUp, Happening, IsCut, Opens, Plainly, WorldEvent, swept}
-use Rattle.world_causes.specs.outcomes.Keeping.{IsOfTarget}
+use Rattle.world_answers.specs.world_causes.outcomes.Keeping.{IsOfTarget}
 use Rattle.world_commit.specs.attempts.Turning.{one-or_another}
 use Rattle.world_commit.specs.fates.Facts.{Attempts}
 use Rattle.world_letters.specs.clients.Answered.{is_refusal}
@@ -48,11 +48,11 @@ use Rattle.world_letters.specs.lines.Lines.{IsCommitted, TellsEnd, filled}
 use Rattle.world_letters.specs.lives.ClientLines.{heard-own, moved-own}
 use Rattle.world_letters.specs.snapshots.Events.{command-is}
 use Rattle.world_letters.specs.talks.TalkLaws.{taken-is-among}
-use Rattle.world_making.specs.freezings.ClientEvents.{command-back}
-use Rattle.world_making.specs.freezings.Freezings.{Freezings, IsFromBefore, IsKnownSo, IsOwnMade}
-use Rattle.world_making.specs.freezings.Knowing.{IsLearned, LearnsBy, heard-knows, learned-is, learned-more, learned-new, moved-committed, moved-same}
-use Rattle.world_making.specs.freezings.Seeing.{found-known}
-use Rattle.world_making.specs.making.Snapshots.{holds_created}
+use Rattle.world_answers.specs.world_making.freezings.ClientEvents.{command-back}
+use Rattle.world_answers.specs.world_making.freezings.Freezings.{Freezings, IsFromBefore, IsKnownSo, IsOwnMade}
+use Rattle.world_answers.specs.world_making.freezings.Knowing.{IsLearned, LearnsBy, heard-knows, learned-is, learned-more, learned-new, moved-committed, moved-same}
+use Rattle.world_answers.specs.world_making.freezings.Seeing.{found-known}
+use Rattle.world_answers.specs.world_making.making.Snapshots.{holds_created}
 use Rattle.world_upheld.specs.upheld.Clients.{lines-stand}
 use Rattle.world_upheld.specs.below.Legal.{get-map}
 use Rattle.world_upheld.specs.below.Standing.{ClientsSpeak, sweeping-tells}

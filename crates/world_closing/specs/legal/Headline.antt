@@ -12,9 +12,9 @@ use Rattle.daos_model.specs.Headline.{Headline}
 use Rattle.daos_model.specs.Opening.{Given, Outside}
 use Rattle.world_base.specs.declared.world.World.{World}
 use Rattle.world_base.specs.Events.{Rules}
-use Rattle.world_causes.specs.causes.Causes.{Stored}
+use Rattle.world_answers.specs.world_causes.causes.Causes.{Stored}
 use Rattle.world_closing.specs.Issued.{IssuedOnce}
-use Rattle.world_causes.specs.causes.Shown.{Causes, OutcomeStands}
+use Rattle.world_answers.specs.world_causes.causes.Shown.{Causes, OutcomeStands}
 use Rattle.world_upheld.specs.upheld.Events.{given-before}
 use Rattle.world_commit.specs.attempts.History.{History}
 use Rattle.world_upheld.specs.below.Legal.{Concluded, report_over, durables_of}

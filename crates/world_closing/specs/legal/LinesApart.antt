@@ -9,8 +9,8 @@ use Rattle.model_laws.specs.Members.{Has, has-cases, has-filter, has-from_map, h
 use Rattle.model_laws.specs.TargetLaws.{same_number}
 use Rattle.daos_model.specs.Attempts.{is_of_client, tries}
 use Rattle.daos_model.specs.Order.{AllInTurn, AreAttempts, AreInTurn, client_commands}
-use Rattle.world_causes.specs.causes.LastCauses.{ids}
-use Rattle.world_causes.specs.causes.Storing.{AreApart}
+use Rattle.world_answers.specs.world_causes.causes.LastCauses.{ids}
+use Rattle.world_answers.specs.world_causes.causes.Storing.{AreApart}
 
 -- ---- one command
 

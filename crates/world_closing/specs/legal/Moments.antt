@@ -5,7 +5,7 @@ use Rattle.world_commit.specs.attempts.History.{History}
 use Rattle.world_base.specs.declared.world.World.{World}
 use Rattle.world_base.specs.Events.{Rules}
 use Rattle.world_base.specs.Stops.{Begins, Goes, WorldRun}
-use Rattle.world_causes.specs.causes.Storing.{AreApart, dated_ids}
+use Rattle.world_answers.specs.world_causes.causes.Storing.{AreApart, dated_ids}
 use Rattle.world_upheld.specs.below.Standing.{ClientsSpeak, decided-issued}
 use Rattle.world_upheld.specs.upheld.Begins.{AreRulesInForm, RunBeginsWith}
 use Rattle.world_upheld.specs.upheld.Runs.{grounds-begin, runs-have_grounds}

@@ -19,7 +19,7 @@ use Rattle.daos_model.specs.Finals.{opening_of}
 use Rattle.daos_model.specs.Opening.{is_kept, kept_map}
 use Rattle.world_base.specs.declared.target.TargetState.{TargetState}
 use Rattle.world_base.specs.declared.world.World.{World}
-use Rattle.world_making.specs.making.Snapshots.{holds_created}
+use Rattle.world_answers.specs.world_making.making.Snapshots.{holds_created}
 use Rattle.world_closing.specs.legal.Following.{HoldsKept}
 use Rattle.world_closing.specs.legal.Reads.{OpensWithDkeys}
 

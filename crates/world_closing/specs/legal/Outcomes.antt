@@ -21,7 +21,7 @@ use Rattle.daos_model.specs.Transactions.{attempt_ops, command_of, ops_or_none}
 use Rattle.world_base.specs.declared.world.World.{World}
 use Rattle.world_base.specs.Events.{Rules}
 use Rattle.world_commit.specs.attempts.History.{History}
-use Rattle.world_contents.specs.gots.Gots.{IsLineServed}
+use Rattle.world_answers.specs.world_contents.gots.Gots.{IsLineServed}
 use Rattle.world_upheld.specs.below.Legal.{ended-well, ends-right, report_over, whole-issued}
 use Rattle.world_letters.specs.clients.Answered.{IsAnsweredWhole}
 use Rattle.world_letters.specs.lines.LastLines.{AreDone, HasClients, lines-in-turn}

@@ -27,15 +27,15 @@ use Rattle.daos_model.specs.Transactions.{attempt_ops}
 use Rattle.world_commit.specs.attempts.History.{History}
 use Rattle.world_base.specs.declared.world.World.{World}
 use Rattle.world_base.specs.Events.{Rules}
-use Rattle.world_contents.specs.gots.Gots.{Gots, IsLineServed}
-use Rattle.world_contents.specs.gots.MoreLaws.{served-more, stays-remembered}
-use Rattle.world_contents.specs.gots.Right.{SeenHaveDkeys}
-use Rattle.world_contents.specs.gots.ToldLaws.{lines-right}
-use Rattle.world_contents.specs.reads.Transactions.{transactions}
+use Rattle.world_answers.specs.world_contents.gots.Gots.{Gots, IsLineServed}
+use Rattle.world_answers.specs.world_contents.gots.MoreLaws.{served-more, stays-remembered}
+use Rattle.world_answers.specs.world_contents.gots.Right.{SeenHaveDkeys}
+use Rattle.world_answers.specs.world_contents.gots.ToldLaws.{lines-right}
+use Rattle.world_answers.specs.world_contents.reads.Transactions.{transactions}
 use Rattle.world_upheld.specs.below.Legal.{Concluded, report_over, right-same, durables_of}
 use Rattle.world_closing.specs.stands.Took.{EpochsDiffer, took-same_map}
-use Rattle.world_causes.specs.causes.LastCauses.{ids}
-use Rattle.world_causes.specs.causes.Storing.{AreApart}
+use Rattle.world_answers.specs.world_causes.causes.LastCauses.{ids}
+use Rattle.world_answers.specs.world_causes.causes.Storing.{AreApart}
 use Rattle.world_closing.specs.stands.Stores.{decided-form}
 
 -- ---- cells without a dkey

@@ -31,7 +31,7 @@ use Rattle.world_upheld.specs.below.Legal.{among-tries}
 use Rattle.world_letters.specs.epochs.Epochs.{Epochs, HasLine, IsPresent}
 use Rattle.world_letters.specs.lines.LastLines.{AreDone}
 use Rattle.world_letters.specs.snapshots.Makings.{ComesOf, Makings}
-use Rattle.world_making.specs.freezings.Freezings.{Freezings}
+use Rattle.world_answers.specs.world_making.freezings.Freezings.{Freezings}
 use Rattle.world_closing.specs.legal.Names.{ends-once, made-by_one}
 use Rattle.world_closing.specs.legal.Naming.{ReadsNameSnapshots, ReadsSo, as_lines, lines-of}
 

@@ -27,8 +27,8 @@ use Rattle.world_base.specs.declared.client.Stage.TheVariants as stage
 use Rattle.world_base.specs.ClientTurns.{Move, about, answered, at_present, attempt_id, begins_at, begun, command_at, condition_told, ends, goes, group_count, group_told, heard, heard_at, hears_epochs, is_about, is_yes, joined, known_epoch, knows, moved, moves_at, next_stage, op_of, op_told, replied, reset, rests, snaps_known, told_at, waits}
 use Rattle.world_letters.specs.clients.Answered.{is_refusal}
 use Rattle.world_letters.specs.lines.Lines.{IsCommitted, IsRefusalOrNone, TellsEnd}
-use Rattle.world_causes.specs.losses.Moving.{end-is}
-use Rattle.world_causes.specs.outcomes.TellLaws.{AllRead, MoveTells, NoSnap, Nothing, moved-tells}
+use Rattle.world_answers.specs.world_causes.losses.Moving.{end-is}
+use Rattle.world_answers.specs.world_causes.outcomes.TellLaws.{AllRead, MoveTells, NoSnap, Nothing, moved-tells}
 
 none-some : {A : Type 0} {T : Type 0} (x : A) → None ≡ Some x → T
 none-some x bad = let no : ⊥ = cc in absurd no

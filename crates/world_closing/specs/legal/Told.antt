@@ -30,14 +30,14 @@ use Rattle.daos_model.specs.Snapshots.{IsCreated, Made, StandsFor}
 use Rattle.daos_model.specs.Transactions.{command_of}
 use Rattle.world_base.specs.declared.world.World.{World}
 use Rattle.world_base.specs.Events.{Rules}
-use Rattle.world_causes.specs.causes.Causes.{Dated, Stored}
+use Rattle.world_answers.specs.world_causes.causes.Causes.{Dated, Stored}
 use Rattle.world_closing.specs.Issued.{IssuedOnce}
-use Rattle.world_causes.specs.causes.LastCauses.{stored-are-told}
-use Rattle.world_causes.specs.causes.Storing.{StoredOnce}
+use Rattle.world_answers.specs.world_causes.causes.LastCauses.{stored-are-told}
+use Rattle.world_answers.specs.world_causes.causes.Storing.{StoredOnce}
 use Rattle.world_letters.specs.clients.Snapshots.{is_at_snapshot}
 use Rattle.world_letters.specs.epochs.Epochs.{Epochs, HasLine, IsEpochOf, IsOwn, IsSeen}
 use Rattle.world_letters.specs.lines.LastLines.{AreDone}
-use Rattle.world_making.specs.freezings.Seeing.{found-known}
+use Rattle.world_answers.specs.world_making.freezings.Seeing.{found-known}
 use Rattle.world_closing.specs.legal.LinesApart.{lines-apart}
 use Rattle.world_closing.specs.Rules.{rules_of}
 use Rattle.world_upheld.specs.causing.DateLaws.{epoch-once}

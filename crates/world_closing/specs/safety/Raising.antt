@@ -12,7 +12,7 @@ use Rattle.world_base.specs.Stops.{Draws, Fails, Further, GivenUp, Happening, Is
 use Rattle.world_base.specs.TurnLaws.{hears-keeps, idles-keeps}
 use Rattle.world_letters.specs.lives.Events.{cut-lasts_so}
 use Rattle.world_letters.specs.lives.Leases.{further-lasts}
-use Rattle.world_contents.specs.reads.EventLaws.{at-or-there}
+use Rattle.world_answers.specs.world_contents.reads.EventLaws.{at-or-there}
 
 -- ---- the statements
 

@@ -20,12 +20,12 @@ use Rattle.world_base.specs.Ended.{HasEnded}
 use Rattle.world_base.specs.Events.{Rules, target_plan}
 use Rattle.world_base.specs.Letters.{target}
 use Rattle.world_base.specs.Stops.{WorldEvent, WorldRun}
-use Rattle.world_causes.specs.causes.Causes.{Stored}
-use Rattle.world_causes.specs.showing.Happening.{stored_in}
+use Rattle.world_answers.specs.world_causes.causes.Causes.{Stored}
+use Rattle.world_answers.specs.world_causes.showing.Happening.{stored_in}
 use Rattle.world_commit.specs.attempts.History.{GrowsBy, History}
 use Rattle.world_commit.specs.statuses.Events.{told_by}
-use Rattle.world_contents.specs.posts.Forms.{IsInForm}
-use Rattle.world_ended.specs.Clients.{AllEndWell}
+use Rattle.world_answers.specs.world_contents.posts.Forms.{IsInForm}
+use Rattle.world_upheld.specs.world_ended.Clients.{AllEndWell}
 use Rattle.world_upheld.specs.below.Legal.{report_over, stored_over}
 use Rattle.world_letters.specs.kinds.Fitting.{AllAnswersFit}
 use Rattle.world_closing.specs.Rules.{rules_of}

@@ -25,7 +25,7 @@ use Rattle.daos_model.specs.Family.{AgreeOn, family_map, map_where, part_of}
 use Rattle.daos_model.specs.Finals.{SameMap}
 use Rattle.daos_model.specs.Prunes.{is_punch, touches, values_of}
 use Rattle.daos_model.specs.Versions.{version_path}
-use Rattle.world_contents.specs.reads.Versions.{is_own_in}
+use Rattle.world_answers.specs.world_contents.reads.Versions.{is_own_in}
 
 -- ---- writes of one container
 

@@ -26,7 +26,7 @@ use Rattle.world_base.specs.Changes.{IsPartly, Prunes}
 use Rattle.world_base.specs.Events.{Rules}
 use Rattle.world_base.specs.Snapshots.{prune_limit}
 use Rattle.world_base.specs.Stops.{Begins, Goes, WorldRun}
-use Rattle.world_contents.specs.gots.MoreLaws.{all-mapped}
+use Rattle.world_answers.specs.world_contents.gots.MoreLaws.{all-mapped}
 use Rattle.world_letters.specs.snapshots.Stages.{limit-low}
 use Rattle.world_upheld.specs.below.Standing.{AreAll, all-put, epochs-puts, epochs-settled}
 use Rattle.world_upheld.specs.hearing.Staying.{StaysCoveredOn, events-keep_what_stays}

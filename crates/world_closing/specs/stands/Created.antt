@@ -15,8 +15,8 @@ use Rattle.daos_model.specs.Opening.{Opening, kept_map, top}
 use Rattle.world_base.specs.declared.target.TargetState.{TargetState}
 use Rattle.world_base.specs.declared.world.World.{World}
 use Rattle.world_base.specs.ClientTurns.{is_created_at}
-use Rattle.world_making.specs.freezings.Snapping.{snap-itself}
-use Rattle.world_making.specs.making.Snapshots.{holds_created}
+use Rattle.world_answers.specs.world_making.freezings.Snapping.{snap-itself}
+use Rattle.world_answers.specs.world_making.making.Snapshots.{holds_created}
 use Rattle.world_upheld.specs.below.Legal.{durable_of, durables_of}
 
 -- Each snapshot of before the run that target 0 holds as created is one of which the opening keeps a map.

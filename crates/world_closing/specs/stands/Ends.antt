@@ -23,16 +23,16 @@ use Rattle.world_base.specs.declared.letter.Letter.{Letter}
 use Rattle.world_base.specs.declared.world.World.{World}
 use Rattle.world_base.specs.Events.{Rules}
 use Rattle.world_base.specs.Letters.{client, is_tell}
-use Rattle.world_causes.specs.causes.LastCauses.{ids}
-use Rattle.world_causes.specs.causes.Storing.{AreApart}
-use Rattle.world_contents.specs.reads.Given.{Given}
-use Rattle.world_contents.specs.reads.Transactions.{transactions}
+use Rattle.world_answers.specs.world_causes.causes.LastCauses.{ids}
+use Rattle.world_answers.specs.world_causes.causes.Storing.{AreApart}
+use Rattle.world_answers.specs.world_contents.reads.Given.{Given}
+use Rattle.world_answers.specs.world_contents.reads.Transactions.{transactions}
 use Rattle.world_letters.specs.talks.TalkLaws.{got-is-talk}
 use Rattle.world_letters.specs.waits.Premises.{RequestsAreOfClients, is_end}
 use Rattle.world_letters.specs.waits.Requests.{is_lost_request}
 use Rattle.world_letters.specs.waits.Waits.{Conversation}
-use Rattle.world_making.specs.freezings.Freezings.{EndComes, Freezings, HasItsLine, IsFated, IsFatedSnap, LossComes}
-use Rattle.world_making.specs.freezings.InTheEnd.{committed-created}
+use Rattle.world_answers.specs.world_making.freezings.Freezings.{EndComes, Freezings, HasItsLine, IsFated, IsFatedSnap, LossComes}
+use Rattle.world_answers.specs.world_making.freezings.InTheEnd.{committed-created}
 use Rattle.world_upheld.specs.below.Legal.{durables_of}
 use Rattle.world_closing.specs.Rules.{rules_of}
 use Rattle.world_upheld.specs.below.Legal.{Concluded, report_over}

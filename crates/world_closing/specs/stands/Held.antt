@@ -20,7 +20,7 @@ use Rattle.daos_model.specs.OrderLaws.{before-itself, rising-filter}
 use Rattle.daos_model.specs.Ordered.{all_after, is_rising}
 use Rattle.world_base.specs.declared.target.TargetState.{TargetState}
 use Rattle.world_base.specs.declared.world.World.{World}
-use Rattle.world_making.specs.making.Snapshots.{holds_created}
+use Rattle.world_answers.specs.world_making.making.Snapshots.{holds_created}
 use Rattle.world_upheld.specs.below.Legal.{from-durables, durable_of, durables_of}
 use Rattle.world_closing.specs.stands.Containers.{part-outside, part-unowned}
 use Rattle.world_closing.specs.stands.Created.{created-from}

@@ -27,9 +27,9 @@ use Rattle.daos_model.specs.Sound.{IsPlaced, IsSoundAt, Sound}
 use Rattle.daos_model.specs.Versions.{writes_in}
 use Rattle.world_base.specs.declared.target.TargetState.{TargetState}
 use Rattle.world_base.specs.declared.world.World.{World}
-use Rattle.world_making.specs.freezings.Freezings.{KeepsFrozen}
-use Rattle.world_making.specs.making.Snapshots.{holds_created}
-use Rattle.world_contents.specs.reads.Versions.{HoldsMap, is_own_in}
+use Rattle.world_answers.specs.world_making.freezings.Freezings.{KeepsFrozen}
+use Rattle.world_answers.specs.world_making.making.Snapshots.{holds_created}
+use Rattle.world_answers.specs.world_contents.reads.Versions.{HoldsMap, is_own_in}
 use Rattle.world_upheld.specs.below.Legal.{get-map, durable_of, durables_of}
 use Rattle.world_upheld.specs.explained.Explanations.{HoldKeptSnapshots}
 use Rattle.world_upheld.specs.upheld.Begins.{KeepsSnapshots, is_settled_version, without_snaps, OpensWith}

@@ -23,16 +23,16 @@ use Rattle.world_base.specs.declared.target.TargetState.{TargetState}
 use Rattle.world_base.specs.declared.world.World.{World}
 use Rattle.world_base.specs.Events.{Rules}
 use Rattle.world_base.specs.Stops.{Begins, Goes, WorldEvent, WorldRun}
-use Rattle.world_making.specs.freezings.Freezings.{IsCreatedFirst, IsOfSnap}
-use Rattle.world_making.specs.freezings.Snapping.{created-frozen}
-use Rattle.world_making.specs.making.Snapshots.{holds_created}
+use Rattle.world_answers.specs.world_making.freezings.Freezings.{IsCreatedFirst, IsOfSnap}
+use Rattle.world_answers.specs.world_making.freezings.Snapping.{created-frozen}
+use Rattle.world_answers.specs.world_making.making.Snapshots.{holds_created}
 use Rattle.world_upheld.specs.upheld.Begins.{AreRulesInForm, RunBeginsWith, OpensWith}
 use Rattle.world_upheld.specs.upheld.BeginVersions.{begins-well, frozen-before, same-row, snap-before}
 use Rattle.world_upheld.specs.upheld.Runs.{runs-have_grounds}
 use Rattle.world_upheld.specs.below.Standing.{AreAll}
 use Rattle.world_closing.specs.stands.Covered.{IsRowWithin, IsWithin, edge_over}
 use Rattle.world_closing.specs.stands.Created.{AreKeptBy}
-use Rattle.world_making.specs.freezings.Snapped.{WasSnapped, all-events-snap_so}
+use Rattle.world_answers.specs.world_making.freezings.Snapped.{WasSnapped, all-events-snap_so}
 use Rattle.world_closing.specs.stands.Stands.{HoldsOpenings}
 
 -- ---- what was created before the run

@@ -17,9 +17,9 @@ use Rattle.world_commit.specs.attempts.Stored.{row-found, found-attempt}
 use Rattle.world_base.specs.declared.target.TargetState.{TargetState}
 use Rattle.world_base.specs.declared.world.World.{World}
 use Rattle.world_base.specs.Events.{Rules}
-use Rattle.world_causes.specs.hearing.Deciding.{AreEnded, MayEnd, end-all}
-use Rattle.world_contents.specs.reads.ChangeLaws.{entry-among}
-use Rattle.world_contents.specs.reads.Given.{Given}
+use Rattle.world_answers.specs.world_causes.hearing.Deciding.{AreEnded, MayEnd, end-all}
+use Rattle.world_answers.specs.world_contents.reads.ChangeLaws.{entry-among}
+use Rattle.world_answers.specs.world_contents.reads.Given.{Given}
 use Rattle.world_upheld.specs.below.Legal.{durables_of}
 use Rattle.world_upheld.specs.below.Legal.{AreHeld, HasEntries, IsResolved, Resolves, decided-held, held-at, held-resolved, resolved-held}
 use Rattle.world_upheld.specs.upheld.Heard.{all-heard_right}

@@ -10,7 +10,7 @@ use Rattle.world_base.specs.declared.world.World.{World}
 use Rattle.world_base.specs.Ended.{HasEnded}
 use Rattle.world_base.specs.Events.{Rules}
 use Rattle.world_base.specs.Stops.{WorldRun}
-use Rattle.world_contents.specs.reads.Given.{Given}
+use Rattle.world_answers.specs.world_contents.reads.Given.{Given}
 use Rattle.world_upheld.specs.below.Legal.{durables_of}
 use Rattle.world_closing.specs.Rules.{rules_of}
 use Rattle.world_upheld.specs.below.Standing.{AreAll}

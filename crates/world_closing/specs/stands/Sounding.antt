@@ -23,9 +23,9 @@ use Rattle.world_base.specs.declared.target.TargetState.{TargetState}
 use Rattle.world_base.specs.declared.world.World.{World}
 use Rattle.world_base.specs.Commits.{bits_of}
 use Rattle.world_base.specs.Events.{Rules}
-use Rattle.world_contents.specs.reads.Given.{FitsTargets}
-use Rattle.world_contents.specs.reads.MemberLaws.{bits-has}
-use Rattle.world_contents.specs.reads.Versions.{VersionsStand}
+use Rattle.world_answers.specs.world_contents.reads.Given.{FitsTargets}
+use Rattle.world_answers.specs.world_contents.reads.MemberLaws.{bits-has}
+use Rattle.world_answers.specs.world_contents.reads.Versions.{VersionsStand}
 use Rattle.world_upheld.specs.below.Legal.{from-durables, durables_of}
 use Rattle.world_upheld.specs.below.Standing.{AreAll}
 use Rattle.world_upheld.specs.below.Legal.{field-is, many}

@@ -19,10 +19,10 @@ use Rattle.world_base.specs.declared.world.World.{World}
 use Rattle.world_base.specs.Ended.{HasEnded}
 use Rattle.world_base.specs.Events.{Rules}
 use Rattle.world_base.specs.Stops.{WorldRun}
-use Rattle.world_causes.specs.causes.LastCauses.{ids}
-use Rattle.world_causes.specs.causes.Storing.{AreApart}
-use Rattle.world_contents.specs.reads.Transactions.{decided_of}
-use Rattle.world_making.specs.freezings.Freezings.{IsCreatedFirst, IsOfSnap}
+use Rattle.world_answers.specs.world_causes.causes.LastCauses.{ids}
+use Rattle.world_answers.specs.world_causes.causes.Storing.{AreApart}
+use Rattle.world_answers.specs.world_contents.reads.Transactions.{decided_of}
+use Rattle.world_answers.specs.world_making.freezings.Freezings.{IsCreatedFirst, IsOfSnap}
 use Rattle.world_upheld.specs.below.Legal.{durables_of}
 use Rattle.world_closing.specs.Rules.{rules_of}
 use Rattle.world_upheld.specs.below.Legal.{Concluded, IsResolved, report_over}

@@ -35,13 +35,13 @@ use Rattle.world_commit.specs.attempts.History.{History, is_decided}
 use Rattle.world_base.specs.declared.target.TargetState.{TargetState}
 use Rattle.world_base.specs.declared.world.World.{World}
 use Rattle.world_base.specs.Events.{Rules}
-use Rattle.world_contents.specs.reads.ChangeLaws.{decided-has, has-decided}
-use Rattle.world_contents.specs.reads.Given.{Given}
-use Rattle.world_contents.specs.reads.SnapLaws.{frozen-among}
-use Rattle.world_contents.specs.reads.Transactions.{counts_by, transactions, decided_of}
-use Rattle.world_contents.specs.reads.Versions.{HoldsMap, VersionsStand, is_own_in, mark_of}
-use Rattle.world_making.specs.freezings.Freezings.{Freezings, IsOfSnap}
-use Rattle.world_making.specs.freezings.Snapping.{created-frozen}
+use Rattle.world_answers.specs.world_contents.reads.ChangeLaws.{decided-has, has-decided}
+use Rattle.world_answers.specs.world_contents.reads.Given.{Given}
+use Rattle.world_answers.specs.world_contents.reads.SnapLaws.{frozen-among}
+use Rattle.world_answers.specs.world_contents.reads.Transactions.{counts_by, transactions, decided_of}
+use Rattle.world_answers.specs.world_contents.reads.Versions.{HoldsMap, VersionsStand, is_own_in, mark_of}
+use Rattle.world_answers.specs.world_making.freezings.Freezings.{Freezings, IsOfSnap}
+use Rattle.world_answers.specs.world_making.freezings.Snapping.{created-frozen}
 use Rattle.world_upheld.specs.below.Legal.{from-durables, durable_of, durables_of}
 use Rattle.world_upheld.specs.below.Standing.{AreAll}
 use Rattle.world_upheld.specs.below.Legal.{Resolves}
@@ -49,7 +49,7 @@ use Rattle.world_closing.specs.stands.Containers.{EachGivesIn, IsMapIn, containe
 use Rattle.world_closing.specs.stands.Covered.{IsWithin, edge_over, row-within}
 use Rattle.world_closing.specs.stands.Created.{AreKeptBy, IsCreatedThere, IsKeptOf, created-at, created-from, kept-among, kept-from, same-cont}
 use Rattle.world_closing.specs.stands.Stands.{HoldsOpenings, IsMadeHere, StandsForAll}
-use Rattle.world_contents.specs.posts.ScriptForm.{attempt-writes-form, of-end}
+use Rattle.world_answers.specs.world_contents.posts.ScriptForm.{attempt-writes-form, of-end}
 use Rattle.daos_model.specs.Forms.{is_write_in_form}
 
 -- epochs that a lease covers are below a bound

@@ -27,9 +27,9 @@ use Rattle.world_commit.specs.attempts.History as history
 use Rattle.world_commit.specs.attempts.History.{History}
 use Rattle.world_base.specs.declared.world.World.{World}
 use Rattle.world_base.specs.Events.{Rules}
-use Rattle.world_causes.specs.causes.LastCauses.{ids}
-use Rattle.world_causes.specs.causes.Storing.{AreApart}
-use Rattle.world_contents.specs.reads.Transactions.{decided_of, transactions}
+use Rattle.world_answers.specs.world_causes.causes.LastCauses.{ids}
+use Rattle.world_answers.specs.world_causes.causes.Storing.{AreApart}
+use Rattle.world_answers.specs.world_contents.reads.Transactions.{decided_of, transactions}
 use Rattle.world_upheld.specs.below.Legal.{written-minors, durables_of}
 use Rattle.world_upheld.specs.below.Legal.{Concluded, IsToldOf, one-line}
 

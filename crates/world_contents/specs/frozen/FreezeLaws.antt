@@ -27,7 +27,7 @@ use Rattle.vos_store.specs.Answers.{freezes}
 use Rattle.vos_store.specs.declared.refusal.FreezeNo.{FreezeNo}
 use Rattle.vos_store.specs.declared.refusal.FreezeNo.TheVariants as freeze
 use Rattle.world_commit.specs.attempts.History.{History, Served}
-use Rattle.world_base.specs.Events.{Rules}
+use Rattle.world_commit.specs.world_base.Events.{Rules}
 use Rattle.world_contents.specs.frozen.Laws.{CreatesKeepSound, FreezesKeepSound, MayBeFrozen}
 use Rattle.world_contents.specs.frozen.Rows.{FloorRises, of-raised_at, raised_at-reaches, raised_at-rises, floor-itself, row-each, row-there}
 use Rattle.world_contents.specs.frozen.Shown.{shows-on}

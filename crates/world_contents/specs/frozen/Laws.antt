@@ -13,9 +13,9 @@ use Rattle.daos_model.specs.Versions.{version_path}
 use Rattle.model_laws.specs.Decided.{AreDecided}
 use Rattle.vos_store.specs.Answers.{freezes}
 use Rattle.world_commit.specs.attempts.History.{History, Served}
-use Rattle.world_base.specs.Changes.{IsPartly, Prunes}
-use Rattle.world_base.specs.Events.{Rules}
-use Rattle.world_base.specs.Snapshots.{is_prune_due, prune_limit}
+use Rattle.world_commit.specs.world_base.Changes.{IsPartly, Prunes}
+use Rattle.world_commit.specs.world_base.Events.{Rules}
+use Rattle.world_commit.specs.world_base.Snapshots.{is_prune_due, prune_limit}
 use Rattle.world_contents.specs.reads.Midway.{Sound}
 use Rattle.world_contents.specs.reads.Transactions.{transactions}
 use Rattle.world_contents.specs.reads.Versions.{VersionsStand}

@@ -15,7 +15,7 @@ use Rattle.daos_model.specs.Versions.{version_path}
 use Rattle.model_laws.specs.EntryLaws.{found-has, found-passes}
 use Rattle.model_laws.specs.Members.{Has, contains-from_has, has-from_contains}
 use Rattle.model_laws.specs.RisingLaws.{from-has}
-use Rattle.world_base.specs.Snapshots.{below_open, is_open_in, prune_limit}
+use Rattle.world_commit.specs.world_base.Snapshots.{below_open, is_open_in, prune_limit}
 use Rattle.world_contents.specs.frozen.Laws.{LimitsAreClear, MayBePruned}
 use Rattle.world_contents.specs.reads.ListLaws.{none-found}
 

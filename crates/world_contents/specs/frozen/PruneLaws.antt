@@ -27,7 +27,7 @@ use Rattle.model_laws.specs.PruneMatchLaws.{prunes-elsewhere, prunes-matches, pr
 use Rattle.model_laws.specs.Targets.{is_own}
 use Rattle.model_laws.specs.TargetLaws.{number_same}
 use Rattle.world_commit.specs.attempts.History.{History, Served, is_decided}
-use Rattle.world_base.specs.Events.{Rules}
+use Rattle.world_commit.specs.world_base.Events.{Rules}
 use Rattle.world_contents.specs.frozen.Laws.{MayBePruned, PartsKeepSound, PrunesKeepSound}
 use Rattle.world_contents.specs.frozen.Rows.{IsMarked, row-marked, marks-other, of-marked_at, row-each, row-there}
 use Rattle.world_contents.specs.frozen.Shown.{shows-on}

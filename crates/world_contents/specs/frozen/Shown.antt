@@ -13,7 +13,7 @@ use Rattle.daos_model.specs.declared.durable.Version.{Version}
 use Rattle.daos_model.specs.Durables.{row_of}
 use Rattle.vos_store.specs.Answers.{floor_of, later_floor}
 use Rattle.world_commit.specs.attempts.History.{Served}
-use Rattle.world_base.specs.Events.{Rules}
+use Rattle.world_commit.specs.world_base.Events.{Rules}
 use Rattle.world_contents.specs.reads.Midway.{IsGuardedBy, Shows}
 
 later-rises : (opening : Epoch × FloorWhy) (r q : ContRow) → r.floor.0 ≤ q.floor.0 → (later_floor opening r).0.0 ≤ (later_floor opening q).0.0

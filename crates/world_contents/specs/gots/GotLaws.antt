@@ -15,16 +15,16 @@ use Rattle.base_types.specs.declared.script.Command.TheVariants.{Run, Snap, Aggr
 use Rattle.daos_model.specs.Accesses.{minor_writes}
 use Rattle.daos_model.specs.Attempts.{is_restart, snapshot_of_command}
 use Rattle.daos_model.specs.Transactions.{ops_of, ops_or_none}
-use Rattle.world_base.specs.declared.client.ClientPlan.{ClientPlan}
-use Rattle.world_base.specs.declared.client.ClientState.{ClientState}
-use Rattle.world_base.specs.declared.client.Present.{Present}
-use Rattle.world_base.specs.declared.client.Stage.{Stage}
-use Rattle.world_base.specs.declared.client.Stage.TheVariants as stage
-use Rattle.world_base.specs.ClientTurns.{Move, after_end, asks_or_goes, at_present, attempt_id, attempt_moves, begins_at, begun, command_at, command_moves, commits, ends, first_epoch, moved, moves_at, next_command, next_place, next_stage, op_moves, question, rests, run_moves, waits}
-use Rattle.world_letters.specs.clients.Answered.{ops_here, ops_numbered}
-use Rattle.world_letters.specs.clients.AnswerLaws.{ops-here}
-use Rattle.world_letters.specs.clients.MoveLaws.{is-at, tells-end, tells-nothing, told_end}
-use Rattle.world_letters.specs.clients.Standing.{HasTold, tells}
+use Rattle.world_commit.specs.world_base.declared.client.ClientPlan.{ClientPlan}
+use Rattle.world_commit.specs.world_base.declared.client.ClientState.{ClientState}
+use Rattle.world_commit.specs.world_base.declared.client.Present.{Present}
+use Rattle.world_commit.specs.world_base.declared.client.Stage.{Stage}
+use Rattle.world_commit.specs.world_base.declared.client.Stage.TheVariants as stage
+use Rattle.world_commit.specs.world_base.ClientTurns.{Move, after_end, asks_or_goes, at_present, attempt_id, attempt_moves, begins_at, begun, command_at, command_moves, commits, ends, first_epoch, moved, moves_at, next_command, next_place, next_stage, op_moves, question, rests, run_moves, waits}
+use Rattle.world_commit.specs.world_letters.clients.Answered.{ops_here, ops_numbered}
+use Rattle.world_commit.specs.world_letters.clients.AnswerLaws.{ops-here}
+use Rattle.world_commit.specs.world_letters.clients.MoveLaws.{is-at, tells-end, tells-nothing, told_end}
+use Rattle.world_commit.specs.world_letters.clients.Standing.{HasTold, tells}
 use Rattle.world_contents.specs.gots.Gots.{AreServed, Found, IsFound, IsGot, IsServedSoFar, IsTold, Nothing}
 use Rattle.world_commit.specs.attempts.History.{History}
 

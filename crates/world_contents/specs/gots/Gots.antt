@@ -15,15 +15,15 @@ use Rattle.base_messages.specs.declared.message.Reply.TheVariants as reply
 use Rattle.daos_model.specs.Accesses.{is_condition, op_path}
 use Rattle.daos_model.specs.Attempts.{tries}
 use Rattle.daos_model.specs.Transactions.{attempt_ops, read_at}
-use Rattle.world_base.specs.declared.client.ClientPlan.{ClientPlan}
-use Rattle.world_base.specs.declared.client.ClientState.{ClientState}
-use Rattle.world_base.specs.declared.client.Present.{Present}
-use Rattle.world_base.specs.declared.letter.Letter.{Letter}
-use Rattle.world_base.specs.declared.world.World.{World}
-use Rattle.world_base.specs.ClientTurns.{attempt_id, group_asked, group_count, is_yes, joined, knows_epoch, question}
-use Rattle.world_letters.specs.clients.Answered.{ops_here}
-use Rattle.world_base.specs.Events.{Rules, client_plan}
-use Rattle.world_base.specs.Letters.{client}
+use Rattle.world_commit.specs.world_base.declared.client.ClientPlan.{ClientPlan}
+use Rattle.world_commit.specs.world_base.declared.client.ClientState.{ClientState}
+use Rattle.world_commit.specs.world_base.declared.client.Present.{Present}
+use Rattle.world_commit.specs.world_base.declared.letter.Letter.{Letter}
+use Rattle.world_commit.specs.world_base.declared.world.World.{World}
+use Rattle.world_commit.specs.world_base.ClientTurns.{attempt_id, group_asked, group_count, is_yes, joined, knows_epoch, question}
+use Rattle.world_commit.specs.world_letters.clients.Answered.{ops_here}
+use Rattle.world_commit.specs.world_base.Events.{Rules, client_plan}
+use Rattle.world_commit.specs.world_base.Letters.{client}
 use Rattle.world_commit.specs.attempts.History.{History, Served}
 
 -- ---- one group, and several

@@ -21,12 +21,12 @@ use Rattle.base_messages.specs.declared.message.Reply.TheVariants as reply
 use Rattle.daos_model.specs.Accesses.{is_condition, op_path}
 use Rattle.daos_model.specs.Conditions.{holds_where}
 use Rattle.daos_model.specs.Transactions.{ops_of, read_of, read_of_op}
-use Rattle.world_base.specs.declared.client.ClientPlan.{ClientPlan}
-use Rattle.world_base.specs.declared.client.ClientState.{ClientState}
-use Rattle.world_base.specs.declared.client.Present.{Present}
-use Rattle.world_base.specs.declared.client.Stage.{Stage}
-use Rattle.world_base.specs.declared.client.Stage.TheVariants as stage
-use Rattle.world_base.specs.ClientTurns.{act_read, at_present, attempt_id, command_at, condition_read, condition_told, ended, ends, goes, group_count, group_told, is_yes, joined, next_op, next_stage, op_of, op_told, question, read_told, replied, snaps_known, told_at}
+use Rattle.world_commit.specs.world_base.declared.client.ClientPlan.{ClientPlan}
+use Rattle.world_commit.specs.world_base.declared.client.ClientState.{ClientState}
+use Rattle.world_commit.specs.world_base.declared.client.Present.{Present}
+use Rattle.world_commit.specs.world_base.declared.client.Stage.{Stage}
+use Rattle.world_commit.specs.world_base.declared.client.Stage.TheVariants as stage
+use Rattle.world_commit.specs.world_base.ClientTurns.{act_read, at_present, attempt_id, command_at, condition_read, condition_told, ended, ends, goes, group_count, group_told, is_yes, joined, next_op, next_stage, op_of, op_told, question, read_told, replied, snaps_known, told_at}
 use Rattle.world_contents.specs.gots.Gots.{AreJoined, AreServed, Found, IsFound, IsGot, IsJoined, IsServedTo, IsTold, Nothing, NoneYet, OneMore, group_at, groups_asked}
 use Rattle.world_contents.specs.gots.GotLaws.{Here, KeepsGots, ends-gots, stays}
 use Rattle.world_commit.specs.attempts.History.{History}

@@ -6,9 +6,9 @@ use Rattle.base_types.specs.declared.epoch.Epoch.{Epoch}
 use Rattle.base_types.specs.declared.id.AttemptId.{AttemptId}
 use Rattle.base_types.specs.declared.operation.Op.{Op}
 use Rattle.base_types.specs.declared.operation.Read.{Read}
-use Rattle.world_base.specs.declared.client.Present.{Present}
-use Rattle.world_base.specs.ClientTurns.{knows, knows_epoch}
-use Rattle.world_base.specs.Events.{or_issued}
+use Rattle.world_commit.specs.world_base.declared.client.Present.{Present}
+use Rattle.world_commit.specs.world_base.ClientTurns.{knows, knows_epoch}
+use Rattle.world_commit.specs.world_base.Events.{or_issued}
 use Rattle.world_contents.specs.gots.Gots.{AreJoined, AreServed, Found, IsFound, IsGot, IsServedSoFar, IsServedTo, IsTold, Nothing, NoneYet, OneMore, Remembers}
 use Rattle.world_commit.specs.attempts.History.{History}
 

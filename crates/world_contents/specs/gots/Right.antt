@@ -18,8 +18,8 @@ use Rattle.model_laws.specs.Members.{Has}
 use Rattle.daos_model.specs.Answers.{answer}
 use Rattle.daos_model.specs.Opening.{Opening}
 use Rattle.daos_model.specs.ReadsLegal.{AttemptReadsLegal, IsToldRight, ReadsLegal}
-use Rattle.world_base.specs.declared.world.World.{World}
-use Rattle.world_base.specs.Events.{Rules}
+use Rattle.world_commit.specs.world_base.declared.world.World.{World}
+use Rattle.world_commit.specs.world_base.Events.{Rules}
 use Rattle.world_contents.specs.gots.Gots.{AreServed, Gots, IsJoined, IsLineServed}
 use Rattle.world_commit.specs.attempts.History.{History, Served}
 use Rattle.world_contents.specs.reads.Transactions.{transactions}

@@ -19,8 +19,8 @@ use Rattle.daos_model.specs.declared.cell.CellValue.{CellValue}
 use Rattle.daos_model.specs.Answers.{answer}
 use Rattle.daos_model.specs.Opening.{Opening}
 use Rattle.std.proofs.lemmas.List.{map_push}
-use Rattle.world_base.specs.ClientTurns.{group_asked, group_count, joined}
-use Rattle.world_base.specs.Events.{Rules}
+use Rattle.world_commit.specs.world_base.ClientTurns.{group_asked, group_count, joined}
+use Rattle.world_commit.specs.world_base.Events.{Rules}
 use Rattle.world_contents.specs.gots.Gots.{AreJoined, IsJoined, IsServedTo, NoneYet, OneMore, group_at, groups_asked}
 use Rattle.world_contents.specs.gots.Right.{AreAnsweredRight, IsJoinable, JoinsAreRight}
 use Rattle.world_commit.specs.attempts.History.{History}

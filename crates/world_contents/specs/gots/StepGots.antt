@@ -18,27 +18,27 @@ use Rattle.base_messages.specs.declared.message.Reply.TheVariants as reply
 use Rattle.daos_model.specs.Attempts.{tries}
 use Rattle.daos_model.specs.Laws.{tries-append}
 use Rattle.daos_model.specs.Transactions.{attempt_ops, command_of}
-use Rattle.world_base.specs.declared.client.ClientPlan.{ClientPlan}
-use Rattle.world_base.specs.declared.client.ClientState.{ClientState}
-use Rattle.world_base.specs.declared.client.Present.{Present}
-use Rattle.world_base.specs.declared.letter.Letter.{Letter}
-use Rattle.world_base.specs.declared.world.World.{World}
-use Rattle.world_base.specs.ClientTurns.{Move, attempt_id, listed, moved, waits}
-use Rattle.world_letters.specs.clients.Answered.{ops_here, ops_numbered}
-use Rattle.world_letters.specs.clients.Standing.{HasTold}
-use Rattle.world_base.specs.Events.{Rules, client_plan, with_epoch}
-use Rattle.world_base.specs.Letters.{client, is_tell, letter_of, letters_of, talk_of}
-use Rattle.world_base.specs.StepLaws.{set-here, set-there}
-use Rattle.world_base.specs.Steps.{after_move}
+use Rattle.world_commit.specs.world_base.declared.client.ClientPlan.{ClientPlan}
+use Rattle.world_commit.specs.world_base.declared.client.ClientState.{ClientState}
+use Rattle.world_commit.specs.world_base.declared.client.Present.{Present}
+use Rattle.world_commit.specs.world_base.declared.letter.Letter.{Letter}
+use Rattle.world_commit.specs.world_base.declared.world.World.{World}
+use Rattle.world_commit.specs.world_base.ClientTurns.{Move, attempt_id, listed, moved, waits}
+use Rattle.world_commit.specs.world_letters.clients.Answered.{ops_here, ops_numbered}
+use Rattle.world_commit.specs.world_letters.clients.Standing.{HasTold}
+use Rattle.world_commit.specs.world_base.Events.{Rules, client_plan, with_epoch}
+use Rattle.world_commit.specs.world_base.Letters.{client, is_tell, letter_of, letters_of, talk_of}
+use Rattle.world_commit.specs.world_base.StepLaws.{set-here, set-there}
+use Rattle.world_commit.specs.world_base.Steps.{after_move}
 use Rattle.world_contents.specs.gots.Gots.{AreServed, Gots, IsLineServed, IsServedAnswer, IsServedSoFar}
 use Rattle.world_contents.specs.gots.GotLaws.{IsServedHere, IsToldServed, KeepsGots, moved-gots}
 use Rattle.world_contents.specs.gots.MoreLaws.{all-mapped, served-more, stays-issued}
-use Rattle.world_letters.specs.lines.FilledLaws.{tries-filled}
-use Rattle.world_letters.specs.lines.Lines.{filled}
+use Rattle.world_commit.specs.world_letters.lines.FilledLaws.{tries-filled}
+use Rattle.world_commit.specs.world_letters.lines.Lines.{filled}
 use Rattle.world_commit.specs.attempts.History.{History}
-use Rattle.world_letters.specs.talks.AskLaws.{move-is, waiting-rests}
-use Rattle.world_letters.specs.talks.Asked.{ARead, ASnapshot, AnAggregation, Asked, Asking, IsMove, ItsWrites, Silent, Telling}
-use Rattle.world_letters.specs.talks.TalkLaws.{got-is-talk, none-among}
+use Rattle.world_commit.specs.world_letters.talks.AskLaws.{move-is, waiting-rests}
+use Rattle.world_commit.specs.world_letters.talks.Asked.{ARead, ASnapshot, AnAggregation, Asked, Asking, IsMove, ItsWrites, Silent, Telling}
+use Rattle.world_commit.specs.world_letters.talks.TalkLaws.{got-is-talk, none-among}
 
 -- ---- which letters reply to reads
 

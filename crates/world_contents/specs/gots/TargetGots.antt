@@ -10,37 +10,37 @@ use Rattle.base_messages.specs.declared.message.Post.{Post}
 use Rattle.base_messages.specs.declared.message.Reply.TheVariants as reply
 use Rattle.daos_model.specs.Attempts.{tries}
 use Rattle.daos_model.specs.Transactions.{attempt_ops, ops_or_none}
-use Rattle.world_base.specs.declared.client.ClientPlan.{ClientPlan}
-use Rattle.world_base.specs.declared.client.ClientState.{ClientState}
-use Rattle.world_base.specs.declared.client.Present.{Present}
-use Rattle.world_base.specs.declared.did.Did.{Did}
-use Rattle.world_base.specs.declared.letter.Letter.{Letter}
-use Rattle.world_base.specs.declared.request.FetchRequest.{FetchRequest}
-use Rattle.world_base.specs.declared.target.TargetMemory.{TargetMemory}
-use Rattle.world_base.specs.declared.target.TargetPlan.{TargetPlan}
-use Rattle.world_base.specs.declared.world.World.{World}
-use Rattle.world_base.specs.ClientTurns.{attempt_id, knows_epoch}
+use Rattle.world_commit.specs.world_base.declared.client.ClientPlan.{ClientPlan}
+use Rattle.world_commit.specs.world_base.declared.client.ClientState.{ClientState}
+use Rattle.world_commit.specs.world_base.declared.client.Present.{Present}
+use Rattle.world_commit.specs.world_base.declared.did.Did.{Did}
+use Rattle.world_commit.specs.world_base.declared.letter.Letter.{Letter}
+use Rattle.world_commit.specs.world_base.declared.request.FetchRequest.{FetchRequest}
+use Rattle.world_commit.specs.world_base.declared.target.TargetMemory.{TargetMemory}
+use Rattle.world_commit.specs.world_base.declared.target.TargetPlan.{TargetPlan}
+use Rattle.world_commit.specs.world_base.declared.world.World.{World}
+use Rattle.world_commit.specs.world_base.ClientTurns.{attempt_id, knows_epoch}
 use Rattle.std.specs.Prelude.{Bool, true, false, if◌then◌else◌}
 use Rattle.base_types.specs.declared.entry.Entry.{Entry}
 use Rattle.model_laws.specs.Members.{Has, contains-from_has, has-cases, has-from_contains, has-from_map}
 use Rattle.daos_model.specs.declared.durable.Durable.{Durable}
-use Rattle.dtx_base.specs.declared.leading.Naming.{Naming}
-use Rattle.dtx_base.specs.Joining.{inquired, inquiry_for, to_inquire}
-use Rattle.dtx_base.specs.Leading.{LeaderOf, batched, commit_mark, mark_with, marks_for, owed, to_target}
-use Rattle.dtx_base.specs.Members.{all_targets}
-use Rattle.dtx_base.specs.Rows.{is_empty}
+use Rattle.world_commit.specs.dtx_base.declared.leading.Naming.{Naming}
+use Rattle.world_commit.specs.dtx_base.Joining.{inquired, inquiry_for, to_inquire}
+use Rattle.world_commit.specs.dtx_base.Leading.{LeaderOf, batched, commit_mark, mark_with, marks_for, owed, to_target}
+use Rattle.world_commit.specs.dtx_base.Members.{all_targets}
+use Rattle.world_commit.specs.dtx_base.Rows.{is_empty}
 use Rattle.world_contents.specs.reads.Adds.{served_at}
-use Rattle.world_base.specs.Idle.{AllSettled, IdleEnds, batch_of, inquiry_of}
-use Rattle.world_base.specs.Roles.{leader_at, member_at, with_unsettled}
-use Rattle.world_base.specs.Events.{Rules, client_plan}
-use Rattle.world_base.specs.Letters.{client, letter_of, letters_of}
+use Rattle.world_commit.specs.world_base.Idle.{AllSettled, IdleEnds, batch_of, inquiry_of}
+use Rattle.world_commit.specs.world_base.Roles.{leader_at, member_at, with_unsettled}
+use Rattle.world_commit.specs.world_base.Events.{Rules, client_plan}
+use Rattle.world_commit.specs.world_base.Letters.{client, letter_of, letters_of}
 use Rattle.world_contents.specs.gots.Gots.{Gots, IsLineServed, IsServedAnswer, Remembers}
 use Rattle.world_contents.specs.gots.MoreLaws.{all-more, remembered-more, served-more, stays-remembered}
 use Rattle.world_commit.specs.attempts.History.{History}
 use Rattle.world_contents.specs.gots.StepGots.{is_fetched}
-use Rattle.world_letters.specs.talks.Asked.{AsksRead}
-use Rattle.world_base.specs.Changes.{Kept}
-use Rattle.world_base.specs.Requests.{fetch_message}
+use Rattle.world_commit.specs.world_letters.talks.Asked.{AsksRead}
+use Rattle.world_commit.specs.world_base.Changes.{Kept}
+use Rattle.world_commit.specs.world_base.Requests.{fetch_message}
 
 -- ---- what is asked
 

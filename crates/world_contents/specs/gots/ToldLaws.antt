@@ -14,7 +14,7 @@ use Rattle.daos_model.specs.Answers.{has_cell_below, yes_or_no}
 use Rattle.daos_model.specs.Attempts.{tries}
 use Rattle.daos_model.specs.ReadsLegal.{AttemptReadsLegal, IsRightAnswer, IsRightCondition, IsToldRight, map_read}
 use Rattle.daos_model.specs.Transactions.{attempt_ops}
-use Rattle.world_base.specs.ClientTurns.{is_yes}
+use Rattle.world_commit.specs.world_base.ClientTurns.{is_yes}
 use Rattle.world_contents.specs.gots.FormLaws.{condition-askable, ops-form, read-askable}
 use Rattle.world_contents.specs.gots.Gots.{AreJoined, AreServed, IsGot, IsLineServed, IsTold, NoneYet, OneMore}
 use Rattle.world_contents.specs.gots.MoreLaws.{all-more, unknown-unserved}
@@ -25,7 +25,7 @@ use Rattle.world_contents.specs.reads.Transactions.{transactions}
 use Rattle.world_contents.specs.reads.Reads.{map_seen}
 use Rattle.daos_model.specs.declared.cell.CellValue.{CellValue}
 use Rattle.daos_model.specs.Opening.{Opening}
-use Rattle.world_base.specs.Events.{Rules}
+use Rattle.world_commit.specs.world_base.Events.{Rules}
 
 -- ---- what is told is right
 

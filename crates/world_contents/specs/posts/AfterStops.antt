@@ -11,13 +11,13 @@ use Rattle.base_messages.specs.declared.actor.ActorId.{ActorId}
 use Rattle.base_messages.specs.declared.message.Message.{Message}
 use Rattle.base_messages.specs.declared.message.Message.TheVariants as message
 use Rattle.daos_model.specs.Durables.{same_attempt}
-use Rattle.dtx_base.specs.declared.leading.Undecided.{Undecided}
-use Rattle.dtx_base.specs.Joining as member
-use Rattle.dtx_base.specs.Joining.{MemberOf}
-use Rattle.dtx_base.specs.Leading.{LeaderOf, LeaderStep, down_told, entry_led, first_memory, is_open, knowing, mark_reset, prepare_reset, quietly, reopened_undecided, reset_heard, reset_of, status_asked, to_target, undecided_attempt, undecided_of, unwaited_at}
-use Rattle.dtx_base.specs.Members.{other_members}
-use Rattle.dtx_base.specs.Rows.{is_row_of}
-use Rattle.world_base.specs.Statuses.{status_to, statuses_for}
+use Rattle.world_commit.specs.dtx_base.declared.leading.Undecided.{Undecided}
+use Rattle.world_commit.specs.dtx_base.Joining as member
+use Rattle.world_commit.specs.dtx_base.Joining.{MemberOf}
+use Rattle.world_commit.specs.dtx_base.Leading.{LeaderOf, LeaderStep, down_told, entry_led, first_memory, is_open, knowing, mark_reset, prepare_reset, quietly, reopened_undecided, reset_heard, reset_of, status_asked, to_target, undecided_attempt, undecided_of, unwaited_at}
+use Rattle.world_commit.specs.dtx_base.Members.{other_members}
+use Rattle.world_commit.specs.dtx_base.Rows.{is_row_of}
+use Rattle.world_commit.specs.world_base.Statuses.{status_to, statuses_for}
 use Rattle.world_contents.specs.posts.Forms.{ClientsWait, Follows, IsOfTarget, PostsInForm, TargetPosts}
 use Rattle.world_contents.specs.posts.Posting.{both-posted, ended-told, map-posted, mark-told, none-posted, one-posted, to-other, verdicts-post-in-form, waits-on}
 

@@ -21,22 +21,22 @@ use Rattle.base_messages.specs.declared.message.Message.TheVariants as message
 use Rattle.base_messages.specs.declared.message.Post.{Post}
 use Rattle.daos_model.specs.Accesses.{minor_writes}
 use Rattle.daos_model.specs.Forms.{AreWritesInForm}
-use Rattle.world_base.specs.declared.client.ClientPlan.{ClientPlan}
-use Rattle.world_base.specs.declared.client.ClientState.{ClientState}
-use Rattle.world_base.specs.declared.client.KnownSnap.{KnownSnap}
-use Rattle.world_base.specs.declared.client.Present.{Present}
-use Rattle.world_base.specs.declared.did.Did.{Did}
-use Rattle.world_base.specs.ClientTurns.{ClientDid, Ended_by, Heard_on, HearTurn, Move, Moves, NextTurn, None_yet, One_more, Skipped, Went_on, about, answered, asks_again, attempt_id, command_at, goes, heard, heard_at, hears_epochs, is_about, knows, listed, moved, question, reset, reset_by, waits}
+use Rattle.world_commit.specs.world_base.declared.client.ClientPlan.{ClientPlan}
+use Rattle.world_commit.specs.world_base.declared.client.ClientState.{ClientState}
+use Rattle.world_commit.specs.world_base.declared.client.KnownSnap.{KnownSnap}
+use Rattle.world_commit.specs.world_base.declared.client.Present.{Present}
+use Rattle.world_commit.specs.world_base.declared.did.Did.{Did}
+use Rattle.world_commit.specs.world_base.ClientTurns.{ClientDid, Ended_by, Heard_on, HearTurn, Move, Moves, NextTurn, None_yet, One_more, Skipped, Went_on, about, answered, asks_again, attempt_id, command_at, goes, heard, heard_at, hears_epochs, is_about, knows, listed, moved, question, reset, reset_by, waits}
 use Rattle.world_contents.specs.posts.ScriptForm.{read-in-form, writes-declared, writes-in-form, question-form}
 use Rattle.world_contents.specs.posts.KnownSnapshots.{KnowsIts, ReadsKnown, all-known, heard-known, snapshot_at}
-use Rattle.world_base.specs.Events.{Rules, client_plan, commands_or_none, target_plan}
-use Rattle.world_base.specs.Letters.{target}
+use Rattle.world_commit.specs.world_base.Events.{Rules, client_plan, commands_or_none, target_plan}
+use Rattle.world_commit.specs.world_base.Letters.{target}
 use Rattle.world_contents.specs.gots.FormLaws.{fit-object, write-declared}
 use Rattle.world_contents.specs.posts.Forms.{AreWrites, ClientPosts, IsAsked, IsOfClient, IsReadAsked}
 use Rattle.world_contents.specs.posts.Posting.{leader-writes}
-use Rattle.world_letters.specs.talks.AskLaws.{move-is, waiting-rests}
-use Rattle.world_letters.specs.talks.Asked.{ARead, ASnapshot, AnAggregation, Asked, Asking, IsMove, ItsWrites, Silent, Telling}
-use Rattle.world_letters.specs.talks.HearLaws.{ended-silent, replied-silent}
+use Rattle.world_commit.specs.world_letters.talks.AskLaws.{move-is, waiting-rests}
+use Rattle.world_commit.specs.world_letters.talks.Asked.{ARead, ASnapshot, AnAggregation, Asked, Asking, IsMove, ItsWrites, Silent, Telling}
+use Rattle.world_commit.specs.world_letters.talks.HearLaws.{ended-silent, replied-silent}
 
 -- ---- the statements
 

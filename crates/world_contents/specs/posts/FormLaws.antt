@@ -4,10 +4,10 @@ use Rattle.std.proofs.Common.{inl, inr, sym, ◌∙◌, subst}
 use Rattle.base_messages.specs.declared.message.Message.{Message}
 use Rattle.base_messages.specs.declared.message.Message.TheVariants as message
 use Rattle.base_messages.specs.declared.message.Post.{Post}
-use Rattle.world_base.specs.declared.letter.Letter.{Letter}
-use Rattle.world_base.specs.declared.target.TargetPlan.{TargetPlan}
-use Rattle.world_base.specs.Letters.{client, letter_of, reset_message, target}
-use Rattle.world_base.specs.Stops.{reset_letter}
+use Rattle.world_commit.specs.world_base.declared.letter.Letter.{Letter}
+use Rattle.world_commit.specs.world_base.declared.target.TargetPlan.{TargetPlan}
+use Rattle.world_commit.specs.world_base.Letters.{client, letter_of, reset_message, target}
+use Rattle.world_commit.specs.world_base.Stops.{reset_letter}
 use Rattle.world_contents.specs.posts.Forms.{IsAsked, IsBetween, IsCollecting, IsInForm, IsLetter, IsOfClient, IsOfTarget, IsTold, is_collecting, is_of_client, is_told}
 
 -- what a client asks has the form of what is heard

@@ -13,13 +13,13 @@ use Rattle.base_messages.specs.declared.message.Message.{Message, more_of-Messag
 use Rattle.base_messages.specs.declared.message.Message.TheVariants.{Ack, Ask, Commit, Ended, Fetch, Fetched, Freeze, Held, Mark, Marked, Prepare, Prune, Query, Reset', Snap, Status, StatusIs, Tell, Verdict}
 use Rattle.base_messages.specs.declared.message.Post.{Post}
 use Rattle.daos_model.specs.Forms.{AreWritesInForm, is_read_in_form}
-use Rattle.dtx_base.specs.declared.leading.LeaderMemory.{LeaderMemory}
-use Rattle.dtx_base.specs.declared.leading.Undecided.{Undecided}
-use Rattle.world_base.specs.declared.letter.Letter.{Letter}
-use Rattle.world_base.specs.declared.target.Collection.{Collection}
-use Rattle.world_base.specs.declared.target.TargetMemory.{TargetMemory}
-use Rattle.world_base.specs.declared.target.TargetPlan.{TargetPlan}
-use Rattle.world_base.specs.Commits.{own_writes}
+use Rattle.world_commit.specs.dtx_base.declared.leading.LeaderMemory.{LeaderMemory}
+use Rattle.world_commit.specs.dtx_base.declared.leading.Undecided.{Undecided}
+use Rattle.world_commit.specs.world_base.declared.letter.Letter.{Letter}
+use Rattle.world_commit.specs.world_base.declared.target.Collection.{Collection}
+use Rattle.world_commit.specs.world_base.declared.target.TargetMemory.{TargetMemory}
+use Rattle.world_commit.specs.world_base.declared.target.TargetPlan.{TargetPlan}
+use Rattle.world_commit.specs.world_base.Commits.{own_writes}
 
 -- ---- what a message bears
 

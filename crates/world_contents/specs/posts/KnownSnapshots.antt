@@ -21,14 +21,14 @@ use Rattle.base_messages.specs.declared.message.Reply.TheVariants as reply
 use Rattle.daos_model.specs.Accesses.{minor_writes, op_path}
 use Rattle.daos_model.specs.Attempts.{is_restart, snapshot_of_command}
 use Rattle.daos_model.specs.Conditions.{holds_where}
-use Rattle.world_base.specs.declared.client.ClientPlan.{ClientPlan}
-use Rattle.world_base.specs.declared.client.ClientState.{ClientState}
-use Rattle.world_base.specs.declared.client.KnownSnap.{KnownSnap}
-use Rattle.world_base.specs.declared.client.Present.{Present}
-use Rattle.world_base.specs.declared.client.Stage.{Stage}
-use Rattle.world_base.specs.declared.client.Stage.TheVariants as stage
-use Rattle.world_base.specs.declared.did.Did.{Did}
-use Rattle.world_base.specs.ClientTurns.{ClientDid, Ended_by, Heard_on, HearTurn, Moves, NextTurn, None_yet, One_more, Skipped, Went_on, about, after_end, answered, asks_or_goes, at_present, attempt_id, attempt_moves, begins_at, begun, command_at, command_moves, commits, condition_told, ended, ends, epoch_of_known, first_epoch, goes, group_count, group_told, heard, heard_at, hears_epochs, is_about, is_known_as, is_yes, joined, known_epoch, knows, knows_epoch, moved, moves_at, next_command, next_stage, op_moves, op_of, op_told, question, replied, reset, reset_by, rests, run_moves, snaps_known, told_at, waits}
+use Rattle.world_commit.specs.world_base.declared.client.ClientPlan.{ClientPlan}
+use Rattle.world_commit.specs.world_base.declared.client.ClientState.{ClientState}
+use Rattle.world_commit.specs.world_base.declared.client.KnownSnap.{KnownSnap}
+use Rattle.world_commit.specs.world_base.declared.client.Present.{Present}
+use Rattle.world_commit.specs.world_base.declared.client.Stage.{Stage}
+use Rattle.world_commit.specs.world_base.declared.client.Stage.TheVariants as stage
+use Rattle.world_commit.specs.world_base.declared.did.Did.{Did}
+use Rattle.world_commit.specs.world_base.ClientTurns.{ClientDid, Ended_by, Heard_on, HearTurn, Moves, NextTurn, None_yet, One_more, Skipped, Went_on, about, after_end, answered, asks_or_goes, at_present, attempt_id, attempt_moves, begins_at, begun, command_at, command_moves, commits, condition_told, ended, ends, epoch_of_known, first_epoch, goes, group_count, group_told, heard, heard_at, hears_epochs, is_about, is_known_as, is_yes, joined, known_epoch, knows, knows_epoch, moved, moves_at, next_command, next_stage, op_moves, op_of, op_told, question, replied, reset, reset_by, rests, run_moves, snaps_known, told_at, waits}
 
 -- ---- the fact
 

@@ -10,8 +10,8 @@ use Rattle.base_types.specs.Placement.{path_members, writes_members}
 use Rattle.model_laws.specs.HoldingLaws.{path-within}
 use Rattle.model_laws.specs.Members.{Has, has-cases}
 use Rattle.daos_model.specs.BoolLaws.{clash}
-use Rattle.dtx_base.specs.Members.{has_target}
-use Rattle.world_base.specs.Commits as commit
+use Rattle.world_commit.specs.dtx_base.Members.{has_target}
+use Rattle.world_commit.specs.world_base.Commits as commit
 
 -- ---- entries
 

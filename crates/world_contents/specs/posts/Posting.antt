@@ -26,18 +26,18 @@ use Rattle.base_messages.specs.declared.message.Post.{Post}
 use Rattle.daos_model.specs.BoolLaws.{and_left}
 use Rattle.daos_model.specs.Durables.{same_attempt}
 use Rattle.daos_model.specs.Forms.{AreWritesInForm}
-use Rattle.dtx_base.specs.declared.leading.LeaderMemory.{LeaderMemory}
-use Rattle.dtx_base.specs.declared.leading.Naming.{Naming}
-use Rattle.dtx_base.specs.declared.leading.Undecided.{Undecided}
-use Rattle.dtx_base.specs.declared.member.Parked.{Parked}
-use Rattle.dtx_base.specs.Joining.{MemberOf, all_unresolved_told, asker, inquired, inquiry_for, is_waiting, query_for, to_inquire, unresolved, unresolved_told, verdict_heard}
-use Rattle.dtx_base.specs.Leading.{LeaderOf, LeaderStep, abort_to, ack_heard, answer_heard, answer_if_awaited, batched, begun, begun_alone, begun_with_others, commit_mark, counted_at, decided, ended, entry_led, mark_with, marks_for, new_undecided, ok_heard, owed, prepare_to, quietly, refusal_heard, to_target, undecided_attempt, undecided_of, with_undecided}
-use Rattle.dtx_base.specs.Members.{all_targets, are_all_counted, has_target, is_other_member, is_written_at, other_members, with_target, writes_at}
-use Rattle.dtx_base.specs.Rows.{is_empty, is_other_row, is_row_of, row_key, with_row, without_row}
-use Rattle.world_base.specs.declared.target.TargetPlan.{TargetPlan}
+use Rattle.world_commit.specs.dtx_base.declared.leading.LeaderMemory.{LeaderMemory}
+use Rattle.world_commit.specs.dtx_base.declared.leading.Naming.{Naming}
+use Rattle.world_commit.specs.dtx_base.declared.leading.Undecided.{Undecided}
+use Rattle.world_commit.specs.dtx_base.declared.member.Parked.{Parked}
+use Rattle.world_commit.specs.dtx_base.Joining.{MemberOf, all_unresolved_told, asker, inquired, inquiry_for, is_waiting, query_for, to_inquire, unresolved, unresolved_told, verdict_heard}
+use Rattle.world_commit.specs.dtx_base.Leading.{LeaderOf, LeaderStep, abort_to, ack_heard, answer_heard, answer_if_awaited, batched, begun, begun_alone, begun_with_others, commit_mark, counted_at, decided, ended, entry_led, mark_with, marks_for, new_undecided, ok_heard, owed, prepare_to, quietly, refusal_heard, to_target, undecided_attempt, undecided_of, with_undecided}
+use Rattle.world_commit.specs.dtx_base.Members.{all_targets, are_all_counted, has_target, is_other_member, is_written_at, other_members, with_target, writes_at}
+use Rattle.world_commit.specs.dtx_base.Rows.{is_empty, is_other_row, is_row_of, row_key, with_row, without_row}
+use Rattle.world_commit.specs.world_base.declared.target.TargetPlan.{TargetPlan}
 use Rattle.world_contents.specs.posts.Members.{bit-of, writes-within}
 use Rattle.world_contents.specs.reads.ListLaws.{some-in_form}
-use Rattle.world_base.specs.Commits as commit
+use Rattle.world_commit.specs.world_base.Commits as commit
 use Rattle.world_contents.specs.posts.Forms.{ClientsWait, Follows, IsBetween, IsOfTarget, PostsInForm, TargetPosts, is_told}
 
 -- ---- the statements

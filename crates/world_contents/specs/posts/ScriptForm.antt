@@ -32,13 +32,13 @@ use Rattle.daos_model.specs.Forms.{AreWritesInForm, minor_of, ends_at_akey, ends
 use Rattle.std.proofs.lemmas.Bool.{or_right}
 use Rattle.base_types.specs.declared.operation.Cond.{Cond}
 use Rattle.world_contents.specs.reads.Given.{FitsTargets}
-use Rattle.world_base.specs.Events.{Rules}
-use Rattle.world_base.specs.declared.client.Stage.{Stage}
+use Rattle.world_commit.specs.world_base.Events.{Rules}
+use Rattle.world_commit.specs.world_base.declared.client.Stage.{Stage}
 use Rattle.base_types.specs.Operations.{act_path, read_path, write_path}
 use Rattle.world_contents.specs.gots.FormLaws.{fit-object, ops-form, write-declared}
-use Rattle.world_base.specs.ClientTurns.{question}
+use Rattle.world_commit.specs.world_base.ClientTurns.{question}
 use Rattle.base_types.specs.declared.operation.Cond.TheVariants as cond
-use Rattle.world_base.specs.declared.client.Stage.TheVariants as stage
+use Rattle.world_commit.specs.world_base.declared.client.Stage.TheVariants as stage
 use Rattle.base_types.specs.declared.operation.Act.TheVariants.{Change, Fetch}
 
 -- ---- paths

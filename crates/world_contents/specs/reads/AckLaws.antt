@@ -23,16 +23,16 @@ use Rattle.daos_model.specs.declared.durable.Version.{Version}
 use Rattle.daos_model.specs.BoolLaws.{and_left, and_right, clash}
 use Rattle.daos_model.specs.Durables.{entry_of, is_entry_of}
 use Rattle.daos_model.specs.Opening.{Opening}
-use Rattle.dtx_base.specs.declared.leading.Undecided.{Undecided}
-use Rattle.dtx_base.specs.Leading.{LeaderOf, abort_to, ack_heard, answer_heard, answer_if_awaited, ended, entry_led, is_led, ok_heard, undecided_of}
-use Rattle.dtx_base.specs.Members.{are_all_counted, has_target, is_other_member, other_members, with_target}
+use Rattle.world_commit.specs.dtx_base.declared.leading.Undecided.{Undecided}
+use Rattle.world_commit.specs.dtx_base.Leading.{LeaderOf, abort_to, ack_heard, answer_heard, answer_if_awaited, ended, entry_led, is_led, ok_heard, undecided_of}
+use Rattle.world_commit.specs.dtx_base.Members.{are_all_counted, has_target, is_other_member, other_members, with_target}
 use Rattle.world_commit.specs.attempts.Attempts.{members_of, writes_of}
 use Rattle.world_commit.specs.attempts.History.{Decided, History}
-use Rattle.world_base.specs.declared.did.Did.{Did}
-use Rattle.world_base.specs.declared.target.TargetMemory.{TargetMemory}
-use Rattle.world_base.specs.declared.target.TargetState.{TargetState}
-use Rattle.world_base.specs.declared.world.World.{World}
-use Rattle.world_base.specs.Events.{Rules, kept, target_plan}
+use Rattle.world_commit.specs.world_base.declared.did.Did.{Did}
+use Rattle.world_commit.specs.world_base.declared.target.TargetMemory.{TargetMemory}
+use Rattle.world_commit.specs.world_base.declared.target.TargetState.{TargetState}
+use Rattle.world_commit.specs.world_base.declared.world.World.{World}
+use Rattle.world_commit.specs.world_base.Events.{Rules, kept, target_plan}
 use Rattle.world_contents.specs.reads.Adds.{NoneIs, is_answer, is_end, none-answered}
 use Rattle.world_contents.specs.reads.Beginning.{HasOpenRow, IsUndecidedAt, TurnBegins}
 use Rattle.world_contents.specs.reads.ChangeLaws.{WasDecided}
@@ -43,13 +43,13 @@ use Rattle.world_contents.specs.reads.Growing.{OneMore, committed_if, committed_
 use Rattle.world_contents.specs.reads.GrowLaws.{none-committed}
 use Rattle.world_contents.specs.reads.Midway.{Sound, TurnLeaves}
 use Rattle.world_contents.specs.reads.StepLaws.{aborts-sound}
-use Rattle.world_base.specs.Acks as ack
-use Rattle.world_base.specs.Changes.{Change, Kept, Steps}
-use Rattle.world_base.specs.Commits.{bits_of}
-use Rattle.world_base.specs.PathLaws.{reached-keeps}
-use Rattle.world_base.specs.Requests.{sends}
-use Rattle.world_base.specs.Roles.{leader_at, leads_on}
-use Rattle.world_base.specs.Turns.{Whole}
+use Rattle.world_commit.specs.world_base.Acks as ack
+use Rattle.world_commit.specs.world_base.Changes.{Change, Kept, Steps}
+use Rattle.world_commit.specs.world_base.Commits.{bits_of}
+use Rattle.world_commit.specs.world_base.PathLaws.{reached-keeps}
+use Rattle.world_commit.specs.world_base.Requests.{sends}
+use Rattle.world_commit.specs.world_base.Roles.{leader_at, leads_on}
+use Rattle.world_commit.specs.world_base.Turns.{Whole}
 
 -- ---- what a leader tells
 

@@ -11,10 +11,10 @@ use Rattle.base_messages.specs.declared.message.Post.{Post}
 use Rattle.base_messages.specs.declared.message.Reply.{Reply}
 use Rattle.base_messages.specs.declared.message.Reply.TheVariants as reply
 use Rattle.daos_model.specs.BoolLaws.{clash}
-use Rattle.dtx_base.specs.declared.member.Parked.{Parked}
+use Rattle.world_commit.specs.dtx_base.declared.member.Parked.{Parked}
 use Rattle.world_commit.specs.attempts.History.{Served}
-use Rattle.world_base.specs.declared.request.FetchRequest.{FetchRequest}
-use Rattle.world_base.specs.Requests.{fetch_message}
+use Rattle.world_commit.specs.world_base.declared.request.FetchRequest.{FetchRequest}
+use Rattle.world_commit.specs.world_base.Requests.{fetch_message}
 
 -- ---- what messages tell
 

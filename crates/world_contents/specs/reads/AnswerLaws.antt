@@ -26,7 +26,7 @@ use Rattle.daos_model.specs.Prunes.{touches}
 use Rattle.daos_model.specs.Versions.{version_of, version_path}
 use Rattle.world_commit.specs.attempts.Attempts.{writes_of}
 use Rattle.world_commit.specs.attempts.History.{History, Served, decides}
-use Rattle.world_base.specs.Events.{Rules}
+use Rattle.world_commit.specs.world_base.Events.{Rules}
 use Rattle.world_contents.specs.reads.AsOfLaws.{as_of-more}
 use Rattle.world_contents.specs.reads.ChangeLaws.{entry-among}
 use Rattle.world_contents.specs.reads.DecideLaws.{Elsewhere, Held, IsHeldOrElsewhere, MayBeDecided, is-added, stays-apart}

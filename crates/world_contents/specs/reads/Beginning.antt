@@ -9,14 +9,14 @@ use Rattle.daos_model.specs.declared.durable.Version.{Version}
 use Rattle.daos_model.specs.Durables.{entry_of}
 use Rattle.daos_model.specs.Forms.{AreWritesInForm}
 use Rattle.daos_model.specs.Opening.{Opening, top}
-use Rattle.dtx_base.specs.declared.leading.Undecided.{Undecided}
-use Rattle.dtx_base.specs.Leading.{undecided_attempt}
-use Rattle.dtx_base.specs.Rows.{row_of}
+use Rattle.world_commit.specs.dtx_base.declared.leading.Undecided.{Undecided}
+use Rattle.world_commit.specs.dtx_base.Leading.{undecided_attempt}
+use Rattle.world_commit.specs.dtx_base.Rows.{row_of}
 use Rattle.world_commit.specs.attempts.Attempts.{members_of, writes_of}
 use Rattle.world_commit.specs.attempts.History.{Decided, History}
-use Rattle.world_base.specs.declared.target.TargetState.{TargetState}
-use Rattle.world_base.specs.declared.world.World.{World}
-use Rattle.world_base.specs.Events.{Rules}
+use Rattle.world_commit.specs.world_base.declared.target.TargetState.{TargetState}
+use Rattle.world_commit.specs.world_base.declared.world.World.{World}
+use Rattle.world_commit.specs.world_base.Events.{Rules}
 use Rattle.world_contents.specs.reads.ChangeLaws.{WasDecided}
 use Rattle.world_contents.specs.reads.FetchLaws.{AreKnown}
 use Rattle.world_contents.specs.reads.Given.{FitsTargets}

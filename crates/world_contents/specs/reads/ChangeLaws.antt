@@ -25,8 +25,8 @@ use Rattle.daos_model.specs.OrderLaws.{rising-filter}
 use Rattle.daos_model.specs.Versions.{done_by, is_not_pending, is_pending, version_of, version_path}
 use Rattle.world_commit.specs.attempts.History.{Decided, History, is_decided}
 use Rattle.world_commit.specs.attempts.Stored.{found-attempt}
-use Rattle.world_base.specs.Events.{Rules, is_issue_of}
-use Rattle.world_base.specs.EntryLaws.{entry-aborted, entry-aborted_other, entry-committed, entry-confirmed}
+use Rattle.world_commit.specs.world_base.Events.{Rules, is_issue_of}
+use Rattle.world_commit.specs.world_base.EntryLaws.{entry-aborted, entry-aborted_other, entry-committed, entry-confirmed}
 use Rattle.world_contents.specs.reads.ListLaws.{pairs-from_rising}
 use Rattle.world_contents.specs.reads.Transactions.{counts_by, transactions}
 use Rattle.world_contents.specs.reads.Versions.{IsPreparedAt, IsVersionOf, IsWriteAt, VersionsStand, is_own_in, mark_of}

@@ -23,18 +23,18 @@ use Rattle.daos_model.specs.Changes.{leased}
 use Rattle.daos_model.specs.Durables.{entry_of, is_entry_of, row_of}
 use Rattle.daos_model.specs.Forms.{AreWritesInForm}
 use Rattle.daos_model.specs.Opening.{Opening, top}
-use Rattle.dtx_base.specs.Leading.{LeaderOf, begun, begun_alone, begun_with_others, prepare_to}
-use Rattle.dtx_base.specs.Members.{is_written_at, other_members, writes_at}
-use Rattle.dtx_base.specs.Rows.{is_empty}
+use Rattle.world_commit.specs.dtx_base.Leading.{LeaderOf, begun, begun_alone, begun_with_others, prepare_to}
+use Rattle.world_commit.specs.dtx_base.Members.{is_written_at, other_members, writes_at}
+use Rattle.world_commit.specs.dtx_base.Rows.{is_empty}
 use Rattle.world_commit.specs.attempts.Attempts.{first_entry, writes_of}
 use Rattle.world_commit.specs.attempts.History.{Decided, History}
-use Rattle.world_base.specs.declared.did.Did.{Did}
-use Rattle.world_base.specs.declared.request.CommitRequest.{CommitRequest}
-use Rattle.world_base.specs.declared.request.PrepareRequest.{PrepareRequest}
-use Rattle.world_base.specs.declared.target.TargetMemory.{TargetMemory}
-use Rattle.world_base.specs.declared.target.TargetState.{TargetState}
-use Rattle.world_base.specs.declared.world.World.{World}
-use Rattle.world_base.specs.Events.{Rules, kept, listed, target_plan}
+use Rattle.world_commit.specs.world_base.declared.did.Did.{Did}
+use Rattle.world_commit.specs.world_base.declared.request.CommitRequest.{CommitRequest}
+use Rattle.world_commit.specs.world_base.declared.request.PrepareRequest.{PrepareRequest}
+use Rattle.world_commit.specs.world_base.declared.target.TargetMemory.{TargetMemory}
+use Rattle.world_commit.specs.world_base.declared.target.TargetState.{TargetState}
+use Rattle.world_commit.specs.world_base.declared.world.World.{World}
+use Rattle.world_commit.specs.world_base.Events.{Rules, kept, listed, target_plan}
 use Rattle.world_contents.specs.reads.Adds.{NoneIs, is_answer, is_end, none-answered}
 use Rattle.world_contents.specs.reads.Beginning.{TurnBegins}
 use Rattle.world_contents.specs.reads.ChangeLaws.{WasDecided}
@@ -47,16 +47,16 @@ use Rattle.world_contents.specs.reads.Midway.{Sound, TurnLeaves}
 use Rattle.world_contents.specs.reads.StepLaws.{extends-sound, stores-sound}
 use Rattle.world_contents.specs.reads.StoreLaws.{AreItsOwn, IsNewEntry, epoch-alone}
 use Rattle.world_contents.specs.reads.Versions.{IsWriteAt}
-use Rattle.world_base.specs.ChangeLaws.{entries-leased}
-use Rattle.world_base.specs.Changes.{Change, Kept, Steps}
-use Rattle.world_base.specs.Commits as commit
-use Rattle.world_base.specs.PathLaws.{reached-keeps}
-use Rattle.world_base.specs.Prepares as prepare
-use Rattle.world_base.specs.Requests.{issued_for, request_epoch, sends, with_ticks}
-use Rattle.world_base.specs.Roles.{leader_at, leads_on}
-use Rattle.world_base.specs.Turns.{Whole}
+use Rattle.world_commit.specs.world_base.ChangeLaws.{entries-leased}
+use Rattle.world_commit.specs.world_base.Changes.{Change, Kept, Steps}
+use Rattle.world_commit.specs.world_base.Commits as commit
+use Rattle.world_commit.specs.world_base.PathLaws.{reached-keeps}
+use Rattle.world_commit.specs.world_base.Prepares as prepare
+use Rattle.world_commit.specs.world_base.Requests.{issued_for, request_epoch, sends, with_ticks}
+use Rattle.world_commit.specs.world_base.Roles.{leader_at, leads_on}
+use Rattle.world_commit.specs.world_base.Turns.{Whole}
 use Rattle.vos_store.specs.Answers.{floor_of}
-use Rattle.world_base.specs.Commits.{IsAllowed}
+use Rattle.world_commit.specs.world_base.Commits.{IsAllowed}
 use Rattle.world_contents.specs.reads.ShowLaws.{floor-stored, floors-above}
 
 -- ---- the writes that a target holds

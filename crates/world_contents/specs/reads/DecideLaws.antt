@@ -26,7 +26,7 @@ use Rattle.daos_model.specs.Opening.{Opening, top}
 use Rattle.daos_model.specs.Versions.{version_of, version_path}
 use Rattle.world_commit.specs.attempts.Attempts.{writes_of}
 use Rattle.world_commit.specs.attempts.History.{Decided, History, decides, is_decided}
-use Rattle.world_base.specs.Events.{Rules}
+use Rattle.world_commit.specs.world_base.Events.{Rules}
 use Rattle.world_contents.specs.reads.ChangeLaws.{WasDecided, entry-among}
 use Rattle.model_laws.specs.EntryLaws.{same-attempt}
 use Rattle.daos_model.specs.EntryLaws.{same_attempt-itself}

@@ -20,22 +20,22 @@ use Rattle.daos_model.specs.Durables.{entry_of}
 use Rattle.daos_model.specs.EntryLaws.{same_attempt-itself}
 use Rattle.daos_model.specs.Forms.{is_read_in_form}
 use Rattle.daos_model.specs.Opening.{Opening}
-use Rattle.dtx_base.specs.declared.leading.Undecided.{Undecided}
-use Rattle.dtx_base.specs.declared.member.Parked.{Parked}
-use Rattle.dtx_base.specs.Leading.{undecided_attempt}
-use Rattle.dtx_base.specs.Rows.{is_attempt, row_of}
+use Rattle.world_commit.specs.dtx_base.declared.leading.Undecided.{Undecided}
+use Rattle.world_commit.specs.dtx_base.declared.member.Parked.{Parked}
+use Rattle.world_commit.specs.dtx_base.Leading.{undecided_attempt}
+use Rattle.world_commit.specs.dtx_base.Rows.{is_attempt, row_of}
 use Rattle.world_commit.specs.attempts.Attempts.{Entries, IsOther, entry_at, entry_in, is_known_in, leader_of, row_in}
 use Rattle.world_commit.specs.attempts.History.{History, Served}
-use Rattle.world_base.specs.declared.client.ClientState.{ClientState}
-use Rattle.world_base.specs.declared.did.Did.{Did}
-use Rattle.world_base.specs.declared.letter.Letter.{Letter}
-use Rattle.world_base.specs.declared.target.Life.TheVariants.{Running}
-use Rattle.world_base.specs.declared.target.TargetMemory.{TargetMemory}
-use Rattle.world_base.specs.declared.target.TargetState.{TargetState}
-use Rattle.world_base.specs.declared.world.World.{World}
-use Rattle.world_base.specs.Events.{ClientGoes, ClientHears, Rules, after_turn, kept, listed, target_after, target_plan, with_client, with_target}
-use Rattle.world_base.specs.Letters.{client, target}
-use Rattle.world_base.specs.StepLaws.{set-here, set-there}
+use Rattle.world_commit.specs.world_base.declared.client.ClientState.{ClientState}
+use Rattle.world_commit.specs.world_base.declared.did.Did.{Did}
+use Rattle.world_commit.specs.world_base.declared.letter.Letter.{Letter}
+use Rattle.world_commit.specs.world_base.declared.target.Life.TheVariants.{Running}
+use Rattle.world_commit.specs.world_base.declared.target.TargetMemory.{TargetMemory}
+use Rattle.world_commit.specs.world_base.declared.target.TargetState.{TargetState}
+use Rattle.world_commit.specs.world_base.declared.world.World.{World}
+use Rattle.world_commit.specs.world_base.Events.{ClientGoes, ClientHears, Rules, after_turn, kept, listed, target_after, target_plan, with_client, with_target}
+use Rattle.world_commit.specs.world_base.Letters.{client, target}
+use Rattle.world_commit.specs.world_base.StepLaws.{set-here, set-there}
 use Rattle.world_contents.specs.reads.AckLaws.{ack-sound}
 use Rattle.world_contents.specs.reads.AnswerLaws.{IsBarred}
 use Rattle.world_contents.specs.reads.Beginning.{HasOpenRow, IsUndecidedAt, TurnBegins}
@@ -52,12 +52,12 @@ use Rattle.world_contents.specs.reads.Reads.{IsAnsweredRight, IsGuarded, IsOfAtt
 use Rattle.world_contents.specs.reads.Standing.{IsToldSo, IsVerdictSo, Knows}
 use Rattle.world_contents.specs.reads.VerdictLaws.{IsVerdictRight, fetch-sound, verdict-sound}
 use Rattle.world_contents.specs.reads.Versions.{IsWriteAt, Versions, VersionsStand}
-use Rattle.world_base.specs.Changes.{Kept}
-use Rattle.world_base.specs.RightTurns.{HearsRightly}
-use Rattle.world_base.specs.TargetTurns.{IdlesWhole, commit_request, fetch_request, prepare_request}
+use Rattle.world_commit.specs.world_base.Changes.{Kept}
+use Rattle.world_commit.specs.world_base.RightTurns.{HearsRightly}
+use Rattle.world_commit.specs.world_base.TargetTurns.{IdlesWhole, commit_request, fetch_request, prepare_request}
 use Rattle.base_types.specs.declared.entry.Entry.{Entry}
-use Rattle.world_base.specs.Roles.{is_in_doubt}
-use Rattle.world_letters.specs.clients.Snapshots.{is_at_snapshot}
+use Rattle.world_commit.specs.world_base.Roles.{is_in_doubt}
+use Rattle.world_commit.specs.world_letters.clients.Snapshots.{is_at_snapshot}
 
 -- ---- before a turn
 

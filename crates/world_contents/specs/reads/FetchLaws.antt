@@ -19,10 +19,10 @@ use Rattle.daos_model.specs.BoolLaws.{clash}
 use Rattle.daos_model.specs.Opening.{Opening, top}
 use Rattle.base_types.specs.declared.entry.Settle.TheVariants.{Commit}
 use Rattle.world_commit.specs.attempts.History.{History, Served}
-use Rattle.world_base.specs.declared.did.Did.{Did}
-use Rattle.world_base.specs.declared.request.FetchRequest.{FetchRequest}
-use Rattle.world_base.specs.declared.target.TargetMemory.{TargetMemory}
-use Rattle.world_base.specs.Events.{Rules, target_plan}
+use Rattle.world_commit.specs.world_base.declared.did.Did.{Did}
+use Rattle.world_commit.specs.world_base.declared.request.FetchRequest.{FetchRequest}
+use Rattle.world_commit.specs.world_base.declared.target.TargetMemory.{TargetMemory}
+use Rattle.world_commit.specs.world_base.Events.{Rules, target_plan}
 use Rattle.world_contents.specs.reads.Adds.{NoneIs, is_answer, is_end, served_at}
 use Rattle.world_contents.specs.reads.ChangeLaws.{WasDecided}
 use Rattle.world_contents.specs.reads.Given.{IsFetchRight, IsItsSnapshot}
@@ -31,12 +31,12 @@ use Rattle.world_contents.specs.reads.Reads.{IsAnsweredRight}
 use Rattle.world_contents.specs.reads.ServedLaws.{IsFree, answers-right, free-read, serves-shows, IsShownBy, SeesMap, sees-own, sees-snapshot, shown-by_floor, shown-by_stamp, stamp_of}
 use Rattle.world_contents.specs.reads.StepLaws.{commits-sound, extends-sound}
 use Rattle.world_contents.specs.reads.Transactions.{transactions}
-use Rattle.world_base.specs.ChangeLaws.{lease-settled, snaps-made}
-use Rattle.world_base.specs.Changes.{Change, Kept, Steps, Extends, Settles}
-use Rattle.world_base.specs.PathLaws.{reached-keeps}
-use Rattle.world_base.specs.Reads as read
-use Rattle.world_base.specs.Requests.{is_other_attempt, issued_for, request_epoch, with_ticks}
-use Rattle.world_base.specs.Turns.{Whole}
+use Rattle.world_commit.specs.world_base.ChangeLaws.{lease-settled, snaps-made}
+use Rattle.world_commit.specs.world_base.Changes.{Change, Kept, Steps, Extends, Settles}
+use Rattle.world_commit.specs.world_base.PathLaws.{reached-keeps}
+use Rattle.world_commit.specs.world_base.Reads as read
+use Rattle.world_commit.specs.world_base.Requests.{is_other_attempt, issued_for, request_epoch, with_ticks}
+use Rattle.world_commit.specs.world_base.Turns.{Whole}
 use Rattle.std.specs.List.{list_any}
 use Rattle.base_types.specs.declared.id.ContId.{ContId}
 use Rattle.base_types.specs.declared.snapshot.Snap.{Snap}
@@ -44,7 +44,7 @@ use Rattle.daos_model.specs.Durables.{is_frozen, is_snap_at, row_of}
 use Rattle.vos_store.specs.Answers.{floor_of}
 use Rattle.world_contents.specs.reads.ShowLaws.{floor-stored}
 use Rattle.world_contents.specs.reads.SnapLaws.{frozen-among}
-use Rattle.world_letters.specs.clients.Snapshots.{is_at_snapshot}
+use Rattle.world_commit.specs.world_letters.clients.Snapshots.{is_at_snapshot}
 
 -- these attempts were decided
 abbrev pub AreKnown : History → List AttemptId → Type 0

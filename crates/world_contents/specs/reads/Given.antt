@@ -17,16 +17,16 @@ use Rattle.base_messages.specs.declared.message.Message.TheVariants as message
 use Rattle.daos_model.specs.declared.durable.Version.{Version}
 use Rattle.daos_model.specs.Forms.{AreWritesInForm, is_read_in_form}
 use Rattle.daos_model.specs.Opening.{Opening, top, kept_map}
-use Rattle.dtx_base.specs.declared.member.Parked.{Parked}
+use Rattle.world_commit.specs.dtx_base.declared.member.Parked.{Parked}
 use Rattle.world_commit.specs.attempts.Attempts.{leader_of, writes_of}
-use Rattle.world_base.specs.declared.letter.Letter.{Letter}
-use Rattle.world_base.specs.declared.target.TargetState.{TargetState}
-use Rattle.world_base.specs.declared.target.Life.TheVariants.{Running}
-use Rattle.world_base.specs.declared.world.World.{World}
-use Rattle.world_base.specs.Events.{Rules, target_plan}
-use Rattle.world_base.specs.Letters.{target}
+use Rattle.world_commit.specs.world_base.declared.letter.Letter.{Letter}
+use Rattle.world_commit.specs.world_base.declared.target.TargetState.{TargetState}
+use Rattle.world_commit.specs.world_base.declared.target.Life.TheVariants.{Running}
+use Rattle.world_commit.specs.world_base.declared.world.World.{World}
+use Rattle.world_commit.specs.world_base.Events.{Rules, target_plan}
+use Rattle.world_commit.specs.world_base.Letters.{target}
 use Rattle.world_contents.specs.reads.Reads.{IsOfAttempt}
-use Rattle.world_base.specs.Requests.{request_epoch}
+use Rattle.world_commit.specs.world_base.Requests.{request_epoch}
 use Rattle.base_types.specs.declared.id.ContId.{ContId}
 use Rattle.base_types.specs.declared.script.OldDecl.{OldDecl}
 use Rattle.daos_model.specs.declared.cell.CellValue.{CellValue}
@@ -34,7 +34,7 @@ use Rattle.daos_model.specs.declared.durable.Durable.{Durable}
 use Rattle.daos_model.specs.Attempts.{snapshot_of}
 use Rattle.daos_model.specs.Durables.{is_frozen}
 use Rattle.daos_model.specs.ReadsLegal.{is_named}
-use Rattle.world_letters.specs.clients.Snapshots.{is_at_snapshot}
+use Rattle.world_commit.specs.world_letters.clients.Snapshots.{is_at_snapshot}
 
 -- an epoch is an attempt's: it is above the opening, no other attempt has it, and one that goes with a request was issued
 pub record IsItsEpoch (o : Opening) (w : World) (x : AttemptId) (ep : Option Epoch) (e : Epoch) : Type 0 where

@@ -12,7 +12,7 @@ use Rattle.base_messages.specs.declared.message.Post.{Post}
 use Rattle.daos_model.specs.Opening.{Opening}
 use Rattle.world_commit.specs.attempts.History.{GrowsBy, History, Served, Tells, TellsRefusal}
 use Rattle.world_contents.specs.reads.Adds.{NoneIs, is_end}
-use Rattle.world_base.specs.Events.{Rules}
+use Rattle.world_commit.specs.world_base.Events.{Rules}
 use Rattle.world_contents.specs.reads.Growing.{Decides, NoneMore, OneMore, committed_by, committed_if, committed_in, grown, refused_by, refused_if, refused_in}
 
 -- ---- one message

@@ -10,7 +10,7 @@ use Rattle.base_messages.specs.declared.message.Post.{Post}
 use Rattle.daos_model.specs.Opening.{Opening}
 use Rattle.world_commit.specs.attempts.Attempts.{writes_of}
 use Rattle.world_commit.specs.attempts.History.{History, Served}
-use Rattle.world_base.specs.Events.{Rules}
+use Rattle.world_commit.specs.world_base.Events.{Rules}
 use Rattle.world_contents.specs.reads.DecideLaws.{MayBeDecided}
 
 -- ---- what is told

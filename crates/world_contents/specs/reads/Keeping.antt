@@ -5,8 +5,8 @@ use Rattle.base_types.specs.declared.id.AttemptId.{AttemptId}
 use Rattle.daos_model.specs.declared.durable.Version.{Version}
 use Rattle.daos_model.specs.Opening.{Opening}
 use Rattle.world_commit.specs.attempts.History.{History}
-use Rattle.world_base.specs.declared.world.World.{World}
-use Rattle.world_base.specs.Events.{ClientGoes, ClientHears, Rules}
+use Rattle.world_commit.specs.world_base.declared.world.World.{World}
+use Rattle.world_commit.specs.world_base.Events.{ClientGoes, ClientHears, Rules}
 use Rattle.world_contents.specs.reads.Reads.{Reads}
 use Rattle.world_contents.specs.reads.Versions.{Versions}
 

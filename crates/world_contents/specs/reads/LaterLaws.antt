@@ -16,9 +16,9 @@ use Rattle.daos_model.specs.Forms.{is_read_in_form}
 use Rattle.daos_model.specs.Opening.{Opening}
 use Rattle.world_commit.specs.attempts.Attempts.{Entries, HoldsAt, IsOther, entry_at, entry_in, leader_of, writes_of}
 use Rattle.world_commit.specs.attempts.History.{Decided, History, Served, decides}
-use Rattle.world_base.specs.declared.target.TargetState.{TargetState}
-use Rattle.world_base.specs.declared.world.World.{World}
-use Rattle.world_base.specs.Events.{Rules}
+use Rattle.world_commit.specs.world_base.declared.target.TargetState.{TargetState}
+use Rattle.world_commit.specs.world_base.declared.world.World.{World}
+use Rattle.world_commit.specs.world_base.Events.{Rules}
 use Rattle.world_contents.specs.reads.AnswerLaws.{IsBarred, decides-answers, not-below}
 use Rattle.world_contents.specs.reads.DecideLaws.{Elsewhere, Held, IsHeldOrElsewhere, decides-stands, stays-apart}
 use Rattle.world_contents.specs.reads.Growing.{Decides, NoneMore, OneMore}

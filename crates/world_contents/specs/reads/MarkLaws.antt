@@ -12,33 +12,33 @@ use Rattle.daos_model.specs.declared.durable.Durable.{Durable}
 use Rattle.daos_model.specs.declared.durable.Version.{Version}
 use Rattle.daos_model.specs.Changes.{settled}
 use Rattle.daos_model.specs.Opening.{Opening}
-use Rattle.dtx_base.specs.declared.leading.Naming.{Naming}
-use Rattle.dtx_base.specs.Joining as member
-use Rattle.dtx_base.specs.Leading.{batched, commit_mark, mark_with, marked_heard, marks_for, owed, to_target}
-use Rattle.dtx_base.specs.Members.{all_targets}
-use Rattle.dtx_base.specs.Rows.{is_empty}
+use Rattle.world_commit.specs.dtx_base.declared.leading.Naming.{Naming}
+use Rattle.world_commit.specs.dtx_base.Joining as member
+use Rattle.world_commit.specs.dtx_base.Leading.{batched, commit_mark, mark_with, marked_heard, marks_for, owed, to_target}
+use Rattle.world_commit.specs.dtx_base.Members.{all_targets}
+use Rattle.world_commit.specs.dtx_base.Rows.{is_empty}
 use Rattle.world_commit.specs.attempts.History.{History}
-use Rattle.world_base.specs.declared.did.Did.{Did}
-use Rattle.world_base.specs.declared.target.TargetMemory.{TargetMemory}
-use Rattle.world_base.specs.declared.target.TargetPlan.{TargetPlan}
-use Rattle.world_base.specs.declared.target.TargetState.{TargetState}
-use Rattle.world_base.specs.declared.world.World.{World}
-use Rattle.world_base.specs.Events.{Rules, kept, target_plan}
+use Rattle.world_commit.specs.world_base.declared.did.Did.{Did}
+use Rattle.world_commit.specs.world_base.declared.target.TargetMemory.{TargetMemory}
+use Rattle.world_commit.specs.world_base.declared.target.TargetPlan.{TargetPlan}
+use Rattle.world_commit.specs.world_base.declared.target.TargetState.{TargetState}
+use Rattle.world_commit.specs.world_base.declared.world.World.{World}
+use Rattle.world_commit.specs.world_base.Events.{Rules, kept, target_plan}
 use Rattle.world_contents.specs.reads.Adds.{NoneIs, is_end}
 use Rattle.world_contents.specs.reads.Beginning.{TurnBegins}
 use Rattle.world_contents.specs.reads.ChangeLaws.{WasDecided}
 use Rattle.world_contents.specs.reads.CommitLaws.{leaves-quiet, only-one}
 use Rattle.world_contents.specs.reads.Midway.{Sound, TurnLeaves}
 use Rattle.world_contents.specs.reads.StepLaws.{aborts-sound, commits-sound, confirms-sound}
-use Rattle.world_base.specs.Acks as ack
-use Rattle.world_base.specs.Changes.{Change, Kept, Steps}
-use Rattle.world_base.specs.Idle as idle
-use Rattle.world_base.specs.Marks as mark
-use Rattle.world_base.specs.PathLaws.{reached-keeps}
-use Rattle.world_base.specs.Roles.{is_in_doubt, leader_at, member_at, with_unsettled}
-use Rattle.world_base.specs.TargetTurns.{IdlesWhole}
-use Rattle.world_base.specs.Turns.{Whole}
-use Rattle.world_base.specs.Verdicts as verdict
+use Rattle.world_commit.specs.world_base.Acks as ack
+use Rattle.world_commit.specs.world_base.Changes.{Change, Kept, Steps}
+use Rattle.world_commit.specs.world_base.Idle as idle
+use Rattle.world_commit.specs.world_base.Marks as mark
+use Rattle.world_commit.specs.world_base.PathLaws.{reached-keeps}
+use Rattle.world_commit.specs.world_base.Roles.{is_in_doubt, leader_at, member_at, with_unsettled}
+use Rattle.world_commit.specs.world_base.TargetTurns.{IdlesWhole}
+use Rattle.world_commit.specs.world_base.Turns.{Whole}
+use Rattle.world_commit.specs.world_base.Verdicts as verdict
 
 -- what idle work sends is no answer and no end
 mark-plain : (test : Message → Bool) (inc down : ℕ) (named : List Naming) (es : List Entry) (ts : List ℕ) → ((inc n : ℕ) (marks : List (AttemptId × Bool)) → test (to_target n (message.Mark inc marks)).message ≡ false) → NoneIs test (marks_for inc down named es ts)

@@ -15,12 +15,12 @@ use Rattle.model_laws.specs.JoinLaws.{has-range}
 use Rattle.model_laws.specs.Members.{Has, has-filter, has-from_contains, has-left, has-right}
 use Rattle.model_laws.specs.TargetLaws.{number_same}
 use Rattle.daos_model.specs.BoolLaws.{both}
-use Rattle.dtx_base.specs.Members.{all_targets, has_target, is_other_member, other_members}
+use Rattle.world_commit.specs.dtx_base.Members.{all_targets, has_target, is_other_member, other_members}
 use Rattle.world_commit.specs.attempts.Attempts.{IsOther, first_entry, leader_of, members_of, writes_of}
-use Rattle.world_base.specs.Events.{Rules}
+use Rattle.world_commit.specs.world_base.Events.{Rules}
 use Rattle.world_contents.specs.reads.Given.{FitsTargets}
 use Rattle.world_contents.specs.reads.Versions.{IsWriteAt}
-use Rattle.world_base.specs.Commits.{bits_of}
+use Rattle.world_commit.specs.world_base.Commits.{bits_of}
 
 -- ---- bits
 

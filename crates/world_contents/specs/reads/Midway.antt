@@ -13,19 +13,19 @@ use Rattle.daos_model.specs.declared.durable.Version.{Version}
 use Rattle.daos_model.specs.Forms.{is_read_in_form}
 use Rattle.daos_model.specs.Opening.{Opening}
 use Rattle.daos_model.specs.Versions.{version_path}
-use Rattle.dtx_base.specs.declared.member.Parked.{Parked}
+use Rattle.world_commit.specs.dtx_base.declared.member.Parked.{Parked}
 use Rattle.vos_store.specs.Answers.{floor_of}
 use Rattle.world_commit.specs.attempts.History.{History, Served}
-use Rattle.world_base.specs.declared.did.Did.{Did}
-use Rattle.world_base.specs.declared.target.TargetMemory.{TargetMemory}
-use Rattle.world_base.specs.declared.world.World.{World}
-use Rattle.world_base.specs.Events.{Rules, listed}
+use Rattle.world_commit.specs.world_base.declared.did.Did.{Did}
+use Rattle.world_commit.specs.world_base.declared.target.TargetMemory.{TargetMemory}
+use Rattle.world_commit.specs.world_base.declared.world.World.{World}
+use Rattle.world_commit.specs.world_base.Events.{Rules, listed}
 use Rattle.world_contents.specs.reads.Adds.{AreAnswered}
 use Rattle.world_contents.specs.reads.Growing.{Decides}
 use Rattle.world_contents.specs.reads.Reads.{IsAnsweredRight, IsOfAttempt}
 use Rattle.world_contents.specs.reads.Versions.{VersionsStand}
-use Rattle.world_base.specs.Changes.{Kept}
-use Rattle.world_letters.specs.clients.Snapshots.{is_at_snapshot}
+use Rattle.world_commit.specs.world_base.Changes.{Kept}
+use Rattle.world_commit.specs.world_letters.clients.Snapshots.{is_at_snapshot}
 
 -- a write that would change what was served is refused: by the floor, or by a timestamp
 abbrev pub IsGuardedBy : Epoch × FloorWhy → Durable → List Shown → Served → Type 0

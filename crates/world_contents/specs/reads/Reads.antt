@@ -20,17 +20,17 @@ use Rattle.daos_model.specs.Transactions.{attempt_ops}
 use Rattle.daos_model.specs.Versions.{version_path}
 use Rattle.vos_store.specs.Answers.{floor_of}
 use Rattle.world_commit.specs.attempts.History.{History, Served}
-use Rattle.world_base.specs.declared.client.Stage.{Stage}
-use Rattle.world_base.specs.declared.target.TargetState.{TargetState}
-use Rattle.world_base.specs.declared.target.Life.TheVariants.{Running}
-use Rattle.world_base.specs.declared.world.World.{World}
-use Rattle.world_base.specs.ClientTurns.{question}
-use Rattle.world_base.specs.Events.{Rules}
+use Rattle.world_commit.specs.world_base.declared.client.Stage.{Stage}
+use Rattle.world_commit.specs.world_base.declared.target.TargetState.{TargetState}
+use Rattle.world_commit.specs.world_base.declared.target.Life.TheVariants.{Running}
+use Rattle.world_commit.specs.world_base.declared.world.World.{World}
+use Rattle.world_commit.specs.world_base.ClientTurns.{question}
+use Rattle.world_commit.specs.world_base.Events.{Rules}
 use Rattle.world_contents.specs.reads.Transactions.{transactions}
 use Rattle.base_types.specs.declared.id.AttemptId.{AttemptId}
 use Rattle.daos_model.specs.Attempts.{snapshot_of}
 use Rattle.daos_model.specs.ReadsLegal.{map_at}
-use Rattle.world_letters.specs.clients.Snapshots.{is_at_snapshot}
+use Rattle.world_commit.specs.world_letters.clients.Snapshots.{is_at_snapshot}
 
 -- the map as of an epoch, of what was decided
 abbrev pub map_then : Rules → Opening → History → Epoch → List CellValue

@@ -32,8 +32,8 @@ use Rattle.daos_model.specs.Versions.{blocks_read, first_blocking, map_below, ve
 use Rattle.vos_store.specs.declared.refusal.FetchNo.TheVariants as fetch
 use Rattle.vos_store.specs.Answers.{answer_unless, fetched, is_past, floor_of}
 use Rattle.world_commit.specs.attempts.History.{History, Served, is_decided}
-use Rattle.world_base.specs.declared.request.FetchRequest.{FetchRequest}
-use Rattle.world_base.specs.Events.{Rules}
+use Rattle.world_commit.specs.world_base.declared.request.FetchRequest.{FetchRequest}
+use Rattle.world_commit.specs.world_base.Events.{Rules}
 use Rattle.world_contents.specs.reads.Adds.{served_at}
 use Rattle.world_contents.specs.reads.DecideLaws.{mark-low}
 use Rattle.world_contents.specs.reads.Given.{IsFetchRight, IsItsSnapshot, IsKept, IsMade}
@@ -58,7 +58,7 @@ use Rattle.daos_model.specs.Attempts.{snapshot_of}
 use Rattle.daos_model.specs.Cells.{value_at}
 use Rattle.daos_model.specs.ReadsLegal.{map_at, old_map}
 use Rattle.world_contents.specs.reads.SnapLaws.{frozen-among, leads-container}
-use Rattle.world_letters.specs.clients.Snapshots.{is_at_snapshot}
+use Rattle.world_commit.specs.world_letters.clients.Snapshots.{is_at_snapshot}
 
 -- ---- what a read is answered
 

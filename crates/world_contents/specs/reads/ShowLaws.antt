@@ -23,16 +23,16 @@ use Rattle.daos_model.specs.BoolLaws.{both, clash}
 use Rattle.daos_model.specs.Changes.{leased, prepared, settled}
 use Rattle.daos_model.specs.Durables.{row_of}
 use Rattle.daos_model.specs.Versions.{done_by, is_not_pending, version_of, version_path}
-use Rattle.vos_stamp.specs.Stamps.{NoneAgainst, floor_cause, stands_against}
+use Rattle.world_commit.specs.vos_stamp.Stamps.{NoneAgainst, floor_cause, stands_against}
 use Rattle.vos_store.specs.Answers.{floor_of}
 use Rattle.world_commit.specs.attempts.History.{Served}
-use Rattle.world_base.specs.declared.target.TargetPlan.{TargetPlan}
+use Rattle.world_commit.specs.world_base.declared.target.TargetPlan.{TargetPlan}
 use Rattle.world_contents.specs.reads.ChangeLaws.{other-stays, still-open}
 use Rattle.world_contents.specs.reads.Midway.{IsGuardedBy, Shows}
 use Rattle.model_laws.specs.PlaceLaws.{overlaps-container}
 use Rattle.world_contents.specs.reads.StoreLaws.{new-or-old}
-use Rattle.world_base.specs.Commits.{IsAllowed, first_floor, or_else}
-use Rattle.world_base.specs.Events.{Rules}
+use Rattle.world_commit.specs.world_base.Commits.{IsAllowed, first_floor, or_else}
+use Rattle.world_commit.specs.world_base.Events.{Rules}
 
 module _ (r : Rules) (served : List Served) (opening : Epoch × FloorWhy) (t : ℕ) (d : Durable) (stamps : List Shown) where
   -- the lease is extended

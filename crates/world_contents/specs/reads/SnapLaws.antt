@@ -13,7 +13,7 @@ use Rattle.daos_model.specs.BoolLaws.{and_left, and_right}
 use Rattle.daos_model.specs.Durables.{is_frozen, is_snap_at, row_of}
 use Rattle.daos_model.specs.Opening.{Opening}
 use Rattle.world_commit.specs.attempts.History.{History}
-use Rattle.world_base.specs.Events.{Rules}
+use Rattle.world_commit.specs.world_base.Events.{Rules}
 use Rattle.world_contents.specs.reads.Transactions.{counts_by}
 use Rattle.world_contents.specs.reads.Versions.{SnapshotsStand}
 use Rattle.base_types.specs.declared.path.Path.{Path}

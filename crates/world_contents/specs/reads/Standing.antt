@@ -13,21 +13,21 @@ use Rattle.base_messages.specs.declared.message.Message.{Message}
 use Rattle.base_messages.specs.declared.message.Message.TheVariants as message
 use Rattle.daos_model.specs.declared.durable.Version.{Version}
 use Rattle.daos_model.specs.Opening.{Opening}
-use Rattle.dtx_base.specs.declared.leading.Undecided.{Undecided}
-use Rattle.dtx_base.specs.Members.{writes_at}
+use Rattle.world_commit.specs.dtx_base.declared.leading.Undecided.{Undecided}
+use Rattle.world_commit.specs.dtx_base.Members.{writes_at}
 use Rattle.world_commit.specs.attempts.Attempts as letters
 use Rattle.world_commit.specs.attempts.Attempts.{Entries, IsOpenAt, IsUnsettled, entry_at, first_entry, is_asked_by, is_known_at, is_prepare_to, row_at, writes_of}
 use Rattle.world_commit.specs.attempts.Asked.{AskedRight}
 use Rattle.world_commit.specs.attempts.History.{Aborted, History}
-use Rattle.world_base.specs.declared.letter.Letter.{Letter}
-use Rattle.world_base.specs.declared.target.TargetState.{TargetState}
-use Rattle.world_base.specs.declared.world.World.{World}
-use Rattle.world_base.specs.Acks as ack
-use Rattle.world_base.specs.Events.{Rules, target_plan}
-use Rattle.world_base.specs.Letters.{target}
-use Rattle.world_base.specs.RightTurns.{TellsOfOthers}
-use Rattle.world_base.specs.Roles.{leader_at}
-use Rattle.world_base.specs.Statuses.{status_refusal}
+use Rattle.world_commit.specs.world_base.declared.letter.Letter.{Letter}
+use Rattle.world_commit.specs.world_base.declared.target.TargetState.{TargetState}
+use Rattle.world_commit.specs.world_base.declared.world.World.{World}
+use Rattle.world_commit.specs.world_base.Acks as ack
+use Rattle.world_commit.specs.world_base.Events.{Rules, target_plan}
+use Rattle.world_commit.specs.world_base.Letters.{target}
+use Rattle.world_commit.specs.world_base.RightTurns.{TellsOfOthers}
+use Rattle.world_commit.specs.world_base.Roles.{leader_at}
+use Rattle.world_commit.specs.world_base.Statuses.{status_refusal}
 use Rattle.world_contents.specs.reads.ChangeLaws.{WasDecided}
 use Rattle.world_contents.specs.reads.Given.{Given}
 use Rattle.world_contents.specs.reads.MarkLaws.{IsFateRight}

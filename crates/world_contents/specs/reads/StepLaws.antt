@@ -14,14 +14,14 @@ use Rattle.daos_model.specs.declared.durable.Version.{Version}
 use Rattle.daos_model.specs.Changes.{leased, prepared, settled}
 use Rattle.daos_model.specs.Opening.{Opening}
 use Rattle.world_commit.specs.attempts.History.{History, Served}
-use Rattle.world_base.specs.declared.target.TargetPlan.{TargetPlan}
-use Rattle.world_base.specs.Events.{Rules}
+use Rattle.world_commit.specs.world_base.declared.target.TargetPlan.{TargetPlan}
+use Rattle.world_commit.specs.world_base.Events.{Rules}
 use Rattle.world_contents.specs.reads.ChangeLaws.{WasDecided, aborts-stands, confirms-stands, extends-stands, settles-stands}
 use Rattle.world_contents.specs.reads.Midway.{Sound}
 use Rattle.world_contents.specs.reads.ShowLaws.{aborts-shows, confirms-shows, extends-shows, settles-shows, stores-shows}
 use Rattle.world_contents.specs.reads.StoreLaws.{AreItsOwn, IsNewEntry, stores-stands}
-use Rattle.world_base.specs.ChangeLaws.{lease-covers}
-use Rattle.world_base.specs.Commits.{IsAllowed}
+use Rattle.world_commit.specs.world_base.ChangeLaws.{lease-covers}
+use Rattle.world_commit.specs.world_base.Commits.{IsAllowed}
 
 module _ (r : Rules) (o : Opening) (held : List Version) (h : History) (served : List Served) (opening : Epoch × FloorWhy) (t : ℕ) (stamps : List Shown) where
   -- the lease is extended to cover ticks above it

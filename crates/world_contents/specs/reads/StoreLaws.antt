@@ -23,10 +23,10 @@ use Rattle.daos_model.specs.Opening.{Opening, top}
 use Rattle.daos_model.specs.Ordered.{is_rising, put, puts}
 use Rattle.daos_model.specs.Versions.{version_of, version_path, versions_of}
 use Rattle.world_commit.specs.attempts.History.{Decided, History, is_decided}
-use Rattle.world_base.specs.declared.world.World.{World}
-use Rattle.world_base.specs.Events.{Rules}
+use Rattle.world_commit.specs.world_base.declared.world.World.{World}
+use Rattle.world_commit.specs.world_base.Events.{Rules}
 use Rattle.world_contents.specs.reads.ChangeLaws.{WasDecided, decided-has}
-use Rattle.world_base.specs.EntryLaws.{entry-prepared_other}
+use Rattle.world_commit.specs.world_base.EntryLaws.{entry-prepared_other}
 use Rattle.world_contents.specs.reads.ListLaws.{pairs-from_rising, rising-news}
 use Rattle.world_contents.specs.reads.Transactions.{counts_by, transactions}
 use Rattle.world_contents.specs.reads.Versions.{IsPreparedAt, IsVersionOf, IsWriteAt, VersionsStand, is_own_in, mark_of}

@@ -19,15 +19,15 @@ use Rattle.base_messages.specs.declared.message.Reply.TheVariants as reply
 use Rattle.daos_model.specs.declared.durable.Version.{Version}
 use Rattle.daos_model.specs.Forms.{is_read_in_form}
 use Rattle.daos_model.specs.Opening.{Opening}
-use Rattle.dtx_base.specs.declared.member.Parked.{Parked}
-use Rattle.dtx_base.specs.Joining.{all_unresolved_told, is_parked_on, is_waiting, parked_ask, unresolved, unresolved_told, verdict_heard}
+use Rattle.world_commit.specs.dtx_base.declared.member.Parked.{Parked}
+use Rattle.world_commit.specs.dtx_base.Joining.{all_unresolved_told, is_parked_on, is_waiting, parked_ask, unresolved, unresolved_told, verdict_heard}
 use Rattle.world_commit.specs.attempts.History.{History, Served}
-use Rattle.world_base.specs.declared.did.Did.{Did}
-use Rattle.world_base.specs.declared.request.FetchRequest.{FetchRequest}
-use Rattle.world_base.specs.declared.target.TargetMemory.{TargetMemory}
-use Rattle.world_base.specs.declared.target.TargetState.{TargetState}
-use Rattle.world_base.specs.declared.world.World.{World}
-use Rattle.world_base.specs.Events.{Rules, kept, listed, target_plan}
+use Rattle.world_commit.specs.world_base.declared.did.Did.{Did}
+use Rattle.world_commit.specs.world_base.declared.request.FetchRequest.{FetchRequest}
+use Rattle.world_commit.specs.world_base.declared.target.TargetMemory.{TargetMemory}
+use Rattle.world_commit.specs.world_base.declared.target.TargetState.{TargetState}
+use Rattle.world_commit.specs.world_base.declared.world.World.{World}
+use Rattle.world_commit.specs.world_base.Events.{Rules, kept, listed, target_plan}
 use Rattle.world_contents.specs.reads.Adds.{AreAnswered, Heard, IsAnswered, IsAskedIn, NoneIs, Waited, is_answer, is_end, none-answered, served_at}
 use Rattle.world_contents.specs.reads.Beginning.{TurnBegins}
 use Rattle.world_contents.specs.reads.ChangeLaws.{WasDecided}
@@ -38,21 +38,21 @@ use Rattle.world_contents.specs.reads.GrowLaws.{none-committed}
 use Rattle.world_contents.specs.reads.Midway.{IsServedRight, Sound, TurnLeaves}
 use Rattle.world_contents.specs.reads.Reads.{IsOfAttempt}
 use Rattle.world_contents.specs.reads.StepLaws.{aborts-sound, commits-sound}
-use Rattle.world_base.specs.Changes.{Kept, Steps, Settles}
-use Rattle.world_base.specs.Reads as read
-use Rattle.world_base.specs.Requests.{fetch_message, issued_for, request_epoch}
-use Rattle.world_base.specs.Roles.{joins_on, member_at}
-use Rattle.world_base.specs.Turns.{Whole, Reached}
-use Rattle.world_base.specs.VerdictLaws.{Tries, verdict-keeps}
-use Rattle.world_base.specs.Verdicts as verdict
+use Rattle.world_commit.specs.world_base.Changes.{Kept, Steps, Settles}
+use Rattle.world_commit.specs.world_base.Reads as read
+use Rattle.world_commit.specs.world_base.Requests.{fetch_message, issued_for, request_epoch}
+use Rattle.world_commit.specs.world_base.Roles.{joins_on, member_at}
+use Rattle.world_commit.specs.world_base.Turns.{Whole, Reached}
+use Rattle.world_commit.specs.world_base.VerdictLaws.{Tries, verdict-keeps}
+use Rattle.world_commit.specs.world_base.Verdicts as verdict
 use Rattle.base_types.specs.Operations.{read_path}
 use Rattle.base_types.specs.declared.entry.Settle.TheVariants.{Abort, Commit}
 use Rattle.base_types.specs.declared.snapshot.Snap.{Snap}
 use Rattle.daos_model.specs.declared.durable.Durable.{Durable}
 use Rattle.daos_model.specs.Durables.{is_frozen}
-use Rattle.world_base.specs.ChangeLaws.{snaps-made}
-use Rattle.world_base.specs.PathLaws.{reached-keeps}
-use Rattle.world_letters.specs.clients.Snapshots.{is_at_snapshot}
+use Rattle.world_commit.specs.world_base.ChangeLaws.{snaps-made}
+use Rattle.world_commit.specs.world_base.PathLaws.{reached-keeps}
+use Rattle.world_commit.specs.world_letters.clients.Snapshots.{is_at_snapshot}
 
 -- ---- what is answered
 

@@ -19,9 +19,9 @@ use Rattle.daos_model.specs.Opening.{Opening, top, kept_map}
 use Rattle.daos_model.specs.Versions.{version_of, version_path}
 use Rattle.world_commit.specs.attempts.Attempts.{writes_of}
 use Rattle.world_commit.specs.attempts.History.{Decided, History}
-use Rattle.world_base.specs.declared.target.TargetState.{TargetState}
-use Rattle.world_base.specs.declared.world.World.{World}
-use Rattle.world_base.specs.Events.{Rules}
+use Rattle.world_commit.specs.world_base.declared.target.TargetState.{TargetState}
+use Rattle.world_commit.specs.world_base.declared.world.World.{World}
+use Rattle.world_commit.specs.world_base.Events.{Rules}
 use Rattle.world_contents.specs.reads.Transactions.{counts_by, transactions}
 use Rattle.base_types.specs.declared.snapshot.Snap.{Snap}
 use Rattle.daos_model.specs.declared.cell.CellValue.{CellValue}

@@ -23,15 +23,15 @@ use Rattle.dtx_base.specs.Rows.{row_of}
 use Rattle.model_laws.specs.Lists.{at-within}
 use Rattle.model_laws.specs.Members.{Has, has-filter, has-from_filter, has-left}
 use Rattle.model_laws.specs.TargetLaws.{number_same, same_number}
-use Rattle.world_letters.specs.apart.Staying.{events-keep-targets}
-use Rattle.world_commit.specs.asks.Moving.{TargetMoves, all-stay, goes-moves, heard-moves, hears-moves, idle-moves, same-there}
-use Rattle.world_commit.specs.asks.RowsKept.{IsFresh, IsNewRow, RowsAfter, hears-rows}
-use Rattle.world_commit.specs.attempts.Attempts.{IsOther, entry_at, entry_in, first_entry, inc_at, inc_in, is_target, leader_of, members_of, one_if, row_at, row_in}
-use Rattle.world_commit.specs.attempts.Counting.{count-some, has-taken}
-use Rattle.world_commit.specs.attempts.History.{History}
-use Rattle.world_commit.specs.attempts.Stored.{found-led, led-found}
-use Rattle.world_commit.specs.attempts.MemberBits.{has-none, is-other_same, other-no_leader}
-use Rattle.world_commit.specs.attempts.Turning.{one-or_another}
+use Rattle.world_standing.specs.world_letters.apart.Staying.{events-keep-targets}
+use Rattle.world_standing.specs.world_commit.asks.Moving.{TargetMoves, all-stay, goes-moves, heard-moves, hears-moves, idle-moves, same-there}
+use Rattle.world_standing.specs.world_commit.asks.RowsKept.{IsFresh, IsNewRow, RowsAfter, hears-rows}
+use Rattle.world_standing.specs.world_commit.attempts.Attempts.{IsOther, entry_at, entry_in, first_entry, inc_at, inc_in, is_target, leader_of, members_of, one_if, row_at, row_in}
+use Rattle.world_standing.specs.world_commit.attempts.Counting.{count-some, has-taken}
+use Rattle.world_standing.specs.world_commit.attempts.History.{History}
+use Rattle.world_standing.specs.world_commit.attempts.Stored.{found-led, led-found}
+use Rattle.world_standing.specs.world_commit.attempts.MemberBits.{has-none, is-other_same, other-no_leader}
+use Rattle.world_standing.specs.world_commit.attempts.Turning.{one-or_another}
 use Rattle.world_base.specs.declared.letter.Letter.{Letter}
 use Rattle.world_base.specs.declared.target.Life.TheVariants.{Down, Running, Stopped}
 use Rattle.world_base.specs.declared.target.TargetPlan.{TargetPlan}
@@ -48,20 +48,20 @@ use Rattle.world_base.specs.Roles.{leader_at}
 use Rattle.world_base.specs.Statuses.{ask_left, reset_joins, reset_leads, reset_left, status_left, status_refusal}
 use Rattle.world_base.specs.Stops.{Draws, Fails, Further, GivenUp, Happening, HearsMore, IsCut, NoneDown, Opens, Plainly, WorldEvent, is_not_to, opened_at, stopped_at}
 use Rattle.world_base.specs.TargetTurns.{Hearing}
-use Rattle.world_commit.specs.fates.Asked.{AskedRight}
-use Rattle.world_commit.specs.fates.Facts.{Attempts, IsOneUnless, answers_for, asks_for, down_in, is_talk, knows_down, talking}
-use Rattle.world_commit.specs.fates.Rightly.{letters-tell}
-use Rattle.world_letters.specs.lives.Lives.{Lives}
-use Rattle.world_commit.specs.questions.Hearing.{commit-knows, ends-as, is_of_collections, reset-plain}
-use Rattle.world_commit.specs.questions.Sending.{more-down}
+use Rattle.world_standing.specs.world_commit.fates.Asked.{AskedRight}
+use Rattle.world_standing.specs.world_commit.fates.Facts.{Attempts, IsOneUnless, answers_for, asks_for, down_in, is_talk, knows_down, talking}
+use Rattle.world_standing.specs.world_commit.fates.Rightly.{letters-tell}
+use Rattle.world_standing.specs.world_letters.lives.Lives.{Lives}
+use Rattle.world_standing.specs.world_commit.questions.Hearing.{commit-knows, ends-as, is_of_collections, reset-plain}
+use Rattle.world_standing.specs.world_commit.questions.Sending.{more-down}
 use Rattle.world_legal.specs.reasons.Knowing.{DownsAreKnown}
-use Rattle.world_commit.specs.requests.Rows.{CommitsFindNoRow}
-use Rattle.world_commit.specs.statuses.Events.{HappensWithoutSnapshots}
-use Rattle.world_commit.specs.statuses.Heard.{is_of_attempts}
-use Rattle.world_commit.specs.statuses.ResetTurns.{is_collecting}
-use Rattle.world_commit.specs.statuses.Senders.{IsSentRightly, SendersAreRight}
-use Rattle.world_commit.specs.stops.Parts.{now-here, now-there}
-use Rattle.world_commit.specs.stops.Questions.{opening-down}
+use Rattle.world_standing.specs.world_commit.requests.Rows.{CommitsFindNoRow}
+use Rattle.world_standing.specs.world_commit.statuses.Events.{HappensWithoutSnapshots}
+use Rattle.world_standing.specs.world_commit.statuses.Heard.{is_of_attempts}
+use Rattle.world_standing.specs.world_commit.statuses.ResetTurns.{is_collecting}
+use Rattle.world_standing.specs.world_commit.statuses.Senders.{IsSentRightly, SendersAreRight}
+use Rattle.world_standing.specs.world_commit.stops.Parts.{now-here, now-there}
+use Rattle.world_standing.specs.world_commit.stops.Questions.{opening-down}
 use Rattle.world_legal.specs.closing.Gone.{NoneGoesToGivenUp}
 use Rattle.world_legal.specs.closing.Holding.{other-there}
 use Rattle.world_legal.specs.closing.Kept.{further-part}

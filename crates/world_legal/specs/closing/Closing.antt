@@ -14,8 +14,8 @@ use Rattle.daos_model.specs.Family.{resolved}
 use Rattle.daos_model.specs.Opening.{Opening}
 use Rattle.daos_model.specs.Stops.{down_targets, least}
 use Rattle.dtx_base.specs.declared.leading.Undecided.{Undecided}
-use Rattle.world_commit.specs.attempts.Attempts.{IsOther}
-use Rattle.world_commit.specs.attempts.History.{Decided, History}
+use Rattle.world_standing.specs.world_commit.attempts.Attempts.{IsOther}
+use Rattle.world_standing.specs.world_commit.attempts.History.{Decided, History}
 use Rattle.world_base.specs.declared.client.ClientState.{ClientState}
 use Rattle.world_base.specs.declared.letter.Letter.{Letter}
 use Rattle.world_base.specs.declared.target.Life.TheVariants.{Running, Stopped}
@@ -24,11 +24,11 @@ use Rattle.world_base.specs.declared.world.World.{World}
 use Rattle.world_base.specs.ClientTurns.{is_done, waits}
 use Rattle.world_base.specs.Events.{Rules, client_plan}
 use Rattle.world_base.specs.Letters as letter
-use Rattle.world_letters.specs.lines.LastLines.{AreDone, HasClients}
-use Rattle.world_letters.specs.lives.Legal.{NoneIsStopped}
-use Rattle.world_causes.specs.outcomes.Outcomes.{is_failed, HasWrites}
-use Rattle.world_contents.specs.reads.Reads.{Reads}
-use Rattle.world_contents.specs.reads.Versions.{Versions}
+use Rattle.world_standing.specs.world_letters.lines.LastLines.{AreDone, HasClients}
+use Rattle.world_standing.specs.world_letters.lives.Legal.{NoneIsStopped}
+use Rattle.world_standing.specs.world_causes.outcomes.Outcomes.{is_failed, HasWrites}
+use Rattle.world_standing.specs.world_contents.reads.Reads.{Reads}
+use Rattle.world_standing.specs.world_contents.reads.Versions.{Versions}
 use Rattle.daos_model.specs.declared.durable.Durable.{Durable}
 
 -- what targets keep, in their order

@@ -23,15 +23,15 @@ use Rattle.daos_model.specs.Durables.{entry_of}
 use Rattle.daos_model.specs.Family.{all_hold_from, holds, is_in_field, is_resolved_entry, is_within, resolved}
 use Rattle.daos_model.specs.FormLaws.{length-map}
 use Rattle.dtx_base.specs.Members.{all_targets, has_target, is_other_member, other_members}
-use Rattle.world_contents.specs.posts.Members.{bit-of, writes-within}
-use Rattle.world_commit.specs.attempts.Attempts.{Entries, IsHeld, IsItsEntry, IsOther, entry_at, entry_in, first_entry, leader_of, members_of, writes_of}
-use Rattle.world_commit.specs.attempts.History.{Decided, History}
-use Rattle.world_commit.specs.attempts.MemberBits.{is-other_same, other-from_test}
+use Rattle.world_standing.specs.world_contents.posts.Members.{bit-of, writes-within}
+use Rattle.world_standing.specs.world_commit.attempts.Attempts.{Entries, IsHeld, IsItsEntry, IsOther, entry_at, entry_in, first_entry, leader_of, members_of, writes_of}
+use Rattle.world_standing.specs.world_commit.attempts.History.{Decided, History}
+use Rattle.world_standing.specs.world_commit.attempts.MemberBits.{is-other_same, other-from_test}
 use Rattle.world_base.specs.declared.target.TargetState.{TargetState}
 use Rattle.world_base.specs.declared.world.World.{World}
 use Rattle.world_base.specs.Events.{Rules}
 use Rattle.world_legal.specs.closing.Kept.{get-map}
-use Rattle.world_contents.specs.posts.ScriptForm.{of-end}
+use Rattle.world_standing.specs.world_contents.posts.ScriptForm.{of-end}
 use Rattle.world_legal.specs.closing.Sharing.{members-below}
 use Rattle.world_legal.specs.closing.Closing.{IsResolved, durable_of, durables_of}
 use Rattle.base_types.specs.declared.script.Script.{Script}

@@ -22,12 +22,12 @@ use Rattle.world_base.specs.Statuses.{status_refusal}
 use Rattle.world_base.specs.Stops.{Begins, Draws, Fails, Further, GivenUp, Goes, Happening, IsCut, Opens, Plainly, WorldRun}
 use Rattle.world_base.specs.TargetTurns.{commit_request}
 use Rattle.world_base.specs.Turns.{Whole}
-use Rattle.world_letters.specs.epochs.Sayings.{Known}
-use Rattle.world_causes.specs.hearing.Storing.{AllFit, ack-fits, commit-fits, look-fits}
-use Rattle.world_letters.specs.lives.Events.{happening-adds}
-use Rattle.world_commit.specs.statuses.Heard.{is_of_attempts}
+use Rattle.world_standing.specs.world_letters.epochs.Sayings.{Known}
+use Rattle.world_standing.specs.world_causes.hearing.Storing.{AllFit, ack-fits, commit-fits, look-fits}
+use Rattle.world_standing.specs.world_letters.lives.Events.{happening-adds}
+use Rattle.world_standing.specs.world_commit.statuses.Heard.{is_of_attempts}
 use Rattle.std.specs.Option.{option_map}
-use Rattle.world_causes.specs.hearing.Storing.{fits-plain}
+use Rattle.world_standing.specs.world_causes.hearing.Storing.{fits-plain}
 
 pub get-map : {T U : Type 0} (f : T → U) (xs : List T) (n : ℕ) → slice_get (map f xs) n ≡ option_map f (slice_get xs n)
 get-map f [] n = refl

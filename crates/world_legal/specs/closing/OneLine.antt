@@ -6,8 +6,8 @@ use Rattle.model_laws.specs.Decided.{write_of}
 use Rattle.model_laws.specs.Members.{Has, has-map}
 use Rattle.daos_model.specs.Accesses.{minor_writes, minor_write}
 use Rattle.daos_model.specs.Transactions.{writes_of, written}
-use Rattle.world_causes.specs.causes.LastCauses.{ids}
-use Rattle.world_causes.specs.causes.Storing as storing
+use Rattle.world_standing.specs.world_causes.causes.LastCauses.{ids}
+use Rattle.world_standing.specs.world_causes.causes.Storing as storing
 use Rattle.base_types.specs.declared.operation.Act.{Act}
 use Rattle.base_types.specs.declared.operation.Act.TheVariants.{Change, Fetch}
 use Rattle.base_types.specs.declared.operation.Op.{Op}

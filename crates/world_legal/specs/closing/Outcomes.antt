@@ -14,17 +14,17 @@ use Rattle.daos_model.specs.Accesses.{minor_writes}
 use Rattle.daos_model.specs.Attempts.{is_of_client, tries, tries_of}
 use Rattle.daos_model.specs.Conditions.{EndsRight}
 use Rattle.daos_model.specs.Transactions.{attempt_ops, read_numbers}
-use Rattle.world_commit.specs.attempts.History.{History}
+use Rattle.world_standing.specs.world_commit.attempts.History.{History}
 use Rattle.world_base.specs.declared.client.ClientState.{ClientState}
 use Rattle.world_base.specs.declared.world.World.{World}
 use Rattle.world_base.specs.Events.{Rules, client_plan}
-use Rattle.world_letters.specs.clients.Answered.{EndsAsAnswered, EndsWell, IsAnsweredWhole}
-use Rattle.world_contents.specs.gots.Gots.{AreServed, IsLineServed}
-use Rattle.world_contents.specs.gots.StepGots.{ops-of-attempt}
-use Rattle.world_contents.specs.gots.ToldLaws.{nothing-told}
-use Rattle.world_letters.specs.lines.LastLines.{lines-answered}
-use Rattle.world_letters.specs.lines.Lines.{Lines}
-use Rattle.world_causes.specs.outcomes.Outcomes.{HasWrites}
+use Rattle.world_standing.specs.world_letters.clients.Answered.{EndsAsAnswered, EndsWell, IsAnsweredWhole}
+use Rattle.world_standing.specs.world_contents.gots.Gots.{AreServed, IsLineServed}
+use Rattle.world_standing.specs.world_contents.gots.StepGots.{ops-of-attempt}
+use Rattle.world_standing.specs.world_contents.gots.ToldLaws.{nothing-told}
+use Rattle.world_standing.specs.world_letters.lines.LastLines.{lines-answered}
+use Rattle.world_standing.specs.world_letters.lines.Lines.{Lines}
+use Rattle.world_standing.specs.world_causes.outcomes.Outcomes.{HasWrites}
 use Rattle.base_types.specs.declared.operation.Act.{Act}
 use Rattle.base_types.specs.declared.operation.Act.TheVariants.{Change, Fetch}
 

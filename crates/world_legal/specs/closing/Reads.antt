@@ -12,8 +12,8 @@ use Rattle.daos_model.specs.Answers.{has_cell_below}
 use Rattle.daos_model.specs.Finals.{SameMap}
 use Rattle.daos_model.specs.ReadsLegal.{IsRightAnswer, IsRightCondition, IsToldRight}
 use Rattle.world_base.specs.ClientTurns.{is_yes}
-use Rattle.world_contents.specs.gots.MoreLaws.{all-more}
-use Rattle.world_contents.specs.gots.ToldLaws.{yes-is}
+use Rattle.world_standing.specs.world_contents.gots.MoreLaws.{all-more}
+use Rattle.world_standing.specs.world_contents.gots.ToldLaws.{yes-is}
 
 -- ---- maps that hold the same
 

@@ -22,9 +22,9 @@ use Rattle.dtx_base.specs.Leading.{LeaderOf, ack_heard, answer_heard, answer_if_
 use Rattle.dtx_base.specs.Members.{all_targets, are_all_counted, has_target, is_other_member, with_target}
 use Rattle.dtx_base.specs.RowLaws.{row-is, row-map, row-without}
 use Rattle.dtx_base.specs.Rows.{is_among, row_of, without_row}
-use Rattle.world_commit.specs.attempts.MemberBits.{has-with, has-with_other, counted-same}
-use Rattle.world_commit.specs.attempts.Stored.{row-gone}
-use Rattle.world_commit.specs.attempts.Turning.{one-or_another, one-or_other}
+use Rattle.world_standing.specs.world_commit.attempts.MemberBits.{has-with, has-with_other, counted-same}
+use Rattle.world_standing.specs.world_commit.attempts.Stored.{row-gone}
+use Rattle.world_standing.specs.world_commit.attempts.Turning.{one-or_another, one-or_other}
 use Rattle.world_base.specs.declared.did.Did.{Did}
 use Rattle.world_base.specs.declared.target.TargetMemory.{TargetMemory}
 use Rattle.world_base.specs.declared.target.TargetPlan.{TargetPlan}
@@ -34,7 +34,7 @@ use Rattle.world_base.specs.PathLaws.{reached-keeps}
 use Rattle.world_base.specs.Roles.{leader_at}
 use Rattle.world_base.specs.Statuses.{AtOnce, EndsAs, Looking, Looks, NoChange}
 use Rattle.world_base.specs.Turns.{Whole}
-use Rattle.world_commit.specs.fates.Facts.{asks_for}
+use Rattle.world_standing.specs.world_commit.fates.Facts.{asks_for}
 
 -- ---- rows
 

@@ -11,11 +11,11 @@ use Rattle.model_laws.specs.Members.{Has, any-has, has-filter, has-from_contains
 use Rattle.model_laws.specs.TargetLaws.{same_number}
 use Rattle.daos_model.specs.BoolLaws.{and_left}
 use Rattle.dtx_base.specs.Members.{all_targets, has_target, is_other_member, is_written_at, other_members, writes_at}
-use Rattle.world_contents.specs.posts.Members.{bit-of, writes-within}
-use Rattle.world_commit.specs.attempts.Attempts.{IsOther, first_entry, leader_of, members_of, writes_of}
+use Rattle.world_standing.specs.world_contents.posts.Members.{bit-of, writes-within}
+use Rattle.world_standing.specs.world_commit.attempts.Attempts.{IsOther, first_entry, leader_of, members_of, writes_of}
 use Rattle.world_base.specs.Events.{Rules, target_plan}
-use Rattle.world_contents.specs.posts.Posting.{bits-below, one-of_them}
-use Rattle.world_contents.specs.reads.Given.{FitsTargets}
+use Rattle.world_standing.specs.world_contents.posts.Posting.{bits-below, one-of_them}
+use Rattle.world_standing.specs.world_contents.reads.Given.{FitsTargets}
 use Rattle.world_base.specs.Commits as commit
 
 -- ---- lists

@@ -14,9 +14,9 @@ use Rattle.dtx_base.specs.declared.leading.Undecided.{Undecided}
 use Rattle.dtx_base.specs.Members.{has_target}
 use Rattle.model_laws.specs.Members.{Has, has-filter, has-left, has-map, has-right}
 use Rattle.model_laws.specs.TargetLaws.{number_same, same_number}
-use Rattle.world_commit.specs.attempts.Attempts.{IsOther, count, inc_at, is_target, leader_of, one_if, row_at, row_in}
-use Rattle.world_commit.specs.attempts.Counting.{count-some}
-use Rattle.world_commit.specs.attempts.History.{History}
+use Rattle.world_standing.specs.world_commit.attempts.Attempts.{IsOther, count, inc_at, is_target, leader_of, one_if, row_at, row_in}
+use Rattle.world_standing.specs.world_commit.attempts.Counting.{count-some}
+use Rattle.world_standing.specs.world_commit.attempts.History.{History}
 use Rattle.world_base.specs.declared.letter.Letter.{Letter}
 use Rattle.world_base.specs.declared.target.Life.{Life}
 use Rattle.world_base.specs.declared.target.Life.TheVariants as life
@@ -25,11 +25,11 @@ use Rattle.world_base.specs.declared.world.World.{World}
 use Rattle.world_base.specs.Events.{Rules}
 use Rattle.world_base.specs.Letters.{target}
 use Rattle.world_base.specs.Stops.{is_down_at, is_given_up, is_not_to_down, is_to_down, no_memory, reset_letter, swept}
-use Rattle.world_commit.specs.fates.Facts.{Attempts, answers_for, asks_for, is_between, is_prompt, is_prompt_kind, is_talk, talking}
-use Rattle.world_letters.specs.lives.Lives.{Lives, standing_of}
-use Rattle.world_commit.specs.stops.Losses.{asked-by}
+use Rattle.world_standing.specs.world_commit.fates.Facts.{Attempts, answers_for, asks_for, is_between, is_prompt, is_prompt_kind, is_talk, talking}
+use Rattle.world_standing.specs.world_letters.lives.Lives.{Lives, standing_of}
+use Rattle.world_standing.specs.world_commit.stops.Losses.{asked-by}
 use Rattle.world_legal.specs.closing.Gone.{down-there}
-use Rattle.world_letters.specs.lives.Legal.{down-last}
+use Rattle.world_standing.specs.world_letters.lives.Legal.{down-last}
 
 -- ---- the fact
 

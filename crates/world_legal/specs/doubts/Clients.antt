@@ -19,8 +19,8 @@ use Rattle.daos_model.specs.BoolLaws.{and_left, and_right, clash}
 use Rattle.daos_model.specs.CausesShown.{StopsAfter}
 use Rattle.dtx_base.specs.LeaderLaws.{same-is}
 use Rattle.model_laws.specs.Members.{Has, has-cases, has-from_map}
-use Rattle.world_commit.specs.attempts.Attempts.{leader_of}
-use Rattle.world_commit.specs.attempts.Counting.{has-left_over, has-taken}
+use Rattle.world_standing.specs.world_commit.attempts.Attempts.{leader_of}
+use Rattle.world_standing.specs.world_commit.attempts.Counting.{has-left_over, has-taken}
 use Rattle.world_base.specs.declared.client.ClientPlan.{ClientPlan}
 use Rattle.world_base.specs.declared.client.ClientState.{ClientState}
 use Rattle.world_base.specs.declared.client.Present.{Present}
@@ -31,30 +31,30 @@ use Rattle.world_base.specs.Events.{ClientGoes, ClientHears, Rules, after_turn, 
 use Rattle.world_base.specs.Letters.{client, letter_of, letters_of}
 use Rattle.world_base.specs.StepLaws.{after-both, by-going, set-here}
 use Rattle.world_base.specs.Steps.{KeptByMoves, after_move, without}
-use Rattle.world_causes.specs.causes.Lasting.{since-more}
-use Rattle.world_letters.specs.epochs.Epochs.{IsPast, IsPresent}
-use Rattle.world_letters.specs.epochs.Lists.{each-push}
-use Rattle.world_letters.specs.lines.LineLaws.{lines-by-moves}
-use Rattle.world_letters.specs.lines.Lines.{Endings, Lines, filled}
-use Rattle.world_causes.specs.losses.ClientHears.{LossesAreAsked, heard-steps}
-use Rattle.world_causes.specs.losses.Clients.{After, IsOver, Stepped, after-none, going-after, of-others, stepped}
-use Rattle.world_causes.specs.losses.Losses.{Losses}
-use Rattle.world_causes.specs.losses.Moving.{LinesSo, end-is, moved-lines, moved-none, moved-stays}
-use Rattle.world_causes.specs.outcomes.ClientLaws.{present-not-past}
-use Rattle.world_causes.specs.outcomes.Moving.{AnswerDoes, FailsWith, OnWith, moved-past, op-does}
-use Rattle.world_causes.specs.outcomes.Premises.{HearsFitly, IsFit, IsReplyFit}
+use Rattle.world_standing.specs.world_causes.causes.Lasting.{since-more}
+use Rattle.world_standing.specs.world_letters.epochs.Epochs.{IsPast, IsPresent}
+use Rattle.world_standing.specs.world_letters.epochs.Lists.{each-push}
+use Rattle.world_standing.specs.world_letters.lines.LineLaws.{lines-by-moves}
+use Rattle.world_standing.specs.world_letters.lines.Lines.{Endings, Lines, filled}
+use Rattle.world_standing.specs.world_causes.losses.ClientHears.{LossesAreAsked, heard-steps}
+use Rattle.world_standing.specs.world_causes.losses.Clients.{After, IsOver, Stepped, after-none, going-after, of-others, stepped}
+use Rattle.world_standing.specs.world_causes.losses.Losses.{Losses}
+use Rattle.world_standing.specs.world_causes.losses.Moving.{LinesSo, end-is, moved-lines, moved-none, moved-stays}
+use Rattle.world_standing.specs.world_causes.outcomes.ClientLaws.{present-not-past}
+use Rattle.world_standing.specs.world_causes.outcomes.Moving.{AnswerDoes, FailsWith, OnWith, moved-past, op-does}
+use Rattle.world_standing.specs.world_causes.outcomes.Premises.{HearsFitly, IsFit, IsReplyFit}
 use Rattle.world_standing.specs.standing.Clients.{lines-heard}
-use Rattle.world_causes.specs.handing.Fitting.{hears-fitly}
-use Rattle.world_letters.specs.talks.AskLaws.{move-is, waiting-rests}
-use Rattle.world_letters.specs.talks.Asked.{ARead, ASnapshot, AnAggregation, Asked, Asking, IsMove, ItsWrites, Silent, Telling}
-use Rattle.world_causes.specs.outcomes.TellLaws.{AllRead, MoveTells, NoSnap, Nothing, moved-tells}
-use Rattle.world_causes.specs.outcomes.TurnLaws.{move-tells-decided, tried-cases}
-use Rattle.world_causes.specs.outcomes.Outcomes.{HasWrites}
-use Rattle.world_letters.specs.waits.Waits.{Conversation}
+use Rattle.world_standing.specs.world_causes.handing.Fitting.{hears-fitly}
+use Rattle.world_standing.specs.world_letters.talks.AskLaws.{move-is, waiting-rests}
+use Rattle.world_standing.specs.world_letters.talks.Asked.{ARead, ASnapshot, AnAggregation, Asked, Asking, IsMove, ItsWrites, Silent, Telling}
+use Rattle.world_standing.specs.world_causes.outcomes.TellLaws.{AllRead, MoveTells, NoSnap, Nothing, moved-tells}
+use Rattle.world_standing.specs.world_causes.outcomes.TurnLaws.{move-tells-decided, tried-cases}
+use Rattle.world_standing.specs.world_causes.outcomes.Outcomes.{HasWrites}
+use Rattle.world_standing.specs.world_letters.waits.Waits.{Conversation}
 use Rattle.world_legal.specs.doubts.Doubts.{InFlight, InLines, IsToldCommitted, ItsLeaderStopped}
 use Rattle.world_legal.specs.doubts.Recounting.{tells_back}
 use Rattle.world_legal.specs.doubts.Stopped.{stops-more}
-use Rattle.world_causes.specs.losses.Clients.{line-added}
+use Rattle.world_standing.specs.world_causes.losses.Clients.{line-added}
 
 abbrev pub IsBegun : Rules → World → AttemptId → Type 0
 IsBegun r w x = IsPresent r w x ⊎ IsOver w.clients x

@@ -9,15 +9,15 @@ use Rattle.base_messages.specs.declared.message.Message.TheVariants as message
 use Rattle.daos_model.specs.Attempts.{EachTry, tries, up_to_last_of}
 use Rattle.daos_model.specs.CausesShown.{StopsAfter}
 use Rattle.model_laws.specs.Members.{Has}
-use Rattle.world_commit.specs.attempts.Attempts.{IsBorn, entry_at, is_known_at, leader_of}
-use Rattle.world_commit.specs.attempts.History.{History}
+use Rattle.world_standing.specs.world_commit.attempts.Attempts.{IsBorn, entry_at, is_known_at, leader_of}
+use Rattle.world_standing.specs.world_commit.attempts.History.{History}
 use Rattle.world_base.specs.declared.letter.Letter.{Letter}
 use Rattle.world_base.specs.declared.target.Life.TheVariants.{Running}
 use Rattle.world_base.specs.declared.target.TargetState.{TargetState}
 use Rattle.world_base.specs.declared.world.World.{World}
 use Rattle.world_base.specs.Events.{Rules}
-use Rattle.world_letters.specs.epochs.Epochs.{IsPresent}
-use Rattle.world_causes.specs.losses.ClientHears.{TellsLoss}
+use Rattle.world_standing.specs.world_letters.epochs.Epochs.{IsPresent}
+use Rattle.world_standing.specs.world_causes.losses.ClientHears.{TellsLoss}
 
 -- ---- a stop
 

@@ -8,22 +8,22 @@ use Rattle.daos_model.specs.Attempts.{up_to_last_of}
 use Rattle.daos_model.specs.CausesShown.{StopsAfter}
 use Rattle.daos_model.specs.Durables.{entry_of, is_entry_of}
 use Rattle.model_laws.specs.Members.{Has}
-use Rattle.world_commit.specs.attempts.Attempts.{IsBorn, entry_in, is_known_in, leader_of}
-use Rattle.world_commit.specs.attempts.Counting.{has-taken}
-use Rattle.world_commit.specs.attempts.History.{GrowsBy, History}
+use Rattle.world_standing.specs.world_commit.attempts.Attempts.{IsBorn, entry_in, is_known_in, leader_of}
+use Rattle.world_standing.specs.world_commit.attempts.Counting.{has-taken}
+use Rattle.world_standing.specs.world_commit.attempts.History.{GrowsBy, History}
 use Rattle.world_base.specs.declared.target.TargetState.{TargetState}
 use Rattle.world_base.specs.declared.world.World.{World}
 use Rattle.world_base.specs.Events.{ByClient, ByTarget, Rules, ToClient, ToTarget, rightly}
 use Rattle.world_base.specs.Stops.{Draws, Fails, Further, GivenUp, Happening, IsCut, Opens, Plainly}
-use Rattle.world_causes.specs.causes.Lasting.{since-more}
-use Rattle.world_letters.specs.epochs.Epochs.{IsPresent}
-use Rattle.world_commit.specs.fates.Facts.{Attempts}
-use Rattle.world_commit.specs.fates.Rightly.{letters-tell}
-use Rattle.world_causes.specs.handing.Begun.{handed-where}
-use Rattle.world_causes.specs.hearing.Going.{EntriesWrite}
-use Rattle.world_causes.specs.losses.Clients.{of-others, present-not-over}
-use Rattle.world_causes.specs.outcomes.Outcomes.{Outcomes, HasWrites}
-use Rattle.world_commit.specs.statuses.Events.{HappensWithoutSnapshots, told_by}
+use Rattle.world_standing.specs.world_causes.causes.Lasting.{since-more}
+use Rattle.world_standing.specs.world_letters.epochs.Epochs.{IsPresent}
+use Rattle.world_standing.specs.world_commit.fates.Facts.{Attempts}
+use Rattle.world_standing.specs.world_commit.fates.Rightly.{letters-tell}
+use Rattle.world_standing.specs.world_causes.handing.Begun.{handed-where}
+use Rattle.world_standing.specs.world_causes.hearing.Going.{EntriesWrite}
+use Rattle.world_standing.specs.world_causes.losses.Clients.{of-others, present-not-over}
+use Rattle.world_standing.specs.world_causes.outcomes.Outcomes.{Outcomes, HasWrites}
+use Rattle.world_standing.specs.world_commit.statuses.Events.{HappensWithoutSnapshots, told_by}
 use Rattle.world_legal.specs.doubts.Clients.{Goes, IsBegun, going-goes, hearing-goes}
 use Rattle.world_legal.specs.doubts.Doubts.{Doubts, InFlight, InLines, IsInDoubt, IsToldCommitted, ItsLeaderStopped}
 use Rattle.world_legal.specs.doubts.Laws.{DoubtsBegin, IsBeside}

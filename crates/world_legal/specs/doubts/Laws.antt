@@ -1,19 +1,19 @@
 -- The laws of doubts, as statements.
 use Rattle.std.specs.Prelude.{◌≡◌, ◌<◌, []}
-use Rattle.world_commit.specs.attempts.History.{History}
+use Rattle.world_standing.specs.world_commit.attempts.History.{History}
 use Rattle.world_base.specs.declared.world.World.{World}
 use Rattle.world_base.specs.Events.{Rules}
-use Rattle.world_commit.specs.fates.Asked.{AskedRight}
-use Rattle.world_commit.specs.fates.Facts.{Attempts}
-use Rattle.world_commit.specs.fates.Keeping.{HasNoneYet}
-use Rattle.world_causes.specs.hearing.Going.{EntriesWrite}
-use Rattle.world_letters.specs.lines.Lines.{Endings, Lines}
-use Rattle.world_causes.specs.losses.ClientHears.{LossesAreAsked}
-use Rattle.world_causes.specs.losses.Losses.{Losses}
-use Rattle.world_causes.specs.outcomes.Outcomes.{Outcomes}
-use Rattle.world_causes.specs.outcomes.Premises.{AsksGoRight}
-use Rattle.world_letters.specs.waits.Premises.{RequestsAreOfClients}
-use Rattle.world_letters.specs.waits.Waits.{Conversation}
+use Rattle.world_standing.specs.world_commit.fates.Asked.{AskedRight}
+use Rattle.world_standing.specs.world_commit.fates.Facts.{Attempts}
+use Rattle.world_standing.specs.world_commit.fates.Keeping.{HasNoneYet}
+use Rattle.world_standing.specs.world_causes.hearing.Going.{EntriesWrite}
+use Rattle.world_standing.specs.world_letters.lines.Lines.{Endings, Lines}
+use Rattle.world_standing.specs.world_causes.losses.ClientHears.{LossesAreAsked}
+use Rattle.world_standing.specs.world_causes.losses.Losses.{Losses}
+use Rattle.world_standing.specs.world_causes.outcomes.Outcomes.{Outcomes}
+use Rattle.world_standing.specs.world_causes.outcomes.Premises.{AsksGoRight}
+use Rattle.world_standing.specs.world_letters.waits.Premises.{RequestsAreOfClients}
+use Rattle.world_standing.specs.world_letters.waits.Waits.{Conversation}
 use Rattle.world_legal.specs.doubts.Doubts.{Doubts}
 
 -- they hold where nothing is in flight, told or kept

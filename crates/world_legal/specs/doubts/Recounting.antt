@@ -13,17 +13,17 @@ use Rattle.daos_model.specs.Attempts.{tries}
 use Rattle.daos_model.specs.Durables.{entry_of, is_entry_of}
 use Rattle.dtx_base.specs.LeaderLaws.{same-is}
 use Rattle.model_laws.specs.Members.{Has}
-use Rattle.world_commit.specs.attempts.Attempts.{IsBorn, entry_at, entry_in, leader_of}
-use Rattle.world_commit.specs.attempts.History.{Decided, History}
+use Rattle.world_standing.specs.world_commit.attempts.Attempts.{IsBorn, entry_at, entry_in, leader_of}
+use Rattle.world_standing.specs.world_commit.attempts.History.{Decided, History}
 use Rattle.world_base.specs.declared.letter.Letter.{Letter}
 use Rattle.world_base.specs.declared.target.TargetState.{TargetState}
 use Rattle.world_base.specs.declared.world.World.{World}
 use Rattle.world_base.specs.Events.{Rules}
-use Rattle.world_commit.specs.fates.Facts.{Attempts, IsAskedSo, IsQueryRight, IsSaidSo}
-use Rattle.world_causes.specs.hearing.Going.{EntriesWrite}
-use Rattle.world_causes.specs.losses.ClientHears.{TellsLoss}
-use Rattle.world_causes.specs.outcomes.Outcomes.{Outcomes, HasWrites}
-use Rattle.world_causes.specs.outcomes.Untried.{untried-back}
+use Rattle.world_standing.specs.world_commit.fates.Facts.{Attempts, IsAskedSo, IsQueryRight, IsSaidSo}
+use Rattle.world_standing.specs.world_causes.hearing.Going.{EntriesWrite}
+use Rattle.world_standing.specs.world_causes.losses.ClientHears.{TellsLoss}
+use Rattle.world_standing.specs.world_causes.outcomes.Outcomes.{Outcomes, HasWrites}
+use Rattle.world_standing.specs.world_causes.outcomes.Untried.{untried-back}
 use Rattle.world_legal.specs.doubts.Doubts.{Doubts, InFlight, InLines, IsInDoubt, IsToldCommitted, ItsLeaderStopped, RestsAt}
 use Rattle.world_legal.specs.doubts.Stopped.{stopped-now, stopped-still}
 

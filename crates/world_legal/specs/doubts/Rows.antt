@@ -20,21 +20,21 @@ use Rattle.dtx_base.specs.Leading.{LeaderOf, LeaderStep, ended, entry_led, first
 use Rattle.dtx_base.specs.RowLaws.{row-map, row-with, row-without}
 use Rattle.dtx_base.specs.Rows.{is_among, row_of, with_row, without_row}
 use Rattle.model_laws.specs.Members.{Has, has-cases}
-use Rattle.world_commit.specs.attempts.History.{Tells}
-use Rattle.world_commit.specs.attempts.Stored.{row-gone}
-use Rattle.world_commit.specs.attempts.Turning.{one-or_other}
+use Rattle.world_standing.specs.world_commit.attempts.History.{Tells}
+use Rattle.world_standing.specs.world_commit.attempts.Stored.{row-gone}
+use Rattle.world_standing.specs.world_commit.attempts.Turning.{one-or_other}
 use Rattle.world_base.specs.declared.request.CommitRequest.{CommitRequest}
 use Rattle.world_base.specs.declared.did.Did.{Did}
 use Rattle.world_base.specs.declared.target.TargetMemory.{TargetMemory}
-use Rattle.world_causes.specs.outcomes.Outcomes.{commits}
-use Rattle.world_causes.specs.outcomes.Telling.{end_to, post_to, single}
-use Rattle.world_letters.specs.talks.Conversation as carrier
-use Rattle.world_letters.specs.talks.LeaveLaws as leave
-use Rattle.world_letters.specs.talks.LeaveLaws.{AckIs, CommitLeaves, ToTargets}
-use Rattle.world_letters.specs.waits.Premises.{is_end}
-use Rattle.world_letters.specs.waits.ResetTurns.{EndsWait, ResetIs, Stays}
-use Rattle.world_letters.specs.endings.Answers as follows
-use Rattle.world_letters.specs.endings.Answers.{left-follows}
+use Rattle.world_standing.specs.world_causes.outcomes.Outcomes.{commits}
+use Rattle.world_standing.specs.world_causes.outcomes.Telling.{end_to, post_to, single}
+use Rattle.world_standing.specs.world_letters.talks.Conversation as carrier
+use Rattle.world_standing.specs.world_letters.talks.LeaveLaws as leave
+use Rattle.world_standing.specs.world_letters.talks.LeaveLaws.{AckIs, CommitLeaves, ToTargets}
+use Rattle.world_standing.specs.world_letters.waits.Premises.{is_end}
+use Rattle.world_standing.specs.world_letters.waits.ResetTurns.{EndsWait, ResetIs, Stays}
+use Rattle.world_standing.specs.world_letters.endings.Answers as follows
+use Rattle.world_standing.specs.world_letters.endings.Answers.{left-follows}
 use Rattle.world_base.specs.declared.target.TargetPlan.{TargetPlan}
 use Rattle.world_base.specs.Changes.{Kept}
 use Rattle.world_base.specs.Roles.{leader_at}

@@ -8,12 +8,12 @@ use Rattle.daos_model.specs.Attempts.{EachTry, tries, up_to_last_of}
 use Rattle.daos_model.specs.CausesShown.{IsStopAt, StopsAfter}
 use Rattle.model_laws.specs.Lists.{any-of}
 use Rattle.model_laws.specs.Members.{Has, has-from_contains, has-left, has-right}
-use Rattle.world_commit.specs.attempts.Attempts.{leader_of}
+use Rattle.world_standing.specs.world_commit.attempts.Attempts.{leader_of}
 use Rattle.world_base.specs.declared.world.World.{World}
 use Rattle.world_base.specs.Events.{Rules}
-use Rattle.world_causes.specs.causes.Lasting.{silent-others, since-more, up-to-others}
-use Rattle.world_letters.specs.epochs.Epochs.{IsAt, IsPresent}
-use Rattle.world_causes.specs.losses.Since.{each-more, up-to-begins}
+use Rattle.world_standing.specs.world_causes.causes.Lasting.{silent-others, since-more, up-to-others}
+use Rattle.world_standing.specs.world_letters.epochs.Epochs.{IsAt, IsPresent}
+use Rattle.world_standing.specs.world_causes.losses.Since.{each-more, up-to-begins}
 use Rattle.world_legal.specs.doubts.Doubts.{ItsLeaderStopped}
 
 -- what stopped since some lines did so while more are added

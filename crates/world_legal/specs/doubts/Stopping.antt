@@ -18,9 +18,9 @@ use Rattle.daos_model.specs.Changes.{reopened}
 use Rattle.daos_model.specs.Durables.{entry_of}
 use Rattle.dtx_base.specs.Rows.{is_among}
 use Rattle.model_laws.specs.Members.{Has, has-cases, has-from_filter, has-from_map, has-right}
-use Rattle.world_commit.specs.attempts.Attempts.{IsBorn, entry_at, entry_in, is_known_at, is_known_in, leader_of}
-use Rattle.world_commit.specs.attempts.History.{GrowsBy, History, Tells}
-use Rattle.world_commit.specs.attempts.Turning.{one-or_another}
+use Rattle.world_standing.specs.world_commit.attempts.Attempts.{IsBorn, entry_at, entry_in, is_known_at, is_known_in, leader_of}
+use Rattle.world_standing.specs.world_commit.attempts.History.{GrowsBy, History, Tells}
+use Rattle.world_standing.specs.world_commit.attempts.Turning.{one-or_another}
 use Rattle.world_base.specs.declared.letter.Letter.{Letter}
 use Rattle.world_base.specs.declared.target.Life.TheVariants.{Down, Running, Stopped}
 use Rattle.world_base.specs.declared.target.TargetState.{TargetState}
@@ -30,15 +30,15 @@ use Rattle.world_base.specs.Letters.{letter_of, letters_of, target}
 use Rattle.world_base.specs.Statuses.{opening_posts}
 use Rattle.world_base.specs.StepLaws.{set-here}
 use Rattle.world_base.specs.Stops.{AtWork, CutOf, Hearing, IdleWork, NumbersDrawn, OpeningFails, TargetCut, TargetGivenUp, TargetOpens, is_down_at, is_given_up, is_not_to, is_not_to_down, is_to, is_to_down, opened_at, reset_letter, resets, restart_line, stopped_at, stops_so_far, swept}
-use Rattle.world_commit.specs.fates.Facts.{Attempts}
-use Rattle.world_causes.specs.losses.ClientHears.{TellsLoss}
-use Rattle.world_causes.specs.losses.Stopping.{stopped-rests}
-use Rattle.world_causes.specs.outcomes.Stopping.{cut-told}
-use Rattle.world_causes.specs.outcomes.Untried.{hearing-untried, idling-untried, untried-both, untried-none, untried-one}
-use Rattle.world_commit.specs.stops.CutEvents.{cut_told}
-use Rattle.world_commit.specs.stops.Openings.{alone, committed_end, opening_told}
-use Rattle.world_commit.specs.stops.Parts.{now-here, now-same, now-there}
-use Rattle.world_commit.specs.stops.Questions.{opening-asks, question-is, reopened-entry, reopened_rows}
+use Rattle.world_standing.specs.world_commit.fates.Facts.{Attempts}
+use Rattle.world_standing.specs.world_causes.losses.ClientHears.{TellsLoss}
+use Rattle.world_standing.specs.world_causes.losses.Stopping.{stopped-rests}
+use Rattle.world_standing.specs.world_causes.outcomes.Stopping.{cut-told}
+use Rattle.world_standing.specs.world_causes.outcomes.Untried.{hearing-untried, idling-untried, untried-both, untried-none, untried-one}
+use Rattle.world_standing.specs.world_commit.stops.CutEvents.{cut_told}
+use Rattle.world_standing.specs.world_commit.stops.Openings.{alone, committed_end, opening_told}
+use Rattle.world_standing.specs.world_commit.stops.Parts.{now-here, now-same, now-there}
+use Rattle.world_standing.specs.world_commit.stops.Questions.{opening-asks, question-is, reopened-entry, reopened_rows}
 use Rattle.world_legal.specs.doubts.Doubts.{IsInDoubt, RestsAt}
 use Rattle.world_legal.specs.doubts.Recounting.{Recounts, StopsNow, WasInDoubt, loss-back, tells_back}
 

@@ -14,10 +14,10 @@ use Rattle.daos_model.specs.Attempts.{tries}
 use Rattle.dtx_base.specs.Leading.{to_target}
 use Rattle.dtx_base.specs.LeaderLaws.{same-is}
 use Rattle.model_laws.specs.Members.{Has, contains-from_has, has-cases, has-from_map}
-use Rattle.world_commit.specs.attempts.Attempts.{IsBorn, entry_at, entry_in, is_known_at, is_known_in, leader_of, row_at, row_in}
-use Rattle.world_commit.specs.attempts.Counting.{has-left_over, has-taken}
-use Rattle.world_commit.specs.attempts.History.{GrowsBy, History, Tells}
-use Rattle.world_commit.specs.attempts.Turning.{one-or_another}
+use Rattle.world_standing.specs.world_commit.attempts.Attempts.{IsBorn, entry_at, entry_in, is_known_at, is_known_in, leader_of, row_at, row_in}
+use Rattle.world_standing.specs.world_commit.attempts.Counting.{has-left_over, has-taken}
+use Rattle.world_standing.specs.world_commit.attempts.History.{GrowsBy, History, Tells}
+use Rattle.world_standing.specs.world_commit.attempts.Turning.{one-or_another}
 use Rattle.world_base.specs.declared.did.Did.{Did}
 use Rattle.world_base.specs.declared.letter.Letter.{Letter}
 use Rattle.world_base.specs.declared.target.Life.TheVariants.{Running}
@@ -31,25 +31,25 @@ use Rattle.world_base.specs.MemoryLaws.{hears-follows, idle-leaves, idles-follow
 use Rattle.world_base.specs.StepLaws.{set-here, set-there}
 use Rattle.world_base.specs.Stops.{HearsMore}
 use Rattle.world_base.specs.TargetTurns.{commit_request}
-use Rattle.world_letters.specs.endings.Posts.{further-sent}
-use Rattle.world_letters.specs.endings.Telling.{AsksAgain, AsksFreezes, AsksPrunes, IsSent, Quietly, TellsAfter, is_collected}
-use Rattle.world_commit.specs.fates.Asked.{AskedRight}
-use Rattle.world_commit.specs.fates.Facts.{Attempts, IsRow}
-use Rattle.world_commit.specs.fates.Lefts.{idle-left}
-use Rattle.world_commit.specs.fates.Told.{silent_at}
-use Rattle.world_letters.specs.lines.EndingLaws.{all-hear-tell, idle-tells}
-use Rattle.world_letters.specs.lines.FilledLaws.{tries-filled}
-use Rattle.world_letters.specs.lines.Lines.{Endings, TellsPlainly, filled}
-use Rattle.world_causes.specs.losses.ClientHears.{TellsLoss}
-use Rattle.world_causes.specs.losses.Hearing.{ack-lines}
-use Rattle.world_causes.specs.losses.Silent.{commit-down-none}
-use Rattle.world_causes.specs.outcomes.Outcomes.{commits}
-use Rattle.world_causes.specs.outcomes.Premises.{AsksGoRight}
-use Rattle.world_causes.specs.outcomes.Untried.{untried-none}
-use Rattle.world_commit.specs.statuses.Fates.{told_by_it}
-use Rattle.world_commit.specs.statuses.Heard.{is_of_attempts}
-use Rattle.world_letters.specs.waits.Premises.{RequestsAreOfClients}
-use Rattle.world_letters.specs.waits.StopTurns.{nothing-changes}
+use Rattle.world_standing.specs.world_letters.endings.Posts.{further-sent}
+use Rattle.world_standing.specs.world_letters.endings.Telling.{AsksAgain, AsksFreezes, AsksPrunes, IsSent, Quietly, TellsAfter, is_collected}
+use Rattle.world_standing.specs.world_commit.fates.Asked.{AskedRight}
+use Rattle.world_standing.specs.world_commit.fates.Facts.{Attempts, IsRow}
+use Rattle.world_standing.specs.world_commit.fates.Lefts.{idle-left}
+use Rattle.world_standing.specs.world_commit.fates.Told.{silent_at}
+use Rattle.world_standing.specs.world_letters.lines.EndingLaws.{all-hear-tell, idle-tells}
+use Rattle.world_standing.specs.world_letters.lines.FilledLaws.{tries-filled}
+use Rattle.world_standing.specs.world_letters.lines.Lines.{Endings, TellsPlainly, filled}
+use Rattle.world_standing.specs.world_causes.losses.ClientHears.{TellsLoss}
+use Rattle.world_standing.specs.world_causes.losses.Hearing.{ack-lines}
+use Rattle.world_standing.specs.world_causes.losses.Silent.{commit-down-none}
+use Rattle.world_standing.specs.world_causes.outcomes.Outcomes.{commits}
+use Rattle.world_standing.specs.world_causes.outcomes.Premises.{AsksGoRight}
+use Rattle.world_standing.specs.world_causes.outcomes.Untried.{untried-none}
+use Rattle.world_standing.specs.world_commit.statuses.Fates.{told_by_it}
+use Rattle.world_standing.specs.world_commit.statuses.Heard.{is_of_attempts}
+use Rattle.world_standing.specs.world_letters.waits.Premises.{RequestsAreOfClients}
+use Rattle.world_standing.specs.world_letters.waits.StopTurns.{nothing-changes}
 use Rattle.world_legal.specs.doubts.Doubts.{IsInDoubt, RestsAt}
 use Rattle.world_legal.specs.doubts.Recounting.{IsDoubted, IsNew, Recounts, WasInDoubt}
 use Rattle.world_legal.specs.doubts.Rows.{HasRow, LeavesRows, rows-same}

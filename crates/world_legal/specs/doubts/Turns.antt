@@ -18,10 +18,10 @@ use Rattle.dtx_base.specs.declared.leading.Undecided.{Undecided}
 use Rattle.dtx_base.specs.Leading.{LeaderOf, entry_led, knowing, reset_of, undecided_attempt}
 use Rattle.dtx_base.specs.Rows.{is_among, row_of}
 use Rattle.model_laws.specs.Members.{Has, has-cases, has-from_filter, has-map, has-right}
-use Rattle.world_commit.specs.attempts.Attempts.{entry_at, entry_in, is_known_in, leader_of, row_in}
-use Rattle.world_commit.specs.attempts.Counting.{has-taken}
-use Rattle.world_commit.specs.attempts.History.{History, Tells}
-use Rattle.world_commit.specs.attempts.Stored.{led-found, target-is}
+use Rattle.world_standing.specs.world_commit.attempts.Attempts.{entry_at, entry_in, is_known_in, leader_of, row_in}
+use Rattle.world_standing.specs.world_commit.attempts.Counting.{has-taken}
+use Rattle.world_standing.specs.world_commit.attempts.History.{History, Tells}
+use Rattle.world_standing.specs.world_commit.attempts.Stored.{led-found, target-is}
 use Rattle.world_base.specs.declared.did.Did.{Did}
 use Rattle.world_base.specs.declared.target.TargetMemory.{TargetMemory}
 use Rattle.world_base.specs.declared.target.TargetPlan.{TargetPlan}
@@ -39,21 +39,21 @@ use Rattle.world_base.specs.Roles.{is_in_doubt, leader_at}
 use Rattle.world_base.specs.Statuses.{status_refusal}
 use Rattle.world_base.specs.TargetTurns.{commit_request, fetch_request, prepare_request}
 use Rattle.world_base.specs.Turns.{Whole}
-use Rattle.world_commit.specs.fates.Asked.{AskedRight}
-use Rattle.world_commit.specs.fates.Facts.{Attempts, IsAckRight, IsRow, IsSaidSo, IsStateRight}
-use Rattle.world_commit.specs.fates.Lefts.{fetch-left, mark-answers, marked-left, query-answers, verdict-left}
-use Rattle.world_commit.specs.fates.Told.{silent_at}
-use Rattle.world_commit.specs.fates.Working.{ArePlain, mild-untold, plain-mild}
-use Rattle.world_causes.specs.outcomes.Premises.{AsksGoRight}
-use Rattle.world_causes.specs.outcomes.Telling.{ack-tells, commit-ends, end_to, post_to, silent-tells, single}
-use Rattle.world_commit.specs.requests.Rows.{commits-find}
-use Rattle.world_commit.specs.statuses.Fates.{tells_fate, told_by_it}
-use Rattle.world_commit.specs.statuses.Heard.{is_of_attempts}
-use Rattle.world_letters.specs.talks.LeaveLaws as leave
-use Rattle.world_letters.specs.talks.LeaveLaws.{AckIs, ToTargets}
-use Rattle.world_letters.specs.waits.Premises.{RequestsAreOfClients}
-use Rattle.world_letters.specs.waits.ResetTurns.{reset-is}
-use Rattle.world_letters.specs.waits.StopTurns.{nothing-changes}
+use Rattle.world_standing.specs.world_commit.fates.Asked.{AskedRight}
+use Rattle.world_standing.specs.world_commit.fates.Facts.{Attempts, IsAckRight, IsRow, IsSaidSo, IsStateRight}
+use Rattle.world_standing.specs.world_commit.fates.Lefts.{fetch-left, mark-answers, marked-left, query-answers, verdict-left}
+use Rattle.world_standing.specs.world_commit.fates.Told.{silent_at}
+use Rattle.world_standing.specs.world_commit.fates.Working.{ArePlain, mild-untold, plain-mild}
+use Rattle.world_standing.specs.world_causes.outcomes.Premises.{AsksGoRight}
+use Rattle.world_standing.specs.world_causes.outcomes.Telling.{ack-tells, commit-ends, end_to, post_to, silent-tells, single}
+use Rattle.world_standing.specs.world_commit.requests.Rows.{commits-find}
+use Rattle.world_standing.specs.world_commit.statuses.Fates.{tells_fate, told_by_it}
+use Rattle.world_standing.specs.world_commit.statuses.Heard.{is_of_attempts}
+use Rattle.world_standing.specs.world_letters.talks.LeaveLaws as leave
+use Rattle.world_standing.specs.world_letters.talks.LeaveLaws.{AckIs, ToTargets}
+use Rattle.world_standing.specs.world_letters.waits.Premises.{RequestsAreOfClients}
+use Rattle.world_standing.specs.world_letters.waits.ResetTurns.{reset-is}
+use Rattle.world_standing.specs.world_letters.waits.StopTurns.{nothing-changes}
 use Rattle.world_legal.specs.doubts.Rows.{EndsGoToClients, HasRow, LeavesRows, NoneCommitted, ack-rows, ask-rows, commit-rows, left-untold, one-other, reset-rows, rows-same}
 
 -- ---- what tells no ends

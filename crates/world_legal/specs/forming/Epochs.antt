@@ -15,9 +15,9 @@ use Rattle.daos_model.specs.Stops.{HasTarget, floors, is_at, lines_at, opened_fl
 use Rattle.report_writer.specs.Forms.{IsEpoch}
 use Rattle.world_base.specs.declared.world.World.{World}
 use Rattle.world_base.specs.Events.{Rules}
-use Rattle.world_letters.specs.epochs.Epochs.{Epochs, IsIssued}
-use Rattle.world_letters.specs.lives.Lives.{Lives}
-use Rattle.world_letters.specs.lives.Numbers.{gather-has}
+use Rattle.world_standing.specs.world_letters.epochs.Epochs.{Epochs, IsIssued}
+use Rattle.world_standing.specs.world_letters.lives.Lives.{Lives}
+use Rattle.world_standing.specs.world_letters.lives.Numbers.{gather-has}
 
 issued-low : (e lease : ℕ) → e / 256 ≤ lease → lease < 2 ^ 56 → e < 2 ^ 64
 issued-low e lease covered low = omega (arith, covered, low)

@@ -19,11 +19,11 @@ use Rattle.world_base.specs.declared.client.Present.{Present}
 use Rattle.world_base.specs.declared.world.World.{World}
 use Rattle.world_base.specs.Events.{Rules, client_plan, commands_or_none}
 use Rattle.world_base.specs.ClientTurns.{attempt_id}
-use Rattle.world_letters.specs.clients.AnswerLaws.{numbered-here}
-use Rattle.world_letters.specs.clients.Standing.{AreOfPresent, AreTriedAgain, HasTold, has_number, number_of}
-use Rattle.world_letters.specs.epochs.Epochs.{Epochs, IsIssued, IsPresent}
+use Rattle.world_standing.specs.world_letters.clients.AnswerLaws.{numbered-here}
+use Rattle.world_standing.specs.world_letters.clients.Standing.{AreOfPresent, AreTriedAgain, HasTold, has_number, number_of}
+use Rattle.world_standing.specs.world_letters.epochs.Epochs.{Epochs, IsIssued, IsPresent}
 use Rattle.world_legal.specs.forming.NumberForms.{in_turn-within, number-form}
-use Rattle.world_letters.specs.lines.Lines.{AreTheSame, IsTheSame, Lines}
+use Rattle.world_standing.specs.world_letters.lines.Lines.{AreTheSame, IsTheSame, Lines}
 
 -- ---- commands
 

@@ -18,7 +18,7 @@ use Rattle.daos_model.specs.Stops.{Standing, after, after_all, is_at, lines_at}
 use Rattle.dtx_base.specs.Leading.{is_led, is_open, to_target}
 use Rattle.dtx_base.specs.Members.{other_members}
 use Rattle.model_laws.specs.Members.{Has, contains-from_has, has-cases, has-from_filter, has-from_map, has-left, has-right}
-use Rattle.world_commit.specs.attempts.Counting.{has-left_over, has-taken}
+use Rattle.world_standing.specs.world_commit.attempts.Counting.{has-left_over, has-taken}
 use Rattle.world_base.specs.declared.client.ClientState.{ClientState}
 use Rattle.world_base.specs.declared.did.Did.{Did}
 use Rattle.world_base.specs.declared.letter.Letter.{Letter}
@@ -32,14 +32,14 @@ use Rattle.world_base.specs.Letters.{Takes, client, is_talk_of, is_tell, letter_
 use Rattle.world_base.specs.Snapshots.{freeze_to, prune_to}
 use Rattle.world_base.specs.Statuses.{opening_posts, status_to, statuses_for, statuses_of}
 use Rattle.world_base.specs.Stops.{Draws, Fails, Further, GivenUp, Happening, HearsMore, IsCut, Opens, Plainly, WorldEvent, is_down_at, is_given_up, is_not_to, is_not_to_down, is_to, is_to_down, reset_letter, resets, stops_so_far, swept}
-use Rattle.world_letters.specs.endings.Posts.{further-sent}
-use Rattle.world_letters.specs.endings.Telling.{AsksAgain, AsksFreezes, AsksPrunes, IsSent, Quietly, TellsAfter, is_collected}
-use Rattle.world_letters.specs.lines.EndingLaws.{all-hear-tell, idle-tells}
-use Rattle.world_letters.specs.lines.Lines.{Endings, TellsPlainly}
-use Rattle.world_letters.specs.lives.Lives.{Lives, standing_of}
-use Rattle.world_letters.specs.talks.TalkLaws.{sent-is-talk, taken-from, talk-none, talk-only}
-use Rattle.world_letters.specs.waits.ClientLaws.{present-of, question-about}
-use Rattle.world_letters.specs.waits.Waits.{Conversation, IsAsked, IsHeld, IsReplied, TalksSo, asked_of, held_of}
+use Rattle.world_standing.specs.world_letters.endings.Posts.{further-sent}
+use Rattle.world_standing.specs.world_letters.endings.Telling.{AsksAgain, AsksFreezes, AsksPrunes, IsSent, Quietly, TellsAfter, is_collected}
+use Rattle.world_standing.specs.world_letters.lines.EndingLaws.{all-hear-tell, idle-tells}
+use Rattle.world_standing.specs.world_letters.lines.Lines.{Endings, TellsPlainly}
+use Rattle.world_standing.specs.world_letters.lives.Lives.{Lives, standing_of}
+use Rattle.world_standing.specs.world_letters.talks.TalkLaws.{sent-is-talk, taken-from, talk-none, talk-only}
+use Rattle.world_standing.specs.world_letters.waits.ClientLaws.{present-of, question-about}
+use Rattle.world_standing.specs.world_letters.waits.Waits.{Conversation, IsAsked, IsHeld, IsReplied, TalksSo, asked_of, held_of}
 
 -- ---- the fact
 

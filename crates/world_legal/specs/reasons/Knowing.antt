@@ -9,11 +9,11 @@ use Rattle.base_messages.specs.declared.message.Message.TheVariants as message
 use Rattle.daos_model.specs.Changes.{reopened}
 use Rattle.dtx_base.specs.Members.{has_target}
 use Rattle.model_laws.specs.Members.{Has, has-left}
-use Rattle.world_commit.specs.asks.RowsKept.{IsFresh, hears-rows}
-use Rattle.world_commit.specs.attempts.Attempts.{row_in}
-use Rattle.world_commit.specs.attempts.Counting.{has-taken}
-use Rattle.world_commit.specs.attempts.History.{History}
-use Rattle.world_commit.specs.attempts.MemberBits.{has-none}
+use Rattle.world_standing.specs.world_commit.asks.RowsKept.{IsFresh, hears-rows}
+use Rattle.world_standing.specs.world_commit.attempts.Attempts.{row_in}
+use Rattle.world_standing.specs.world_commit.attempts.Counting.{has-taken}
+use Rattle.world_standing.specs.world_commit.attempts.History.{History}
+use Rattle.world_standing.specs.world_commit.attempts.MemberBits.{has-none}
 use Rattle.world_base.specs.declared.target.Life.TheVariants.{Down}
 use Rattle.world_base.specs.declared.target.TargetState.{TargetState}
 use Rattle.world_base.specs.declared.world.World.{World}
@@ -21,14 +21,14 @@ use Rattle.world_base.specs.Events.{ByClient, ByTarget, Rules, TargetHearsRightl
 use Rattle.world_base.specs.MemoryLaws.{idle-leaves}
 use Rattle.world_base.specs.Statuses.{opening_memory}
 use Rattle.world_base.specs.Stops.{Draws, Fails, Further, GivenUp, Happening, HearsMore, IsCut, Opens, Plainly, WorldEvent, opened_at, stopped_at, stops_so_far}
-use Rattle.world_commit.specs.fates.Facts.{Attempts}
-use Rattle.world_commit.specs.fates.Rightly.{letters-tell}
-use Rattle.world_commit.specs.questions.Flying.{IsWithoutCollections}
-use Rattle.world_commit.specs.questions.Hearing.{is_of_stops}
-use Rattle.world_commit.specs.questions.Sending.{TellsOfDown, more-down}
-use Rattle.world_contents.specs.reads.EventLaws.{at-or-there}
-use Rattle.world_commit.specs.requests.Rows.{CommitsFindNoRow}
-use Rattle.world_commit.specs.stops.Questions.{opening-down}
+use Rattle.world_standing.specs.world_commit.fates.Facts.{Attempts}
+use Rattle.world_standing.specs.world_commit.fates.Rightly.{letters-tell}
+use Rattle.world_standing.specs.world_commit.questions.Flying.{IsWithoutCollections}
+use Rattle.world_standing.specs.world_commit.questions.Hearing.{is_of_stops}
+use Rattle.world_standing.specs.world_commit.questions.Sending.{TellsOfDown, more-down}
+use Rattle.world_standing.specs.world_contents.reads.EventLaws.{at-or-there}
+use Rattle.world_standing.specs.world_commit.requests.Rows.{CommitsFindNoRow}
+use Rattle.world_standing.specs.world_commit.stops.Questions.{opening-down}
 use Rattle.world_legal.specs.reasons.Downs.{DownsAreTold, TellsDown}
 
 -- ---- the fact

@@ -6,10 +6,10 @@ use Rattle.base_messages.specs.declared.message.Message.TheVariants as message
 use Rattle.world_base.specs.declared.letter.Letter.{Letter}
 use Rattle.world_base.specs.declared.world.World.{World}
 use Rattle.world_base.specs.Events.{Rules, client_plan}
-use Rattle.world_causes.specs.handing.Handing.{IsAskedBy}
-use Rattle.world_letters.specs.talks.AskLaws.{sent-is-asked}
-use Rattle.world_letters.specs.talks.Conversation.{HearsRequest}
-use Rattle.world_letters.specs.waits.Waits.{IsQuestion, ItsAsk, ItsRequest}
+use Rattle.world_standing.specs.world_causes.handing.Handing.{IsAskedBy}
+use Rattle.world_standing.specs.world_letters.talks.AskLaws.{sent-is-asked}
+use Rattle.world_standing.specs.world_letters.talks.Conversation.{HearsRequest}
+use Rattle.world_standing.specs.world_letters.waits.Waits.{IsQuestion, ItsAsk, ItsRequest}
 
 -- what a client asked is its request, unless it asks what became of its attempt
 pub request-asked : (r : Rules) (w : World) (l : Letter) (rest : List Letter) → ((x : AttemptId) → l.message ≡ message.Ask x → ⊥) → IsAskedBy r w l rest → HearsRequest r w l rest

@@ -11,11 +11,11 @@ use Rattle.world_base.specs.declared.world.World.{World}
 use Rattle.world_base.specs.ClientTurns.{attempt_id, request_of, waits}
 use Rattle.world_base.specs.Events.{Rules, client_plan}
 use Rattle.world_base.specs.Letters.{client, talk_of}
-use Rattle.world_letters.specs.epochs.Epochs.{IsPresent}
-use Rattle.world_letters.specs.waits.ClientLaws.{present-of, question-about}
-use Rattle.world_letters.specs.waits.Passing.{held-beside}
-use Rattle.world_letters.specs.waits.Waits as holds
-use Rattle.world_letters.specs.waits.Waits.{Conversation, Held, HoldsIt, IsAsked, IsHeld, IsQuestion, IsReplied, OpenAt, TalksSo, asked_of, held_by, held_of, is_open_of, open_at, parked_at, is_parked_of}
+use Rattle.world_standing.specs.world_letters.epochs.Epochs.{IsPresent}
+use Rattle.world_standing.specs.world_letters.waits.ClientLaws.{present-of, question-about}
+use Rattle.world_standing.specs.world_letters.waits.Passing.{held-beside}
+use Rattle.world_standing.specs.world_letters.waits.Waits as holds
+use Rattle.world_standing.specs.world_letters.waits.Waits.{Conversation, Held, HoldsIt, IsAsked, IsHeld, IsQuestion, IsReplied, OpenAt, TalksSo, asked_of, held_by, held_of, is_open_of, open_at, parked_at, is_parked_of}
 
 module _ (r : Rules) (w : World) (k : Conversation r w) (t : ℕ) (s : TargetState) (here : slice_get w.targets t ≡ Some s) (u : Undecided) (i : Has u s.memory.leader.undecided) (n : ℕ) (waited : u.client ≡ Some (client n)) where
   opens : is_open_of n u ≡ true

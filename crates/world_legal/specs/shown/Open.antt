@@ -17,22 +17,22 @@ use Rattle.dtx_base.specs.Leading.{entry_led, query_answer, verdict_on}
 use Rattle.dtx_base.specs.Rows.{is_among}
 use Rattle.model_laws.specs.Lists.{any-of}
 use Rattle.model_laws.specs.Members.{Has, any-has, contains-from_has, has-any}
-use Rattle.world_commit.specs.attempts.Attempts.{entry_at, entry_in, is_known_at, is_known_in, leader_of}
-use Rattle.world_commit.specs.attempts.History.{History}
-use Rattle.world_commit.specs.attempts.Stored.{led-found}
+use Rattle.world_standing.specs.world_commit.attempts.Attempts.{entry_at, entry_in, is_known_at, is_known_in, leader_of}
+use Rattle.world_standing.specs.world_commit.attempts.History.{History}
+use Rattle.world_standing.specs.world_commit.attempts.Stored.{led-found}
 use Rattle.world_base.specs.declared.target.TargetState.{TargetState}
 use Rattle.world_base.specs.declared.world.World.{World}
 use Rattle.world_base.specs.Events.{Rules, target_plan}
 use Rattle.world_base.specs.Roles.{leader_at}
-use Rattle.world_causes.specs.causes.ReadTurns.{unended-open}
-use Rattle.world_causes.specs.causes.Shown.{IsOpenToAll, IsUnknown, LeaderStopped}
-use Rattle.world_causes.specs.causes.Turns.{HasNoLine}
+use Rattle.world_standing.specs.world_causes.causes.ReadTurns.{unended-open}
+use Rattle.world_standing.specs.world_causes.causes.Shown.{IsOpenToAll, IsUnknown, LeaderStopped}
+use Rattle.world_standing.specs.world_causes.causes.Turns.{HasNoLine}
 use Rattle.world_legal.specs.doubts.Doubts.{Doubts, InLines, IsInDoubt, ItsLeaderStopped}
 use Rattle.world_legal.specs.doubts.Recounting.{entry-writes}
-use Rattle.world_commit.specs.fates.Facts.{Attempts}
-use Rattle.world_causes.specs.hearing.Going.{EntriesWrite}
-use Rattle.world_causes.specs.outcomes.Outcomes.{Outcomes, is_failed, HasWrites}
-use Rattle.world_letters.specs.lives.Adding.{try-at}
+use Rattle.world_standing.specs.world_commit.fates.Facts.{Attempts}
+use Rattle.world_standing.specs.world_causes.hearing.Going.{EntriesWrite}
+use Rattle.world_standing.specs.world_causes.outcomes.Outcomes.{Outcomes, is_failed, HasWrites}
+use Rattle.world_standing.specs.world_letters.lives.Adding.{try-at}
 
 -- ---- lines
 

@@ -9,9 +9,9 @@ use Rattle.world_base.specs.declared.client.Present.{Present}
 use Rattle.world_base.specs.declared.request.FetchRequest.{FetchRequest}
 use Rattle.world_base.specs.Events.{Rules, client_plan}
 use Rattle.world_base.specs.Requests.{fetch_message}
-use Rattle.world_letters.specs.talks.AskLaws.{sent-is-asked}
-use Rattle.world_letters.specs.talks.Asked.{Asked}
-use Rattle.world_letters.specs.waits.Waits.{IsQuestion, ItsAsk, ItsRequest}
+use Rattle.world_standing.specs.world_letters.talks.AskLaws.{sent-is-asked}
+use Rattle.world_standing.specs.world_letters.talks.Asked.{Asked}
+use Rattle.world_standing.specs.world_letters.waits.Waits.{IsQuestion, ItsAsk, ItsRequest}
 
 -- a read that is asked
 pub read-sent : (r : Rules) (n : ℕ) (c : ClientState) (a : Present) (q : Post) (f : FetchRequest) → c.present ≡ Some a → IsQuestion (client_plan r n) c q → q.message ≡ fetch_message f → (k : Epoch) × (k.0 ≤ c.tracker.0) × Asked (client_plan r n) k c a q

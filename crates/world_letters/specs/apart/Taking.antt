@@ -5,8 +5,8 @@ use Rattle.std.proofs.lemmas.List.Elements.{filter-append}
 use Rattle.base_types.specs.declared.report.Line.{Line}
 use Rattle.base_types.specs.declared.report.Line.TheVariants as line
 use Rattle.base_messages.specs.declared.message.Message.{Message}
-use Rattle.model_laws.specs.Members.{Has}
-use Rattle.model_laws.specs.TargetLaws.{number_same}
+use Rattle.world_base.specs.model_laws.Members.{Has}
+use Rattle.world_base.specs.model_laws.TargetLaws.{number_same}
 use Rattle.daos_model.specs.Stops.{aggregate_numbers, restart_numbers}
 use Rattle.world_base.specs.declared.world.World.{World}
 use Rattle.world_base.specs.Events.{ByClient, ByTarget, Event, Rules, ToClient, ToTarget, client_plan, kept, target_plan, with_epoch}

@@ -19,7 +19,7 @@ use Rattle.base_types.specs.declared.script.Command.{Command}
 use Rattle.base_types.specs.declared.script.Command.TheVariants.{Run, Snap, Aggregate, Tell, Skip}
 use Rattle.base_types.specs.Scripts.{is_numbered}
 use Rattle.base_types.specs.declared.outcome.Cause.TheVariants.{Unresolved}
-use Rattle.model_laws.specs.Lists.{cut-at}
+use Rattle.world_base.specs.model_laws.Lists.{cut-at}
 use Rattle.base_messages.specs.declared.message.Message.{Message, more_of-Message}
 use Rattle.base_messages.specs.declared.message.Message.TheVariants as message
 use Rattle.base_messages.specs.declared.message.Reply.{Reply}

@@ -12,13 +12,13 @@ use Rattle.base_messages.specs.declared.message.Message.{Message}
 use Rattle.base_messages.specs.declared.message.Message.TheVariants as message
 use Rattle.base_messages.specs.declared.message.Post.{Post}
 use Rattle.base_messages.specs.declared.message.Reply.TheVariants as reply
-use Rattle.model_laws.specs.Members.{Has, has-cases, has-from_filter}
-use Rattle.dtx_base.specs.declared.leading.Undecided.{Undecided}
-use Rattle.dtx_base.specs.declared.member.Parked.{Parked}
-use Rattle.dtx_base.specs.Asking.{ask_heard, asked_of, asked_open, tells_end}
-use Rattle.dtx_base.specs.Joining as member
-use Rattle.dtx_base.specs.Leading.{LeaderOf, down_told, ended, entry_led, first_down, mark_reset, prepare_reset, quietly, reset_of, to_target, undecided_of}
-use Rattle.dtx_base.specs.Rows.{is_among}
+use Rattle.world_base.specs.model_laws.Members.{Has, has-cases, has-from_filter}
+use Rattle.world_base.specs.dtx_base.declared.leading.Undecided.{Undecided}
+use Rattle.world_base.specs.dtx_base.declared.member.Parked.{Parked}
+use Rattle.world_base.specs.dtx_base.Asking.{ask_heard, asked_of, asked_open, tells_end}
+use Rattle.world_base.specs.dtx_base.Joining as member
+use Rattle.world_base.specs.dtx_base.Leading.{LeaderOf, down_told, ended, entry_led, first_down, mark_reset, prepare_reset, quietly, reset_of, to_target, undecided_of}
+use Rattle.world_base.specs.dtx_base.Rows.{is_among}
 use Rattle.world_base.specs.declared.target.TargetMemory.{TargetMemory}
 use Rattle.world_base.specs.declared.target.TargetPlan.{TargetPlan}
 use Rattle.world_base.specs.Changes.{Kept}

@@ -4,9 +4,9 @@ use Rattle.std.proofs.Common.{sym, ap, subst, inl, inr}
 use Rattle.base_types.specs.declared.entry.Entry.{Entry}
 use Rattle.daos_model.specs.declared.durable.Durable.{Durable}
 use Rattle.daos_model.specs.Changes.{reopened}
-use Rattle.dtx_base.specs.Leading.{is_led, is_open}
-use Rattle.dtx_base.specs.Members.{other_members}
-use Rattle.model_laws.specs.Members.{Has, contains-from_has, has-cases, has-from_contains, has-from_filter, has-from_map}
+use Rattle.world_base.specs.dtx_base.Leading.{is_led, is_open}
+use Rattle.world_base.specs.dtx_base.Members.{other_members}
+use Rattle.world_base.specs.model_laws.Members.{Has, contains-from_has, has-cases, has-from_contains, has-from_filter, has-from_map}
 use Rattle.world_base.specs.declared.letter.Letter.{Letter}
 use Rattle.world_base.specs.declared.world.World.{World}
 use Rattle.world_base.specs.ClientTurns.{heard, listed}
@@ -24,7 +24,7 @@ use Rattle.world_letters.specs.endings.Posts.{further-sent}
 use Rattle.world_letters.specs.endings.Telling.{AsksAgain, AsksFreezes, AsksPrunes, IsSent, Quietly, after-ends, is_collected}
 use Rattle.world_base.specs.declared.did.Did.{Did}
 use Rattle.world_base.specs.Snapshots.{freeze_to, prune_to}
-use Rattle.dtx_base.specs.Leading.{to_target}
+use Rattle.world_base.specs.dtx_base.Leading.{to_target}
 use Rattle.base_messages.specs.declared.message.Message.{Message}
 use Rattle.base_messages.specs.declared.message.Message.TheVariants as message
 use Rattle.base_messages.specs.declared.message.Post.{Post}

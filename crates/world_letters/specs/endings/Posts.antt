@@ -14,8 +14,8 @@ use Rattle.base_messages.specs.declared.actor.ActorId.{ActorId}
 use Rattle.base_messages.specs.declared.message.Message.{Message, more_of-Message}
 use Rattle.base_messages.specs.declared.message.Message.TheVariants as message
 use Rattle.base_messages.specs.declared.message.Post.{Post}
-use Rattle.dtx_base.specs.Joining as member
-use Rattle.dtx_base.specs.Leading.{to_target}
+use Rattle.world_base.specs.dtx_base.Joining as member
+use Rattle.world_base.specs.dtx_base.Leading.{to_target}
 use Rattle.vos_store.specs.declared.refusal.FreezeNo.{FreezeNo}
 use Rattle.vos_store.specs.declared.refusal.FreezeNo.TheVariants as freeze
 use Rattle.vos_store.specs.Answers.{freezes}

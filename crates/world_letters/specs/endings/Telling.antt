@@ -7,8 +7,8 @@ use Rattle.base_types.specs.declared.key.Key.{Key}
 use Rattle.base_messages.specs.declared.message.Message.{Message, more_of-Message}
 use Rattle.base_messages.specs.declared.message.Message.TheVariants as message
 use Rattle.base_messages.specs.declared.message.Post.{Post}
-use Rattle.model_laws.specs.Members.{Has}
-use Rattle.dtx_base.specs.Leading.{to_target}
+use Rattle.world_base.specs.model_laws.Members.{Has}
+use Rattle.world_base.specs.dtx_base.Leading.{to_target}
 use Rattle.world_base.specs.declared.did.Did.{Did}
 use Rattle.world_base.specs.Snapshots.{freeze_to, prune_to}
 use Rattle.world_letters.specs.clients.Answered.{is_refusal}

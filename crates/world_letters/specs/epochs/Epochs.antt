@@ -21,7 +21,7 @@ use Rattle.daos_model.specs.Accesses.{minor_writes}
 use Rattle.daos_model.specs.Attempts.{has_own_epoch, is_unsure, tries, is_lost, snapshot_of}
 use Rattle.daos_model.specs.Order.{AllRise, AreIssued, told_by}
 use Rattle.daos_model.specs.Transactions.{attempt_ops, command_of}
-use Rattle.dtx_base.specs.declared.member.Parked.{Parked}
+use Rattle.world_base.specs.dtx_base.declared.member.Parked.{Parked}
 use Rattle.world_base.specs.declared.client.ClientState.{ClientState}
 use Rattle.world_base.specs.declared.client.Present.{Present}
 use Rattle.world_base.specs.declared.client.Stage.{Stage}

@@ -9,7 +9,7 @@ use Rattle.base_types.specs.declared.id.AttemptId.{AttemptId}
 use Rattle.base_types.specs.declared.report.Attempt.{Attempt}
 use Rattle.base_types.specs.declared.report.Line.{Line}
 use Rattle.base_types.specs.declared.report.Line.TheVariants as line
-use Rattle.model_laws.specs.EntryLaws.{same-attempt}
+use Rattle.world_base.specs.model_laws.EntryLaws.{same-attempt}
 use Rattle.daos_model.specs.Attempts.{EachTry, tries, epoch_or_none, has_own_epoch, own_epochs}
 use Rattle.daos_model.specs.Durables.{same_attempt}
 use Rattle.daos_model.specs.EntryLaws.{same_attempt-itself}

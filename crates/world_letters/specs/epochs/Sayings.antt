@@ -7,7 +7,7 @@ use Rattle.base_types.specs.declared.entry.Settle.{Settle}
 use Rattle.base_types.specs.declared.entry.Settle.TheVariants.{Abort, Commit, Confirm, Forget}
 use Rattle.base_types.specs.declared.epoch.Epoch.{Epoch}
 use Rattle.base_types.specs.declared.id.AttemptId.{AttemptId}
-use Rattle.model_laws.specs.EntryLaws.{same-attempt}
+use Rattle.world_base.specs.model_laws.EntryLaws.{same-attempt}
 use Rattle.base_messages.specs.declared.actor.ActorId.{ActorId}
 use Rattle.daos_model.specs.declared.durable.Durable.{Durable}
 use Rattle.daos_model.specs.Answers.{is_before}

@@ -6,7 +6,7 @@ use Rattle.std.proofs.lemmas.Option.{cond_some}
 use Rattle.base_types.specs.declared.epoch.Epoch.{Epoch}
 use Rattle.base_types.specs.declared.id.AttemptId.{AttemptId}
 use Rattle.base_types.specs.Epochs.{issued_ticks, last_ticks}
-use Rattle.daos_hlc.specs.Clock.{next_ticks}
+use Rattle.world_base.specs.daos_hlc.Clock.{next_ticks}
 use Rattle.base_messages.specs.declared.message.Message.{Message}
 use Rattle.world_base.specs.declared.did.Did.{Did}
 use Rattle.world_base.specs.declared.target.TargetMemory.{TargetMemory}

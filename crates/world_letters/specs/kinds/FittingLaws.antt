@@ -36,8 +36,8 @@ use Rattle.daos_model.specs.EntryLaws.{same_attempt-itself}
 use Rattle.daos_model.specs.Kinds.{is_of_kind}
 use Rattle.daos_model.specs.OrderLaws.{rising-names}
 use Rattle.daos_model.specs.Transactions.{numbered, ops_of, ops_or_none, read_of, read_of_op}
-use Rattle.model_laws.specs.EntryLaws.{same-attempt}
-use Rattle.model_laws.specs.Groups.{join_two}
+use Rattle.world_base.specs.model_laws.EntryLaws.{same-attempt}
+use Rattle.world_base.specs.model_laws.Groups.{join_two}
 use Rattle.world_base.specs.declared.client.ClientPlan.{ClientPlan}
 use Rattle.world_base.specs.declared.client.ClientState.{ClientState}
 use Rattle.world_base.specs.declared.client.Present.{Present}

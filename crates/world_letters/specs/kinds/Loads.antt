@@ -11,8 +11,8 @@ use Rattle.base_messages.specs.declared.message.Reply.{Reply}
 use Rattle.base_messages.specs.declared.message.Reply.TheVariants as reply
 use Rattle.daos_model.specs.Durables.{same_attempt}
 use Rattle.daos_model.specs.Kinds.{is_of_kind}
-use Rattle.dtx_base.specs.declared.member.MemberMemory.{MemberMemory}
-use Rattle.dtx_base.specs.declared.member.Parked.{Parked}
+use Rattle.world_base.specs.dtx_base.declared.member.MemberMemory.{MemberMemory}
+use Rattle.world_base.specs.dtx_base.declared.member.Parked.{Parked}
 use Rattle.world_base.specs.declared.letter.Letter.{Letter}
 
 -- two reads ask for answers of one kind

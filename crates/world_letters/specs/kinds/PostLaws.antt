@@ -17,16 +17,16 @@ use Rattle.base_messages.specs.declared.actor.ActorId.{ActorId}
 use Rattle.base_messages.specs.declared.message.Message.{Message}
 use Rattle.base_messages.specs.declared.message.Message.TheVariants as message
 use Rattle.base_messages.specs.declared.message.Post.{Post}
-use Rattle.dtx_base.specs.declared.leading.Naming.{Naming}
-use Rattle.dtx_base.specs.declared.leading.Undecided.{Undecided}
-use Rattle.dtx_base.specs.declared.member.MemberMemory.{MemberMemory}
-use Rattle.dtx_base.specs.declared.member.Parked.{Parked}
-use Rattle.dtx_base.specs.Asking.{ask_heard, asked_of, asked_open}
-use Rattle.dtx_base.specs.Joining.{MemberOf, all_unresolved_told, inquired, inquiry_for, is_parked_on, is_waiting, parked_ask, query_for, reset_heard, resolved, to_inquire, unresolved, unresolved_told, verdict_heard}
-use Rattle.dtx_base.specs.Leading as leading
-use Rattle.dtx_base.specs.Leading.{LeaderOf, abort_to, ack_heard, answer_heard, answer_if_awaited, batched, begun, begun_alone, begun_with_others, commit_mark, down_told, ended, entry_led, first_down, mark_reset, mark_with, marks_for, owed, prepare_reset, prepare_to, quietly, to_target, undecided_of}
-use Rattle.dtx_base.specs.Members.{all_targets, are_all_counted, is_other_member, other_members, with_target}
-use Rattle.dtx_base.specs.Rows.{is_among, is_empty}
+use Rattle.world_base.specs.dtx_base.declared.leading.Naming.{Naming}
+use Rattle.world_base.specs.dtx_base.declared.leading.Undecided.{Undecided}
+use Rattle.world_base.specs.dtx_base.declared.member.MemberMemory.{MemberMemory}
+use Rattle.world_base.specs.dtx_base.declared.member.Parked.{Parked}
+use Rattle.world_base.specs.dtx_base.Asking.{ask_heard, asked_of, asked_open}
+use Rattle.world_base.specs.dtx_base.Joining.{MemberOf, all_unresolved_told, inquired, inquiry_for, is_parked_on, is_waiting, parked_ask, query_for, reset_heard, resolved, to_inquire, unresolved, unresolved_told, verdict_heard}
+use Rattle.world_base.specs.dtx_base.Leading as leading
+use Rattle.world_base.specs.dtx_base.Leading.{LeaderOf, abort_to, ack_heard, answer_heard, answer_if_awaited, batched, begun, begun_alone, begun_with_others, commit_mark, down_told, ended, entry_led, first_down, mark_reset, mark_with, marks_for, owed, prepare_reset, prepare_to, quietly, to_target, undecided_of}
+use Rattle.world_base.specs.dtx_base.Members.{all_targets, are_all_counted, is_other_member, other_members, with_target}
+use Rattle.world_base.specs.dtx_base.Rows.{is_among, is_empty}
 use Rattle.world_base.specs.Statuses.{status_to, statuses_for, statuses_of}
 use Rattle.world_letters.specs.kinds.Loads.{load, parked_load, post_load, total}
 use Rattle.world_letters.specs.kinds.LoadLaws.{end-carries, total-append, total-map, total-none, total-parts}

@@ -8,11 +8,11 @@ use Rattle.base_messages.specs.declared.actor.ActorId.{ActorId}
 use Rattle.base_messages.specs.declared.message.Message.{Message}
 use Rattle.base_messages.specs.declared.message.Message.TheVariants.{Fetch, Fetched}
 use Rattle.base_messages.specs.declared.message.Post.{Post}
-use Rattle.dtx_base.specs.declared.leading.LeaderMemory.{LeaderMemory}
-use Rattle.dtx_base.specs.declared.member.Freed.{Freed}
-use Rattle.dtx_base.specs.declared.member.MemberMemory.{MemberMemory}
-use Rattle.dtx_base.specs.Joining.{MemberOf, member_step, reset_heard}
-use Rattle.dtx_base.specs.Leading.{LeaderStep}
+use Rattle.world_base.specs.dtx_base.declared.leading.LeaderMemory.{LeaderMemory}
+use Rattle.world_base.specs.dtx_base.declared.member.Freed.{Freed}
+use Rattle.world_base.specs.dtx_base.declared.member.MemberMemory.{MemberMemory}
+use Rattle.world_base.specs.dtx_base.Joining.{MemberOf, member_step, reset_heard}
+use Rattle.world_base.specs.dtx_base.Leading.{LeaderStep}
 use Rattle.world_base.specs.declared.did.Did.{Did}
 use Rattle.world_base.specs.Requests.{says}
 use Rattle.world_letters.specs.kinds.Loads.{AnswersOnce, load, parked_load, post_load, total}

@@ -14,15 +14,15 @@ use Rattle.base_messages.specs.declared.actor.ActorId.{ActorId}
 use Rattle.base_messages.specs.declared.message.Message.{Message}
 use Rattle.base_messages.specs.declared.message.Message.TheVariants as message
 use Rattle.base_messages.specs.declared.message.Post.{Post}
-use Rattle.model_laws.specs.Members.{Has, contains-from_has, has-cases, has-from_contains, has-from_map}
+use Rattle.world_base.specs.model_laws.Members.{Has, contains-from_has, has-cases, has-from_contains, has-from_map}
 use Rattle.daos_model.specs.declared.durable.Durable.{Durable}
-use Rattle.dtx_base.specs.declared.leading.Naming.{Naming}
-use Rattle.dtx_base.specs.declared.leading.Undecided.{Undecided}
-use Rattle.dtx_base.specs.declared.member.Parked.{Parked}
-use Rattle.dtx_base.specs.Joining.{all_unresolved_told, inquired, inquiry_for, is_waiting, to_inquire, unresolved, unresolved_told, verdict_heard}
-use Rattle.dtx_base.specs.Leading.{LeaderOf, abort_to, attempts_of, ack_heard, answer_heard, answer_if_awaited, batched, begun, begun_alone, begun_with_others, commit_mark, counted_at, decided, ended, entry_led, mark_with, marks_for, ok_heard, owed, prepare_to, quietly, to_target, undecided_of, with_undecided}
-use Rattle.dtx_base.specs.Members.{all_targets, are_all_counted, is_other_member, other_members, with_target}
-use Rattle.dtx_base.specs.Rows.{is_empty}
+use Rattle.world_base.specs.dtx_base.declared.leading.Naming.{Naming}
+use Rattle.world_base.specs.dtx_base.declared.leading.Undecided.{Undecided}
+use Rattle.world_base.specs.dtx_base.declared.member.Parked.{Parked}
+use Rattle.world_base.specs.dtx_base.Joining.{all_unresolved_told, inquired, inquiry_for, is_waiting, to_inquire, unresolved, unresolved_told, verdict_heard}
+use Rattle.world_base.specs.dtx_base.Leading.{LeaderOf, abort_to, attempts_of, ack_heard, answer_heard, answer_if_awaited, batched, begun, begun_alone, begun_with_others, commit_mark, counted_at, decided, ended, entry_led, mark_with, marks_for, ok_heard, owed, prepare_to, quietly, to_target, undecided_of, with_undecided}
+use Rattle.world_base.specs.dtx_base.Members.{all_targets, are_all_counted, is_other_member, other_members, with_target}
+use Rattle.world_base.specs.dtx_base.Rows.{is_empty}
 use Rattle.world_letters.specs.clients.Answered.{is_refusal}
 use Rattle.world_base.specs.declared.client.ClientPlan.{ClientPlan}
 use Rattle.world_base.specs.declared.client.ClientState.{ClientState}

@@ -8,8 +8,8 @@ use Rattle.base_types.specs.declared.report.Attempt.{Attempt}
 use Rattle.base_types.specs.declared.report.Line.{Line}
 use Rattle.base_types.specs.declared.report.Line.TheVariants as line
 use Rattle.base_types.specs.declared.script.Command.{Command}
-use Rattle.model_laws.specs.Members.{Has, has-cases}
-use Rattle.model_laws.specs.TargetLaws.{number_same, same_number}
+use Rattle.world_base.specs.model_laws.Members.{Has, has-cases}
+use Rattle.world_base.specs.model_laws.TargetLaws.{number_same, same_number}
 use Rattle.daos_model.specs.Attempts.{is_of_client, tried, tries, tries_of}
 use Rattle.daos_model.specs.Laws.{tries-append}
 use Rattle.daos_model.specs.Order.{AreAttempts, AreInTurn}

@@ -14,8 +14,8 @@ use Rattle.base_messages.specs.declared.message.Message.TheVariants as message
 use Rattle.base_messages.specs.declared.message.Post.{Post}
 use Rattle.base_messages.specs.declared.message.Reply.{Reply}
 use Rattle.base_messages.specs.declared.message.Reply.TheVariants as reply
-use Rattle.model_laws.specs.Members.{has-right}
-use Rattle.model_laws.specs.TargetLaws.{number_same, same_number}
+use Rattle.world_base.specs.model_laws.Members.{has-right}
+use Rattle.world_base.specs.model_laws.TargetLaws.{number_same, same_number}
 use Rattle.daos_model.specs.Attempts.{tries, tries_of}
 use Rattle.daos_model.specs.Transactions.{ops_or_none}
 use Rattle.world_base.specs.declared.client.ClientPlan.{ClientPlan}

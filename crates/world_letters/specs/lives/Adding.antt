@@ -10,8 +10,8 @@ use Rattle.std.proofs.lemmas.Option.{slice_get_within}
 use Rattle.base_types.specs.declared.report.Line.{Line}
 use Rattle.base_types.specs.declared.report.Line.TheVariants as line
 use Rattle.base_types.specs.Epochs.{restart_floor}
-use Rattle.model_laws.specs.Members.{Has}
-use Rattle.model_laws.specs.TargetLaws.{number_same, same_number}
+use Rattle.world_base.specs.model_laws.Members.{Has}
+use Rattle.world_base.specs.model_laws.TargetLaws.{number_same, same_number}
 use Rattle.daos_model.specs.Stops as told
 use Rattle.daos_model.specs.Stops.{AreCounted, HasTarget, Standing, after, after_all, aggregate_numbers, aggregated_number, floors, incarnations, is_at, is_number, lines_at, opened_floor, opened_incarnation, restart_numbers, restarted_number, stop_numbers, stopped_number, target_of}
 use Rattle.world_base.specs.declared.target.TargetState.{TargetState}

@@ -18,7 +18,7 @@ use Rattle.base_messages.specs.declared.message.Message.TheVariants as message
 use Rattle.base_messages.specs.declared.message.Post.{Post}
 use Rattle.base_messages.specs.declared.message.Reply.{Reply}
 use Rattle.base_messages.specs.declared.message.Reply.TheVariants as reply
-use Rattle.model_laws.specs.Members.{Has, has-cases}
+use Rattle.world_base.specs.model_laws.Members.{Has, has-cases}
 use Rattle.daos_model.specs.Accesses.{minor_writes, op_path}
 use Rattle.daos_model.specs.Conditions.{holds_where}
 use Rattle.world_base.specs.declared.client.ClientPlan.{ClientPlan}

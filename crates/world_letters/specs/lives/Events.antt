@@ -12,8 +12,8 @@ use Rattle.base_types.specs.declared.report.Line.{Line}
 use Rattle.base_types.specs.declared.report.Line.TheVariants as line
 use Rattle.base_messages.specs.declared.message.Message.{Message}
 use Rattle.base_messages.specs.declared.message.Message.TheVariants.{Marked}
-use Rattle.model_laws.specs.Members.{Has, has-cases, has-from_filter, has-from_map}
-use Rattle.model_laws.specs.TargetLaws.{same_number}
+use Rattle.world_base.specs.model_laws.Members.{Has, has-cases, has-from_filter, has-from_map}
+use Rattle.world_base.specs.model_laws.TargetLaws.{same_number}
 use Rattle.daos_model.specs.Changes.{reopened}
 use Rattle.daos_model.specs.Stops as told
 use Rattle.daos_model.specs.Stops.{AreCounted, HasTarget, after_all, aggregate_numbers, aggregated_number, floors, incarnations, is_at, lines_at, opened_floor, opened_incarnation, restart_numbers, restarted_number, stop_numbers, stopped_number, target_of}

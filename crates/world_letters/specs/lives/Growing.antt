@@ -3,7 +3,7 @@ use Rattle.std.specs.Prelude.{ℕ, ◌≡◌, ◌++◌, ◌==◌, Bool, true, fa
 use Rattle.std.proofs.Common.{append-nil, append_assoc, inl, inr, sym, ◌∙◌, ap}
 use Rattle.base_types.specs.declared.report.Line.{Line}
 use Rattle.daos_model.specs.Stops.{stop_numbers}
-use Rattle.model_laws.specs.TargetLaws.{same_number}
+use Rattle.world_base.specs.model_laws.TargetLaws.{same_number}
 use Rattle.world_base.specs.declared.world.World.{World}
 use Rattle.world_base.specs.Events.{Rules}
 use Rattle.world_base.specs.Stops.{Begins, Goes, Happening, WorldEvent, WorldRun}

@@ -3,11 +3,11 @@ use Rattle.base_types.specs.declared.id.AttemptId.{AttemptId}
 use Rattle.world_base.specs.Events.{ByClient, ByTarget, Rules, ToClient, ToTarget, listed}
 use Rattle.world_base.specs.Stops.{Draws, Fails, Further, GivenUp, Happening, IsCut, Opens, Plainly}
 use Rattle.base_types.specs.declared.epoch.Epoch.{Epoch}
-use Rattle.model_laws.specs.Members.{Has, has-left}
+use Rattle.world_base.specs.model_laws.Members.{Has, has-left}
 use Rattle.world_base.specs.declared.world.World.{World}
 use Rattle.std.proofs.Common.{subst, sym}
 use Rattle.std.specs.Prelude.{Contains}
-use Rattle.model_laws.specs.Members.{contains-from_has, has-from_contains}
+use Rattle.world_base.specs.model_laws.Members.{contains-from_has, has-from_contains}
 
 -- what was issued stays issued
 pub issued-stays : (r : Rules) (w u : World) → Happening r w u → (i : AttemptId × Epoch) → Has i w.issued → Has i u.issued

@@ -8,8 +8,8 @@ use Rattle.base_types.specs.declared.report.Line.{Line}
 use Rattle.base_types.specs.declared.report.Line.TheVariants as line
 use Rattle.base_types.specs.declared.report.Report.{Report}
 use Rattle.base_types.specs.declared.script.Script.{Script}
-use Rattle.model_laws.specs.Members.{Has, has-filter, has-from_contains}
-use Rattle.model_laws.specs.TargetLaws.{number_same, same_number}
+use Rattle.world_base.specs.model_laws.Members.{Has, has-filter, has-from_contains}
+use Rattle.world_base.specs.model_laws.TargetLaws.{number_same, same_number}
 use Rattle.daos_model.specs.Opening.{Outside}
 use Rattle.daos_model.specs.Stops as told
 use Rattle.daos_model.specs.Stops.{AreCounted, AreNumbered, AtMostWith, HasTarget, IsGivenUpBy, Standing, StopsLegal, StopsLegalAt, after, after_all, aggregate_numbers, down_targets, floors, given_up, incarnations, is_at, is_stop_at, least, lines_at, restart_numbers, stop_numbers, target_of}

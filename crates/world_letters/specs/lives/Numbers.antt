@@ -8,7 +8,7 @@ use Rattle.std.proofs.lemmas.Bool.{cases_lt}
 use Rattle.std.proofs.lemmas.List.Sorted.{IsNonDecreasingBy-push}
 use Rattle.base_types.specs.declared.report.Line.{Line}
 use Rattle.daos_model.specs.Stops.{AreCounted}
-use Rattle.model_laws.specs.Members.{Has, has-left, has-right}
+use Rattle.world_base.specs.model_laws.Members.{Has, has-left, has-right}
 
 -- ---- rising
 

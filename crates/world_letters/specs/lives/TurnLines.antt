@@ -13,7 +13,7 @@ use Rattle.base_types.specs.declared.report.Line.TheVariants as line
 use Rattle.base_messages.specs.declared.actor.ActorId.{ActorId}
 use Rattle.base_messages.specs.declared.message.Message.{Message, more_of-Message}
 use Rattle.base_messages.specs.declared.message.Message.TheVariants as message
-use Rattle.model_laws.specs.Members.{Has, has-cases}
+use Rattle.world_base.specs.model_laws.Members.{Has, has-cases}
 use Rattle.daos_model.specs.Stops.{aggregate_numbers}
 use Rattle.world_base.specs.declared.did.Did.{Did}
 use Rattle.world_base.specs.declared.request.CommitRequest.{CommitRequest}

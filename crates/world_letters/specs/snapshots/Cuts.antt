@@ -10,7 +10,7 @@ use Rattle.base_types.specs.declared.report.Line.TheVariants as line
 use Rattle.base_messages.specs.declared.actor.ActorId.{ActorId}
 use Rattle.base_messages.specs.declared.message.Message.{Message}
 use Rattle.base_messages.specs.declared.message.Message.TheVariants as message
-use Rattle.model_laws.specs.Members.{Has}
+use Rattle.world_base.specs.model_laws.Members.{Has}
 use Rattle.daos_model.specs.declared.durable.Durable.{Durable}
 use Rattle.world_base.specs.declared.request.CommitRequest.{CommitRequest}
 use Rattle.world_base.specs.declared.target.TargetMemory.{TargetMemory}

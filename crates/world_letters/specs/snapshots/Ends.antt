@@ -7,7 +7,7 @@ use Rattle.base_types.specs.declared.id.ContId.{ContId}
 use Rattle.base_types.specs.declared.report.Attempt.{Attempt}
 use Rattle.base_types.specs.declared.report.Line.{Line}
 use Rattle.base_types.specs.declared.report.Line.TheVariants as line
-use Rattle.model_laws.specs.Lists.{any-of}
+use Rattle.world_base.specs.model_laws.Lists.{any-of}
 use Rattle.daos_model.specs.Attempts.{tries}
 use Rattle.daos_model.specs.Snapshots.{Aggregates, ComesFrom, MakesSnapshot, MakesSnapshotAt}
 use Rattle.daos_model.specs.Transactions.{command_of}

@@ -17,12 +17,12 @@ use Rattle.base_messages.specs.declared.message.Message.{Message, more_of-Messag
 use Rattle.base_messages.specs.declared.message.Message.TheVariants as message
 use Rattle.base_messages.specs.declared.message.Post.{Post}
 use Rattle.std.proofs.lemmas.Bool.{cases_eq}
-use Rattle.model_laws.specs.Members.{Has, contains-from_has, has-cases, has-from_contains, has-from_filter, has-from_map, has-left, has-right}
+use Rattle.world_base.specs.model_laws.Members.{Has, contains-from_has, has-cases, has-from_contains, has-from_filter, has-from_map, has-left, has-right}
 use Rattle.daos_model.specs.Changes.{reopened}
 use Rattle.daos_model.specs.declared.durable.Durable.{Durable}
 use Rattle.daos_model.specs.Transactions.{command_of, numbered, numbered_at}
-use Rattle.dtx_base.specs.Leading.{is_led, is_open, to_target}
-use Rattle.dtx_base.specs.Members.{other_members}
+use Rattle.world_base.specs.dtx_base.Leading.{is_led, is_open, to_target}
+use Rattle.world_base.specs.dtx_base.Members.{other_members}
 use Rattle.world_base.specs.declared.client.ClientState.{ClientState}
 use Rattle.world_base.specs.declared.client.Present.{Present}
 use Rattle.world_base.specs.declared.did.Did.{Did}

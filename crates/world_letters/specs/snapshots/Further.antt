@@ -12,9 +12,9 @@ use Rattle.base_types.specs.declared.report.Line.TheVariants as line
 use Rattle.base_messages.specs.declared.actor.ActorId.{ActorId}
 use Rattle.base_messages.specs.declared.message.Message.{Message}
 use Rattle.base_messages.specs.declared.message.Message.TheVariants as message
-use Rattle.model_laws.specs.Members.{Has, has-cases, has-from_filter, has-from_map}
+use Rattle.world_base.specs.model_laws.Members.{Has, has-cases, has-from_filter, has-from_map}
 use Rattle.daos_model.specs.Durables.{same_attempt}
-use Rattle.dtx_base.specs.Members.{with_target}
+use Rattle.world_base.specs.dtx_base.Members.{with_target}
 use Rattle.world_base.specs.declared.did.Did.{Did}
 use Rattle.world_base.specs.declared.request.CommitRequest.{CommitRequest}
 use Rattle.world_base.specs.declared.target.Collection.{Collection}

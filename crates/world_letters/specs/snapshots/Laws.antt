@@ -3,7 +3,7 @@ use Rattle.std.specs.Prelude.{ℕ, ◌≡◌, ◌<◌, [], All, slice_get, Some}
 use Rattle.base_types.specs.declared.epoch.Epoch.{Epoch}
 use Rattle.base_types.specs.declared.id.AttemptId.{AttemptId}
 use Rattle.base_types.specs.declared.report.Attempt.{Attempt}
-use Rattle.model_laws.specs.Members.{Has}
+use Rattle.world_base.specs.model_laws.Members.{Has}
 use Rattle.daos_model.specs.Attempts.{tries}
 use Rattle.daos_model.specs.Snapshots.{ComesFrom}
 use Rattle.world_base.specs.declared.target.TargetState.{TargetState}

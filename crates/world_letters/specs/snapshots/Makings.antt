@@ -8,7 +8,7 @@ use Rattle.base_types.specs.declared.report.Line.TheVariants as line
 use Rattle.base_types.specs.declared.script.Command.TheVariants.{Aggregate, Snap}
 use Rattle.base_messages.specs.declared.message.Message.{Message, more_of-Message}
 use Rattle.base_messages.specs.declared.message.Message.TheVariants as message
-use Rattle.model_laws.specs.Members.{Has}
+use Rattle.world_base.specs.model_laws.Members.{Has}
 use Rattle.daos_model.specs.Transactions.{command_of}
 use Rattle.world_base.specs.declared.letter.Letter.{Letter}
 use Rattle.world_base.specs.declared.target.Collection.{Collection}

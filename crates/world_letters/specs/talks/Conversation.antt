@@ -14,7 +14,7 @@ use Rattle.world_base.specs.ClientTurns.{moved, waits}
 use Rattle.base_messages.specs.declared.actor.ActorId.{ActorId}
 use Rattle.base_types.specs.declared.id.AttemptId.{AttemptId}
 use Rattle.world_base.specs.declared.letter.Letter.{Letter}
-use Rattle.dtx_base.specs.declared.leading.Undecided.{Undecided}
+use Rattle.world_base.specs.dtx_base.declared.leading.Undecided.{Undecided}
 use Rattle.world_letters.specs.talks.Asked.{Asked}
 use Rattle.world_base.specs.Events.{Rules, client_plan}
 use Rattle.world_base.specs.declared.world.World.{World}

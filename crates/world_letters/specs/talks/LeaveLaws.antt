@@ -9,18 +9,18 @@ use Rattle.base_types.specs.declared.outcome.Cause.TheVariants as cause
 use Rattle.base_types.specs.declared.outcome.FloorWhy.{FloorWhy}
 use Rattle.base_types.specs.declared.outcome.Outcome.{Outcome}
 use Rattle.base_types.specs.declared.outcome.Outcome.TheVariants as outcome
-use Rattle.model_laws.specs.Members.{Has, has-from_map}
+use Rattle.world_base.specs.model_laws.Members.{Has, has-from_map}
 use Rattle.base_messages.specs.declared.actor.ActorId.{ActorId}
 use Rattle.base_messages.specs.declared.message.Message.TheVariants as message
 use Rattle.base_messages.specs.declared.message.Post.{Post}
 use Rattle.base_messages.specs.declared.message.Reply.{Reply}
 use Rattle.base_messages.specs.declared.message.Reply.TheVariants as reply
 use Rattle.daos_model.specs.Durables.{same_attempt}
-use Rattle.dtx_base.specs.declared.leading.Undecided.{Undecided}
-use Rattle.dtx_base.specs.Joining as member
-use Rattle.dtx_base.specs.Leading.{LeaderOf, LeaderStep, abort_to, ack_heard, answer_heard, answer_if_awaited, begun, begun_alone, begun_with_others, counted_at, decided, ended, entry_led, marked_heard, new_undecided, ok_heard, prepare_to, quietly, undecided_attempt, undecided_of, with_undecided}
-use Rattle.dtx_base.specs.Members.{are_all_counted, is_other_member, other_members, with_target}
-use Rattle.dtx_base.specs.Rows.{is_empty, with_row, without_row}
+use Rattle.world_base.specs.dtx_base.declared.leading.Undecided.{Undecided}
+use Rattle.world_base.specs.dtx_base.Joining as member
+use Rattle.world_base.specs.dtx_base.Leading.{LeaderOf, LeaderStep, abort_to, ack_heard, answer_heard, answer_if_awaited, begun, begun_alone, begun_with_others, counted_at, decided, ended, entry_led, marked_heard, new_undecided, ok_heard, prepare_to, quietly, undecided_attempt, undecided_of, with_undecided}
+use Rattle.world_base.specs.dtx_base.Members.{are_all_counted, is_other_member, other_members, with_target}
+use Rattle.world_base.specs.dtx_base.Rows.{is_empty, with_row, without_row}
 use Rattle.world_base.specs.declared.did.Did.{Did}
 use Rattle.world_base.specs.declared.request.CommitRequest.{CommitRequest}
 use Rattle.world_base.specs.declared.request.FetchRequest.{FetchRequest}

@@ -3,7 +3,7 @@ use Rattle.std.specs.Prelude.{ℕ, ◌≡◌, ◌<◌, length, slice_index_or, �
 use Rattle.std.proofs.Common.{◌⊎◌, sym, ◌∙◌, ap, subst, inl, inr, append-nil, arith, cond, zero, suc}
 use Rattle.std.proofs.lemmas.Bool.{eq-eqb, ne_eqb, or_right}
 use Rattle.std.proofs.lemmas.List.Elements.{Contains-append_cases, Contains-append_left, Contains-append_right, Contains-push, filter-append}
-use Rattle.model_laws.specs.Members.{Has, contains-from_has, has-cases, has-from_contains, has-left, has-right}
+use Rattle.world_base.specs.model_laws.Members.{Has, contains-from_has, has-cases, has-from_contains, has-left, has-right}
 use Rattle.base_messages.specs.declared.actor.ActorId.{ActorId}
 use Rattle.world_base.specs.declared.letter.Letter.{Letter}
 use Rattle.world_base.specs.Letters.{Takes, client, is_client, is_talk_of, is_tell, talk_of}

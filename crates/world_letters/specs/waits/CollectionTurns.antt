@@ -14,11 +14,11 @@ use Rattle.base_messages.specs.declared.message.Post.{Post}
 use Rattle.daos_model.specs.BoolLaws.{clash, false_of}
 use Rattle.daos_model.specs.Durables.{same_attempt}
 use Rattle.daos_model.specs.EntryLaws.{same_attempt-itself}
-use Rattle.dtx_base.specs.LeaderLaws.{same-is}
-use Rattle.dtx_base.specs.Leading.{to_target}
-use Rattle.dtx_base.specs.Members.{with_target}
-use Rattle.model_laws.specs.Members.{Has, has-filter, has-from_filter, has-from_map, has-map}
-use Rattle.model_laws.specs.TargetLaws.{same_number}
+use Rattle.world_base.specs.dtx_base.LeaderLaws.{same-is}
+use Rattle.world_base.specs.dtx_base.Leading.{to_target}
+use Rattle.world_base.specs.dtx_base.Members.{with_target}
+use Rattle.world_base.specs.model_laws.Members.{Has, has-filter, has-from_filter, has-from_map, has-map}
+use Rattle.world_base.specs.model_laws.TargetLaws.{same_number}
 use Rattle.world_base.specs.declared.did.Did.{Did}
 use Rattle.world_base.specs.declared.target.Collection.{Collection}
 use Rattle.world_base.specs.declared.target.TargetMemory.{TargetMemory}

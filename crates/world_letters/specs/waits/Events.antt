@@ -6,11 +6,11 @@ use Rattle.std.proofs.lemmas.Bool.{cases_eq}
 use Rattle.std.proofs.lemmas.List.Elements.{filter-append}
 use Rattle.base_types.specs.declared.entry.Entry.{Entry}
 use Rattle.base_messages.specs.declared.message.Post.{Post}
-use Rattle.model_laws.specs.Members.{Has, has-cases, has-from_map}
+use Rattle.world_base.specs.model_laws.Members.{Has, has-cases, has-from_map}
 use Rattle.daos_model.specs.Changes.{reopened}
 use Rattle.daos_model.specs.declared.durable.Durable.{Durable}
-use Rattle.dtx_base.specs.Leading.{first_leader, is_led, is_open, reopened_undecided}
-use Rattle.dtx_base.specs.Members.{other_members}
+use Rattle.world_base.specs.dtx_base.Leading.{first_leader, is_led, is_open, reopened_undecided}
+use Rattle.world_base.specs.dtx_base.Members.{other_members}
 use Rattle.world_base.specs.declared.client.ClientState.{ClientState}
 use Rattle.world_base.specs.declared.letter.Letter.{Letter}
 use Rattle.world_base.specs.declared.target.Life.TheVariants.{Down, Running}

@@ -11,9 +11,9 @@ use Rattle.base_messages.specs.declared.message.Message.{Message, more_of-Messag
 use Rattle.base_messages.specs.declared.message.Message.TheVariants as message
 use Rattle.base_messages.specs.declared.message.Post.{Post}
 use Rattle.daos_model.specs.Ordered.{is_rising}
-use Rattle.dtx_base.specs.Leading.{undecided_attempt}
-use Rattle.dtx_base.specs.Rows.{row_key}
-use Rattle.model_laws.specs.Members.{Has}
+use Rattle.world_base.specs.dtx_base.Leading.{undecided_attempt}
+use Rattle.world_base.specs.dtx_base.Rows.{row_key}
+use Rattle.world_base.specs.model_laws.Members.{Has}
 use Rattle.world_base.specs.declared.did.Did.{Did}
 use Rattle.world_base.specs.declared.request.CommitRequest.{CommitRequest}
 use Rattle.world_base.specs.declared.request.FetchRequest.{FetchRequest}
@@ -35,7 +35,7 @@ use Rattle.world_letters.specs.talks.Asked.{commit_of}
 use Rattle.world_letters.specs.talks.Conversation.{Answers}
 use Rattle.world_letters.specs.talks.LeaveLaws.{CommitLeaves, FetchLeaves, HasOwn, commit-leaves, fetch-leaves, own-goes}
 use Rattle.world_letters.specs.talks.TalkLaws.{taken-is-among}
-use Rattle.model_laws.specs.Members.{has-from_contains}
+use Rattle.world_base.specs.model_laws.Members.{has-from_contains}
 use Rattle.world_letters.specs.waits.ClientLaws.{goes-keeps, hears-keeps}
 use Rattle.world_letters.specs.waits.CollectionTurns.{CollectLeaves, aggregate-leaves, collect-off, collect-on, freeze-leaves, freeze-reset, held-turns, prune-leaves, prune-reset, snap-leaves}
 use Rattle.world_letters.specs.waits.Events.{cut-keeps, drawing-keeps, failing-keeps, given_up-keeps, opening-keeps, sweep-keeps}

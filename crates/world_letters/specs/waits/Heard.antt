@@ -2,8 +2,8 @@
 use Rattle.std.specs.Prelude.{ℕ, ◌≡◌, ◌++◌, Bool, true, false, List, [], ◌∷◌, slice_get, Option, Some, None, refl}
 use Rattle.std.proofs.Common.{sym, ◌∙◌, ap, arith, inl, inr}
 use Rattle.base_messages.specs.declared.message.Post.{Post}
-use Rattle.model_laws.specs.Members.{Has}
-use Rattle.model_laws.specs.TargetLaws.{same_number}
+use Rattle.world_base.specs.model_laws.Members.{Has}
+use Rattle.world_base.specs.model_laws.TargetLaws.{same_number}
 use Rattle.world_base.specs.declared.client.ClientState.{ClientState}
 use Rattle.world_base.specs.declared.letter.Letter.{Letter}
 use Rattle.world_base.specs.declared.target.TargetState.{TargetState}

@@ -15,13 +15,13 @@ use Rattle.daos_model.specs.Ordered.{all_after, is_rising}
 use Rattle.daos_model.specs.OrderLaws.{before-itself}
 use Rattle.daos_model.specs.Answers.{is_before}
 use Rattle.daos_model.specs.BoolLaws.{and_left, and_right}
-use Rattle.dtx_base.specs.declared.leading.Undecided.{Undecided}
-use Rattle.dtx_base.specs.LeaderLaws.{same-is}
-use Rattle.dtx_base.specs.Leading.{LeaderOf, ended, undecided_attempt, unwaited_at}
-use Rattle.dtx_base.specs.RowLaws.{row-is}
-use Rattle.dtx_base.specs.Rows.{is_other_row, is_row_of, row_key, row_of, without_row}
-use Rattle.model_laws.specs.Members.{Has, has-filter, has-from_filter, has-from_map, has-map}
-use Rattle.model_laws.specs.RisingLaws.{after-has}
+use Rattle.world_base.specs.dtx_base.declared.leading.Undecided.{Undecided}
+use Rattle.world_base.specs.dtx_base.LeaderLaws.{same-is}
+use Rattle.world_base.specs.dtx_base.Leading.{LeaderOf, ended, undecided_attempt, unwaited_at}
+use Rattle.world_base.specs.dtx_base.RowLaws.{row-is}
+use Rattle.world_base.specs.dtx_base.Rows.{is_other_row, is_row_of, row_key, row_of, without_row}
+use Rattle.world_base.specs.model_laws.Members.{Has, has-filter, has-from_filter, has-from_map, has-map}
+use Rattle.world_base.specs.model_laws.RisingLaws.{after-has}
 use Rattle.world_base.specs.declared.did.Did.{Did}
 use Rattle.world_base.specs.declared.target.TargetMemory.{TargetMemory}
 use Rattle.world_base.specs.declared.target.TargetPlan.{TargetPlan}

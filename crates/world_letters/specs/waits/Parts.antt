@@ -11,10 +11,10 @@ use Rattle.base_messages.specs.declared.message.Post.{Post}
 use Rattle.daos_model.specs.Answers.{is_before}
 use Rattle.daos_model.specs.BoolLaws.{clash}
 use Rattle.daos_model.specs.Ordered.{put}
-use Rattle.dtx_base.specs.declared.leading.Undecided.{Undecided}
-use Rattle.dtx_base.specs.declared.member.Parked.{Parked}
-use Rattle.model_laws.specs.Members.{Has, has-filter, has-from_map, has-left, has-map, has-right}
-use Rattle.model_laws.specs.TargetLaws.{number_same, same_number}
+use Rattle.world_base.specs.dtx_base.declared.leading.Undecided.{Undecided}
+use Rattle.world_base.specs.dtx_base.declared.member.Parked.{Parked}
+use Rattle.world_base.specs.model_laws.Members.{Has, has-filter, has-from_map, has-left, has-map, has-right}
+use Rattle.world_base.specs.model_laws.TargetLaws.{number_same, same_number}
 use Rattle.world_base.specs.declared.letter.Letter.{Letter}
 use Rattle.world_base.specs.declared.target.Collection.{Collection}
 use Rattle.world_base.specs.declared.target.TargetMemory.{TargetMemory}

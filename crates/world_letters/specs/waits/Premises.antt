@@ -4,10 +4,10 @@ use Rattle.base_messages.specs.declared.actor.ActorId.{ActorId}
 use Rattle.base_messages.specs.declared.message.Message.{Message}
 use Rattle.base_messages.specs.declared.message.Message.TheVariants as message
 use Rattle.daos_model.specs.Ordered.{is_rising}
-use Rattle.dtx_base.specs.declared.leading.Undecided.{Undecided}
-use Rattle.dtx_base.specs.Leading.{undecided_attempt}
-use Rattle.dtx_base.specs.Rows.{row_key}
-use Rattle.model_laws.specs.Members.{Has}
+use Rattle.world_base.specs.dtx_base.declared.leading.Undecided.{Undecided}
+use Rattle.world_base.specs.dtx_base.Leading.{undecided_attempt}
+use Rattle.world_base.specs.dtx_base.Rows.{row_key}
+use Rattle.world_base.specs.model_laws.Members.{Has}
 use Rattle.world_base.specs.declared.letter.Letter.{Letter}
 use Rattle.world_base.specs.declared.target.Collection.{Collection}
 use Rattle.world_base.specs.declared.target.Life.TheVariants.{Running}

@@ -7,9 +7,9 @@ use Rattle.base_messages.specs.declared.actor.ActorId.{ActorId}
 use Rattle.base_messages.specs.declared.message.Message.TheVariants as message
 use Rattle.base_messages.specs.declared.message.Post.{Post}
 use Rattle.base_messages.specs.declared.message.Reply.{Reply}
-use Rattle.dtx_base.specs.Leading.{new_undecided, undecided_attempt}
-use Rattle.dtx_base.specs.Rows.{row_key}
-use Rattle.model_laws.specs.TargetLaws.{same_number}
+use Rattle.world_base.specs.dtx_base.Leading.{new_undecided, undecided_attempt}
+use Rattle.world_base.specs.dtx_base.Rows.{row_key}
+use Rattle.world_base.specs.model_laws.TargetLaws.{same_number}
 use Rattle.world_base.specs.declared.did.Did.{Did}
 use Rattle.world_base.specs.declared.request.CommitRequest.{CommitRequest}
 use Rattle.world_base.specs.declared.request.FetchRequest.{FetchRequest}

@@ -8,10 +8,10 @@ use Rattle.base_types.specs.declared.outcome.Outcome.{Outcome}
 use Rattle.base_messages.specs.declared.message.Message.{Message}
 use Rattle.base_messages.specs.declared.message.Message.TheVariants as message
 use Rattle.daos_model.specs.Ordered.{is_rising}
-use Rattle.dtx_base.specs.declared.leading.Undecided.{Undecided}
-use Rattle.dtx_base.specs.Joining.{unresolved}
-use Rattle.dtx_base.specs.Leading.{LeaderOf, LeaderStep, down_told, ended, entry_led, knowing, mark_reset, prepare_reset, quietly, reset_of, status_asked, to_target, undecided_attempt, undecided_of, unwaited_at}
-use Rattle.dtx_base.specs.Rows.{row_key}
+use Rattle.world_base.specs.dtx_base.declared.leading.Undecided.{Undecided}
+use Rattle.world_base.specs.dtx_base.Joining.{unresolved}
+use Rattle.world_base.specs.dtx_base.Leading.{LeaderOf, LeaderStep, down_told, ended, entry_led, knowing, mark_reset, prepare_reset, quietly, reset_of, status_asked, to_target, undecided_attempt, undecided_of, unwaited_at}
+use Rattle.world_base.specs.dtx_base.Rows.{row_key}
 use Rattle.world_base.specs.declared.did.Did.{Did}
 use Rattle.world_base.specs.declared.target.TargetMemory.{TargetMemory}
 use Rattle.world_base.specs.declared.target.TargetPlan.{TargetPlan}

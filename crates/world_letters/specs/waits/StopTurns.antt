@@ -13,14 +13,14 @@ use Rattle.daos_model.specs.BoolLaws.{clash, false_of, or_left, or_right}
 use Rattle.daos_model.specs.Durables.{same_attempt}
 use Rattle.daos_model.specs.Ordered.{is_rising}
 use Rattle.daos_model.specs.declared.durable.Durable.{Durable}
-use Rattle.dtx_base.specs.declared.leading.Undecided.{Undecided}
-use Rattle.dtx_base.specs.Asking.{ask_heard, asked_of, asked_open, tells_end, waited_by, waits_at}
-use Rattle.dtx_base.specs.LeaderLaws.{same-is}
-use Rattle.dtx_base.specs.Leading.{LeaderOf, LeaderStep, entry_led, first_down, undecided_attempt}
-use Rattle.dtx_base.specs.RowLaws.{row-is}
-use Rattle.dtx_base.specs.Rows.{is_among, is_row_of, row_key, row_of}
-use Rattle.model_laws.specs.Members.{Has, has-filter}
-use Rattle.model_laws.specs.TargetLaws.{same_number}
+use Rattle.world_base.specs.dtx_base.declared.leading.Undecided.{Undecided}
+use Rattle.world_base.specs.dtx_base.Asking.{ask_heard, asked_of, asked_open, tells_end, waited_by, waits_at}
+use Rattle.world_base.specs.dtx_base.LeaderLaws.{same-is}
+use Rattle.world_base.specs.dtx_base.Leading.{LeaderOf, LeaderStep, entry_led, first_down, undecided_attempt}
+use Rattle.world_base.specs.dtx_base.RowLaws.{row-is}
+use Rattle.world_base.specs.dtx_base.Rows.{is_among, is_row_of, row_key, row_of}
+use Rattle.world_base.specs.model_laws.Members.{Has, has-filter}
+use Rattle.world_base.specs.model_laws.TargetLaws.{same_number}
 use Rattle.world_base.specs.declared.did.Did.{Did}
 use Rattle.world_base.specs.declared.target.TargetMemory.{TargetMemory}
 use Rattle.world_base.specs.declared.target.TargetPlan.{TargetPlan}

@@ -10,13 +10,13 @@ use Rattle.base_messages.specs.declared.actor.ActorId.{ActorId}
 use Rattle.base_messages.specs.declared.message.Message.{Message}
 use Rattle.base_messages.specs.declared.message.Message.TheVariants as message
 use Rattle.base_messages.specs.declared.message.Post.{Post}
-use Rattle.model_laws.specs.Members.{Has, has-cases, has-from_map}
+use Rattle.world_base.specs.model_laws.Members.{Has, has-cases, has-from_map}
 use Rattle.daos_model.specs.declared.durable.Durable.{Durable}
-use Rattle.dtx_base.specs.declared.leading.Naming.{Naming}
-use Rattle.dtx_base.specs.Joining.{inquired, inquiry_for, to_inquire}
-use Rattle.dtx_base.specs.Leading.{batched, commit_mark, mark_with, marks_for, marked_heard, owed, to_target}
-use Rattle.dtx_base.specs.Members.{all_targets}
-use Rattle.dtx_base.specs.Rows.{is_empty}
+use Rattle.world_base.specs.dtx_base.declared.leading.Naming.{Naming}
+use Rattle.world_base.specs.dtx_base.Joining.{inquired, inquiry_for, to_inquire}
+use Rattle.world_base.specs.dtx_base.Leading.{batched, commit_mark, mark_with, marks_for, marked_heard, owed, to_target}
+use Rattle.world_base.specs.dtx_base.Members.{all_targets}
+use Rattle.world_base.specs.dtx_base.Rows.{is_empty}
 use Rattle.base_types.specs.declared.outcome.FloorWhy.{FloorWhy}
 use Rattle.world_base.specs.declared.did.Did.{Did}
 use Rattle.world_base.specs.declared.letter.Letter.{Letter}

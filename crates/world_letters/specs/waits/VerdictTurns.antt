@@ -15,9 +15,9 @@ use Rattle.base_messages.specs.declared.message.Reply.TheVariants as reply
 use Rattle.daos_model.specs.BoolLaws.{clash}
 use Rattle.daos_model.specs.Durables.{same_attempt}
 use Rattle.daos_model.specs.declared.durable.Durable.{Durable}
-use Rattle.dtx_base.specs.declared.member.Parked.{Parked}
-use Rattle.dtx_base.specs.Joining.{all_unresolved_told, is_not_waiting, is_parked_elsewhere, is_parked_on, is_waiting, parked_ask, resolved, unresolved, unresolved_told, verdict_heard}
-use Rattle.model_laws.specs.TargetLaws.{number_same}
+use Rattle.world_base.specs.dtx_base.declared.member.Parked.{Parked}
+use Rattle.world_base.specs.dtx_base.Joining.{all_unresolved_told, is_not_waiting, is_parked_elsewhere, is_parked_on, is_waiting, parked_ask, resolved, unresolved, unresolved_told, verdict_heard}
+use Rattle.world_base.specs.model_laws.TargetLaws.{number_same}
 use Rattle.world_base.specs.declared.did.Did.{Did}
 use Rattle.world_base.specs.declared.request.FetchRequest.{FetchRequest}
 use Rattle.world_base.specs.declared.target.TargetMemory.{TargetMemory}

@@ -39,7 +39,7 @@ use Rattle.world_causes.specs.hearing.Storing.{BringsKnown, hearing-cut-kept, id
 use Rattle.world_causes.specs.restarts.CutLaws.{commit-is-cut}
 use Rattle.world_causes.specs.restarts.EpochLaws.{rests-epochs}
 use Rattle.world_causes.specs.restarts.Resting.{Rests, RestsAt, is_silent, one-few, one-rests, one-there}
-use Rattle.world_commit.specs.stops.CutEvents.{is_without_snapshots}
+use Rattle.world_causes.specs.world_commit.stops.CutEvents.{is_without_snapshots}
 use Rattle.world_making.specs.dates.Hearing.{BringsEpoch}
 use Rattle.world_making.specs.dates.Keeping.{freeze-cut, freeze-cut_issues, held-cut, prune-cut, prune-cut_issues}
 use Rattle.world_making.specs.dates.Reading.{snapshot-cut-issues-none}

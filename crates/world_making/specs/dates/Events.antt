@@ -1,7 +1,7 @@
 -- Each event of a run keeps what is said of epochs.
 use Rattle.std.specs.Prelude.{ℕ, ◌≡◌, ◌<◌, ◌-◌, Some, slice_get, refl}
 use Rattle.std.proofs.Common.{append-nil, sym, subst, arith}
-use Rattle.world_commit.specs.attempts.History.{History}
+use Rattle.world_causes.specs.world_commit.attempts.History.{History}
 use Rattle.world_base.specs.declared.client.ClientState.{ClientState}
 use Rattle.world_base.specs.declared.world.World.{World}
 use Rattle.world_base.specs.ClientTurns.{NextTurn, Skipped, Went_on}
@@ -13,7 +13,7 @@ use Rattle.world_base.specs.Stops.{Draws, Fails, Further, GivenUp, Happening, Is
 use Rattle.world_letters.specs.epochs.Epochs.{ClientsStand, Epochs}
 use Rattle.world_letters.specs.epochs.EventLaws.{stands-by-hearing, stands-by-moves}
 use Rattle.world_letters.specs.epochs.Talking.{silent-unless}
-use Rattle.world_commit.specs.fates.Facts.{Attempts}
+use Rattle.world_causes.specs.world_commit.fates.Facts.{Attempts}
 use Rattle.world_causes.specs.hearing.HappeningEpochs.{talks-once}
 use Rattle.world_causes.specs.restarts.EpochLaws.{rests-epochs}
 use Rattle.world_causes.specs.restarts.Resting.{failure-rests, given_up-rests, numbers-rests, opening-rests, sweep-rests}

@@ -3,7 +3,7 @@ use Rattle.std.specs.Prelude.{ℕ, ◌≡◌, List, slice_get, Some}
 use Rattle.std.proofs.Common.{ap}
 use Rattle.daos_model.specs.BoolLaws.{clash, false_of}
 use Rattle.model_laws.specs.Members.{contains-from_has, has-from_contains}
-use Rattle.world_commit.specs.attempts.History.{History}
+use Rattle.world_causes.specs.world_commit.attempts.History.{History}
 use Rattle.world_base.specs.declared.letter.Letter.{Letter}
 use Rattle.world_base.specs.declared.target.TargetState.{TargetState}
 use Rattle.world_base.specs.declared.world.World.{World}
@@ -16,8 +16,8 @@ use Rattle.world_base.specs.TargetTurns.{Hears}
 use Rattle.world_letters.specs.epochs.Epochs.{ClientsStand, Epochs}
 use Rattle.world_letters.specs.epochs.Talking.{TalksOnce}
 use Rattle.world_letters.specs.epochs.TargetEvents.{MaySpend}
-use Rattle.world_commit.specs.fates.Facts.{Attempts}
-use Rattle.world_commit.specs.fates.Rightly.{letters-tell}
+use Rattle.world_causes.specs.world_commit.fates.Facts.{Attempts}
+use Rattle.world_causes.specs.world_commit.fates.Rightly.{letters-tell}
 use Rattle.world_causes.specs.hearing.HappeningEpochs.{talks-once}
 use Rattle.world_letters.specs.snapshots.Makings.{Makings}
 use Rattle.world_letters.specs.talks.TalkLaws.{taken-is-among}

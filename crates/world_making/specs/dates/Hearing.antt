@@ -49,7 +49,7 @@ use Rattle.world_causes.specs.hearing.Listening.{Listens, listens}
 use Rattle.world_causes.specs.hearing.Saying.{AsksState, EndsHeld, EndsLost, MarksAgain, MetUnresolved, SaysFurther, TellsState}
 use Rattle.world_causes.specs.hearing.Storing.{KeptSo, further-kept, hears-kept, idle-kept}
 use Rattle.world_letters.specs.lives.TurnLines.{further-lines}
-use Rattle.world_commit.specs.statuses.Turns.{Looked, looked}
+use Rattle.world_causes.specs.world_commit.statuses.Turns.{Looked, looked}
 use Rattle.world_letters.specs.waits.Requests.{is_lost_request}
 use Rattle.world_making.specs.dates.Issuing.{commit-dates, dates-issue, dates-know, dates-spent, down-dates, fetch-dates}
 use Rattle.world_making.specs.dates.Keeping.{freeze-reached, held-stays, prune-reached}

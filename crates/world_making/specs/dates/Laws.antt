@@ -1,13 +1,13 @@
 -- The laws of the epochs of attempts where snapshots are made and read, and containers are aggregated, as statements.
 use Rattle.std.specs.Prelude.{ℕ, ◌≡◌, ◌<◌, true, slice_get, Some}
 use Rattle.base_types.specs.declared.id.AttemptId.{AttemptId}
-use Rattle.world_commit.specs.attempts.History.{History}
+use Rattle.world_causes.specs.world_commit.attempts.History.{History}
 use Rattle.world_base.specs.declared.client.ClientState.{ClientState}
 use Rattle.world_base.specs.declared.world.World.{World}
 use Rattle.world_base.specs.Events.{Rules}
 use Rattle.world_base.specs.Stops.{WorldEvent}
 use Rattle.world_letters.specs.epochs.Epochs.{ClientsStand, Epochs, is_making, issuer_of}
-use Rattle.world_commit.specs.fates.Facts.{Attempts}
+use Rattle.world_causes.specs.world_commit.fates.Facts.{Attempts}
 use Rattle.world_letters.specs.snapshots.Makings.{Makings}
 use Rattle.world_letters.specs.waits.Premises.{RequestsAreOfClients}
 use Rattle.world_letters.specs.waits.Waits.{Conversation}

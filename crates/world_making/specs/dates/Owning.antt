@@ -7,13 +7,13 @@ use Rattle.base_messages.specs.declared.message.Message.{Message}
 use Rattle.base_messages.specs.declared.message.Message.TheVariants as message
 use Rattle.daos_model.specs.BoolLaws.{clash}
 use Rattle.model_laws.specs.Members.{contains-from_has, has-from_contains}
-use Rattle.world_commit.specs.attempts.History.{History}
+use Rattle.world_causes.specs.world_commit.attempts.History.{History}
 use Rattle.world_base.specs.declared.letter.Letter.{Letter}
 use Rattle.world_base.specs.declared.world.World.{World}
 use Rattle.world_base.specs.Events.{Rules}
 use Rattle.world_letters.specs.clients.Snapshots.{is_at_snapshot}
 use Rattle.world_letters.specs.epochs.Epochs.{ClientsStand, Epochs, IsEpochOf, IsIssued, IsOwn, IsSeen}
-use Rattle.world_commit.specs.fates.Facts.{Attempts, IsSaidSo}
+use Rattle.world_causes.specs.world_commit.fates.Facts.{Attempts, IsSaidSo}
 use Rattle.world_causes.specs.handing.Dates.{SnapshotsAreRead, epochs-of_commits}
 use Rattle.world_letters.specs.waits.Premises.{RequestsAreOfClients}
 use Rattle.world_letters.specs.waits.Waits.{Conversation}

@@ -1,7 +1,7 @@
 -- So does such a turn that is cut.
 use Rattle.std.specs.Prelude.{ℕ, ◌≡◌, List, Option, Some, refl}
 use Rattle.base_types.specs.declared.report.Line.{Line}
-use Rattle.world_commit.specs.attempts.History.{History}
+use Rattle.world_causes.specs.world_commit.attempts.History.{History}
 use Rattle.world_base.specs.declared.letter.Letter.{Letter}
 use Rattle.world_base.specs.declared.world.World.{World}
 use Rattle.world_base.specs.Changes.{After, Before, Change, InPart, Kept, Steps}
@@ -10,12 +10,12 @@ use Rattle.world_base.specs.Events.{Rules, kept, target_plan}
 use Rattle.world_base.specs.PathLaws.{path-keeps}
 use Rattle.world_base.specs.Roles.{is_prepared, with_unsettled}
 use Rattle.world_base.specs.Stops.{TargetCut}
-use Rattle.world_commit.specs.fates.Facts.{Attempts}
-use Rattle.world_commit.specs.fates.Working.{work-begins}
+use Rattle.world_causes.specs.world_commit.fates.Facts.{Attempts}
+use Rattle.world_causes.specs.world_commit.fates.Working.{work-begins}
 use Rattle.world_making.specs.fates.Steps.{AtMaking, keeps-entries, making-step, partly-entries}
 use Rattle.world_making.specs.making.Making.{IsOfMaking, MakingNext, MakingStage, making_begins, making_issues}
 use Rattle.world_making.specs.making.Turns.{cuts-leave}
-use Rattle.world_commit.specs.stops.Cutting.{mid-stops}
+use Rattle.world_causes.specs.world_commit.stops.Cutting.{mid-stops}
 
 module _ (r : Rules) (h : History) (w v : World) (k : Attempts r h w) (g : TargetCut r w v) (l : Letter) (reading number : ℕ) (is : IsOfMaking l.message)
     (turn : HearingIsCut is_prepared number (target_plan r g.t) g.s.opening g.s.memory reading l.from l.message (kept g.s) g.cut) where

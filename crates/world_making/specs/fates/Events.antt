@@ -4,25 +4,25 @@ use Rattle.std.proofs.Common.{sym, subst}
 use Rattle.base_messages.specs.declared.message.Message.{Message}
 use Rattle.base_messages.specs.declared.message.Message.TheVariants as message
 use Rattle.base_messages.specs.declared.message.Post.{Post}
-use Rattle.world_commit.specs.attempts.History.{GrowsBy, History}
+use Rattle.world_causes.specs.world_commit.attempts.History.{GrowsBy, History}
 use Rattle.world_base.specs.declared.target.TargetState.{TargetState}
 use Rattle.world_base.specs.declared.world.World.{World}
 use Rattle.world_base.specs.CutTurns.{Cutting}
 use Rattle.world_base.specs.Events.{Rules, target_plan}
 use Rattle.world_base.specs.Stops.{AtWork, CutOf, Draws, Fails, Further, GivenUp, Happening, Hearing, HearsMore, IdleWork, IsCut, Opens, Plainly, TargetCut}
-use Rattle.world_commit.specs.fates.Asked.{AskedRight}
-use Rattle.world_commit.specs.fates.Facts.{Attempts}
+use Rattle.world_causes.specs.world_commit.fates.Asked.{AskedRight}
+use Rattle.world_causes.specs.world_commit.fates.Facts.{Attempts}
 use Rattle.world_making.specs.fates.Cuts.{making-cut}
 use Rattle.world_making.specs.fates.Laws.{AllEventsKeepAttempts, IsWorkOfMaking, MakingCutsKeepAttempts, MakingKeepsAttempts, MakingsAreRight}
 use Rattle.world_making.specs.fates.Prompts.{making-prompts}
 use Rattle.world_making.specs.fates.Turns.{making-ongoing}
 use Rattle.world_making.specs.making.Making.{IsOfMaking, tells_of_snapshots}
-use Rattle.world_commit.specs.statuses.Events.{happens-keeps, told_by}
-use Rattle.world_commit.specs.statuses.Fates.{told_by_it, told_further}
-use Rattle.world_commit.specs.statuses.Senders.{SendersAreRight}
-use Rattle.world_commit.specs.stops.CutEvents.{IsWithoutSnapshots, cut_told, is_without_snapshots, message_told}
-use Rattle.world_commit.specs.stops.Cuts.{later-keeps}
-use Rattle.world_commit.specs.stops.Stops.{sweeping-keeps}
+use Rattle.world_causes.specs.world_commit.statuses.Events.{happens-keeps, told_by}
+use Rattle.world_causes.specs.world_commit.statuses.Fates.{told_by_it, told_further}
+use Rattle.world_causes.specs.world_commit.statuses.Senders.{SendersAreRight}
+use Rattle.world_causes.specs.world_commit.stops.CutEvents.{IsWithoutSnapshots, cut_told, is_without_snapshots, message_told}
+use Rattle.world_causes.specs.world_commit.stops.Cuts.{later-keeps}
+use Rattle.world_causes.specs.world_commit.stops.Stops.{sweeping-keeps}
 use Rattle.world_making.specs.making.Kinds.{of-attempts, without-snapshots}
 
 pub making-keeps : MakingKeepsAttempts

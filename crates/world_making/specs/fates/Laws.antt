@@ -1,15 +1,15 @@
 -- The laws of two-phase commit where snapshots are made and containers aggregated, as statements.
-use Rattle.world_commit.specs.attempts.History.{GrowsBy, History}
+use Rattle.world_causes.specs.world_commit.attempts.History.{GrowsBy, History}
 use Rattle.world_base.specs.declared.world.World.{World}
 use Rattle.world_base.specs.Events.{Rules}
 use Rattle.world_base.specs.Stops.{AtWork, Hearing, HearsMore, IdleWork, TargetCut, WorldEvent}
-use Rattle.world_commit.specs.fates.Asked.{AskedRight}
-use Rattle.world_commit.specs.fates.Facts.{Attempts}
+use Rattle.world_causes.specs.world_commit.fates.Asked.{AskedRight}
+use Rattle.world_causes.specs.world_commit.fates.Facts.{Attempts}
 use Rattle.world_making.specs.makers.Makers.{MakersTell}
 use Rattle.world_making.specs.making.Making.{IsOfMaking}
 use Rattle.world_letters.specs.snapshots.Makings.{Makings}
-use Rattle.world_commit.specs.statuses.Events.{told_by}
-use Rattle.world_commit.specs.statuses.Senders.{SendersAreRight}
+use Rattle.world_causes.specs.world_commit.statuses.Events.{told_by}
+use Rattle.world_causes.specs.world_commit.statuses.Senders.{SendersAreRight}
 use Rattle.world_letters.specs.waits.Premises.{RequestsAreOfClients}
 
 -- what else is asked here: snapshots and aggregations come of attempts that make them, and what clients ask comes of clients

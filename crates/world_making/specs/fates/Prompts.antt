@@ -13,7 +13,7 @@ use Rattle.daos_model.specs.EntryLaws.{same_attempt-itself}
 use Rattle.dtx_base.specs.Leading.{to_target}
 use Rattle.dtx_base.specs.LeaderLaws.{same-is}
 use Rattle.model_laws.specs.Members.{Has, has-from_map}
-use Rattle.world_commit.specs.attempts.Counting.{has-taken}
+use Rattle.world_causes.specs.world_commit.attempts.Counting.{has-taken}
 use Rattle.world_base.specs.declared.letter.Letter.{Letter}
 use Rattle.world_base.specs.declared.target.Collection.{Collection}
 use Rattle.world_base.specs.declared.world.World.{World}
@@ -21,15 +21,15 @@ use Rattle.world_base.specs.Events.{Rules, TargetHearsBy, kept, target_plan}
 use Rattle.world_base.specs.Further.{HearsFurther}
 use Rattle.world_base.specs.Letters.{asked_after, is_answer_to, is_answerable, is_reply, letter_of, letters_of, target}
 use Rattle.world_base.specs.Snapshots.{freeze_to, is_collection_of, others, prune_to}
-use Rattle.world_commit.specs.fates.Alike.{answered-same, back-answers}
-use Rattle.world_commit.specs.fates.Facts.{PromptsFly, is_prompt, is_prompt_kind}
-use Rattle.world_commit.specs.fates.Prompts.{AreSpoken, IsSpoken, answer-is, client-no_prompt, kind-no_prompt, prompts-answered, prompts-spoken, spoken-speaking, taken-quietly}
-use Rattle.world_commit.specs.fates.Speaking.{ended-alone, one-spoken}
+use Rattle.world_causes.specs.world_commit.fates.Alike.{answered-same, back-answers}
+use Rattle.world_causes.specs.world_commit.fates.Facts.{PromptsFly, is_prompt, is_prompt_kind}
+use Rattle.world_causes.specs.world_commit.fates.Prompts.{AreSpoken, IsSpoken, answer-is, client-no_prompt, kind-no_prompt, prompts-answered, prompts-spoken, spoken-speaking, taken-quietly}
+use Rattle.world_causes.specs.world_commit.fates.Speaking.{ended-alone, one-spoken}
 use Rattle.world_making.specs.makers.Makers.{IsPruneRight, MakersTell}
 use Rattle.world_making.specs.making.Making.{AsksAgain, AsksFreezes, AsksPrunes, EndsCollected, EndsIt, IsOfMaking, MakingLeaves, MakingSends, SaysFrozen, SaysNothing, SaysPruned, SaysRefused, asks_making, is_asked_for, is_lost_at, is_told_of}
 use Rattle.world_making.specs.making.Turns.{hearings-leave}
 use Rattle.world_letters.specs.snapshots.Makings.{AsksSo, IsAggregationOf, IsSnapIn, IsSo, Makings}
-use Rattle.world_commit.specs.statuses.Turns.{hears-asked, hears-messages}
+use Rattle.world_causes.specs.world_commit.statuses.Turns.{hears-asked, hears-messages}
 use Rattle.world_letters.specs.waits.Premises.{RequestsAreOfClients}
 use Rattle.world_letters.specs.waits.Requests.{is_request}
 

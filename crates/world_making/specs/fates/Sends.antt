@@ -9,7 +9,7 @@ use Rattle.base_messages.specs.declared.message.Post.{Post}
 use Rattle.daos_model.specs.declared.durable.Durable.{Durable}
 use Rattle.dtx_base.specs.Leading.{to_target}
 use Rattle.model_laws.specs.Members.{Has, has-from_map}
-use Rattle.world_commit.specs.attempts.History.{History}
+use Rattle.world_causes.specs.world_commit.attempts.History.{History}
 use Rattle.world_base.specs.declared.letter.Letter.{Letter}
 use Rattle.world_base.specs.declared.target.TargetMemory.{TargetMemory}
 use Rattle.world_base.specs.declared.target.TargetPlan.{TargetPlan}
@@ -17,10 +17,10 @@ use Rattle.world_base.specs.declared.world.World.{World}
 use Rattle.world_base.specs.Events.{Rules}
 use Rattle.world_base.specs.Letters.{letter_of, letters_of}
 use Rattle.world_base.specs.Snapshots.{freeze_to, others, prune_to}
-use Rattle.world_commit.specs.fates.Concerns.{Spare, concerns}
-use Rattle.world_commit.specs.fates.Facts.{IsSaidSo}
+use Rattle.world_causes.specs.world_commit.fates.Concerns.{Spare, concerns}
+use Rattle.world_causes.specs.world_commit.fates.Facts.{IsSaidSo}
 use Rattle.world_making.specs.making.Making.{AsksAgain, AsksFreezes, AsksPrunes, EndsCollected, EndsIt, IsOfMaking, MakingSends, SaysFrozen, SaysNothing, SaysPruned, SaysRefused, is_lost_at}
-use Rattle.world_contents.specs.reads.Adds.{is_answer}
+use Rattle.world_causes.specs.world_contents.reads.Adds.{is_answer}
 
 -- ---- what is heard
 

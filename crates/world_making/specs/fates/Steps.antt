@@ -5,8 +5,8 @@ use Rattle.base_messages.specs.declared.actor.ActorId.{ActorId}
 use Rattle.base_messages.specs.declared.message.Message.{Message}
 use Rattle.daos_model.specs.Changes.{marked, with_versions}
 use Rattle.daos_model.specs.declared.durable.Durable.{Durable}
-use Rattle.world_commit.specs.attempts.History.{History}
-use Rattle.world_commit.specs.attempts.Turning.{at_work}
+use Rattle.world_causes.specs.world_commit.attempts.History.{History}
+use Rattle.world_causes.specs.world_commit.attempts.Turning.{at_work}
 use Rattle.world_base.specs.declared.target.Life.TheVariants.{Running}
 use Rattle.world_base.specs.declared.target.TargetState.{TargetState}
 use Rattle.world_base.specs.declared.world.World.{World}
@@ -16,9 +16,9 @@ use Rattle.world_base.specs.Events.{Rules, target_after, target_plan}
 use Rattle.world_base.specs.Idle.{SettlesFirst}
 use Rattle.world_base.specs.Roles.{with_unsettled}
 use Rattle.world_base.specs.Snapshots.{prune_limit}
-use Rattle.world_commit.specs.fates.Facts.{Ongoing}
-use Rattle.world_commit.specs.fates.FetchTurns.{work-keeps, work-leases}
-use Rattle.world_commit.specs.fates.IdleTurns.{idle-step}
+use Rattle.world_causes.specs.world_commit.fates.Facts.{Ongoing}
+use Rattle.world_causes.specs.world_commit.fates.FetchTurns.{work-keeps, work-leases}
+use Rattle.world_causes.specs.world_commit.fates.IdleTurns.{idle-step}
 use Rattle.world_making.specs.making.Making as making
 use Rattle.world_making.specs.making.Making.{MakingNext, MakingStage}
 

@@ -8,10 +8,10 @@ use Rattle.dtx_base.specs.Leading.{undecided_attempt}
 use Rattle.dtx_base.specs.Members.{has_target}
 use Rattle.dtx_base.specs.Rows.{row_of}
 use Rattle.model_laws.specs.Members.{Has}
-use Rattle.world_commit.specs.attempts.Attempts.{inc_at, leader_of}
-use Rattle.world_commit.specs.attempts.History.{History}
-use Rattle.world_commit.specs.attempts.MemberBits.{has-with, has-with_other}
-use Rattle.world_commit.specs.attempts.Turning.{one-or_another, at_work}
+use Rattle.world_causes.specs.world_commit.attempts.Attempts.{inc_at, leader_of}
+use Rattle.world_causes.specs.world_commit.attempts.History.{History}
+use Rattle.world_causes.specs.world_commit.attempts.MemberBits.{has-with, has-with_other}
+use Rattle.world_causes.specs.world_commit.attempts.Turning.{one-or_another, at_work}
 use Rattle.world_base.specs.declared.letter.Letter.{Letter}
 use Rattle.world_base.specs.declared.target.TargetState.{TargetState}
 use Rattle.world_base.specs.declared.world.World.{World}
@@ -21,16 +21,16 @@ use Rattle.world_base.specs.Letters.{Takes, letters_of, target}
 use Rattle.world_base.specs.PathLaws.{reached-keeps}
 use Rattle.world_base.specs.Roles.{with_unsettled}
 use Rattle.world_base.specs.StepLaws.{set-here, set-twice}
-use Rattle.world_commit.specs.fates.Concerns.{no-talk}
-use Rattle.world_commit.specs.fates.Facts.{Ongoing}
-use Rattle.world_commit.specs.fates.Overs.{Over}
-use Rattle.world_commit.specs.fates.Working.{work-begins}
+use Rattle.world_causes.specs.world_commit.fates.Concerns.{no-talk}
+use Rattle.world_causes.specs.world_commit.fates.Facts.{Ongoing}
+use Rattle.world_causes.specs.world_commit.fates.Overs.{Over}
+use Rattle.world_causes.specs.world_commit.fates.Working.{work-begins}
 use Rattle.world_making.specs.fates.Sends.{is_sent_in_making, making-sent, making-unconcerned, so, spare}
 use Rattle.world_making.specs.fates.Steps.{AtMaking, making-step}
 use Rattle.world_making.specs.making.Making.{IsOfMaking, MakingLeaves, MakingNext, down_then, making_begins}
 use Rattle.world_making.specs.making.Turns.{hearings-leave}
-use Rattle.world_commit.specs.statuses.Listening as listening
-use Rattle.world_commit.specs.statuses.Turns.{hears-over}
+use Rattle.world_causes.specs.world_commit.statuses.Listening as listening
+use Rattle.world_causes.specs.world_commit.statuses.Turns.{hears-over}
 
 -- who was known to be down is
 down-stays : (q : Message) (down m : ℕ) → has_target down m ≡ true → has_target (down_then q down) m ≡ true

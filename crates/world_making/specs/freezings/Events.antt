@@ -60,7 +60,7 @@ use Rattle.world_letters.specs.lines.Lines.{Endings}
 use Rattle.world_letters.specs.lives.CutLines.{hearing-cut, idle-cut}
 use Rattle.world_letters.specs.lives.Events.{as-added}
 use Rattle.world_letters.specs.lives.TurnLines.{AreTurnLines, IsTurnLine, further-lines, idle-lines, plain-lines}
-use Rattle.world_commit.specs.requests.Staying.{requests-happen}
+use Rattle.world_causes.specs.world_commit.requests.Staying.{requests-happen}
 use Rattle.world_letters.specs.snapshots.Makings.{CollectsSo, IsMadeBy, IsSnapIn, IsSnapOf, IsSo, Makings, collects-more, so-more}
 use Rattle.world_letters.specs.snapshots.Memories.{idle-same, plain-same}
 use Rattle.world_letters.specs.talks.TalkLaws.{left-is-among, taken-is-among}

@@ -22,8 +22,8 @@ use Rattle.world_letters.specs.epochs.Epochs.{Epochs}
 use Rattle.world_making.specs.freezings.Freezings.{Freezings}
 use Rattle.world_making.specs.freezings.Naming.{new-unnamed, reads-inside}
 use Rattle.world_making.specs.freezings.Seeing.{ANew, AnOld, NamesSnapshot, SeesFrozen, fetches-ask, waiting-see}
-use Rattle.world_contents.specs.gots.HearGots.{question-path}
-use Rattle.world_contents.specs.reads.Given.{HasReadEpoch, IsItsSnapshot, IsKept, IsMade, IsReadEpoch}
+use Rattle.world_causes.specs.world_contents.gots.HearGots.{question-path}
+use Rattle.world_causes.specs.world_contents.reads.Given.{HasReadEpoch, IsItsSnapshot, IsKept, IsMade, IsReadEpoch}
 use Rattle.world_letters.specs.snapshots.Makings.{Makings}
 
 -- a read is what an operation of an attempt asks: its condition or its read

@@ -1,5 +1,5 @@
 -- The laws of losses where snapshots are made and containers aggregated, as statements.
-use Rattle.world_commit.specs.attempts.History.{History}
+use Rattle.world_causes.specs.world_commit.attempts.History.{History}
 use Rattle.world_base.specs.declared.world.World.{World}
 use Rattle.world_base.specs.Events.{Rules}
 use Rattle.world_base.specs.Stops.{HearsMore, WorldEvent}

@@ -15,7 +15,7 @@ use Rattle.model_laws.specs.Members.{Has, contains-from_has, has-cases, has-from
 use Rattle.vos_store.specs.declared.refusal.FreezeNo.{FreezeNo}
 use Rattle.vos_store.specs.declared.refusal.FreezeNo.TheVariants as freeze
 use Rattle.vos_store.specs.Answers.{freezes}
-use Rattle.world_commit.specs.attempts.Counting.{has-left_over, has-taken}
+use Rattle.world_causes.specs.world_commit.attempts.Counting.{has-left_over, has-taken}
 use Rattle.world_base.specs.declared.client.ClientState.{ClientState}
 use Rattle.world_base.specs.declared.client.Present.{Present}
 use Rattle.world_base.specs.declared.letter.Letter.{Letter}
@@ -38,7 +38,7 @@ use Rattle.world_making.specs.losses.Refusals.{EventsKeepFreezeRefusals, FreezeR
 use Rattle.world_making.specs.makers.Posts.{NoneIsOfMaking, all-plainly, further-none}
 use Rattle.world_making.specs.making.Making.{AsksAgain, AsksFreezes, AsksPrunes, EndsCollected, EndsIt, MakingSends, SaysFrozen, SaysNothing, SaysPruned, SaysRefused, is_lost_at, tells_of_snapshots}
 use Rattle.world_making.specs.making.Turns.{hearings-leave}
-use Rattle.world_commit.specs.stops.Questions.{question-is}
+use Rattle.world_causes.specs.world_commit.stops.Questions.{question-is}
 use Rattle.world_letters.specs.talks.AskLaws.{move-is, waiting-rests}
 use Rattle.world_letters.specs.talks.Asked.{ARead, ASnapshot, AnAggregation, Asked, Asking, IsMove, ItsWrites, Silent, Telling}
 

@@ -17,7 +17,7 @@ use Rattle.daos_model.specs.Attempts.{is_lost, tried, tries}
 use Rattle.daos_model.specs.Durables.{same_attempt}
 use Rattle.dtx_base.specs.declared.member.Parked.{Parked}
 use Rattle.model_laws.specs.Members.{Has}
-use Rattle.world_commit.specs.attempts.Counting.{has-taken}
+use Rattle.world_causes.specs.world_commit.attempts.Counting.{has-taken}
 use Rattle.world_base.specs.declared.did.Did.{Did}
 use Rattle.world_base.specs.declared.target.Collection.{Collection}
 use Rattle.world_base.specs.declared.target.TargetMemory.{TargetMemory}

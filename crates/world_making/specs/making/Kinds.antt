@@ -2,9 +2,9 @@
 use Rattle.world_making.specs.making.Making.{IsOfMaking, is_of_snapshots, tells_of_snapshots}
 use Rattle.base_messages.specs.declared.message.Message.{Message, more_of-Message}
 use Rattle.std.specs.Prelude.{false, not, refl, true, ◌≡◌}
-use Rattle.world_contents.specs.posts.Forms.{is_collecting}
-use Rattle.world_commit.specs.statuses.Heard.{is_of_attempts}
-use Rattle.world_commit.specs.stops.CutEvents.{is_without_snapshots}
+use Rattle.world_causes.specs.world_contents.posts.Forms.{is_collecting}
+use Rattle.world_causes.specs.world_commit.statuses.Heard.{is_of_attempts}
+use Rattle.world_causes.specs.world_commit.stops.CutEvents.{is_without_snapshots}
 use Rattle.base_messages.specs.declared.message.Message.TheVariants as message
 
 pub of-making : (m : Message) → is_of_attempts m ≡ false → IsOfMaking m

@@ -21,8 +21,8 @@ use Rattle.world_base.specs.PathLaws.{path-keeps}
 use Rattle.world_base.specs.Snapshots as snap
 use Rattle.world_base.specs.Statuses.{Looks, NoChange}
 use Rattle.world_base.specs.Turns.{Path, Whole}
-use Rattle.world_commit.specs.statuses.Heard.{is_of_attempts}
-use Rattle.world_commit.specs.stops.CutEvents.{is_without_snapshots}
+use Rattle.world_causes.specs.world_commit.statuses.Heard.{is_of_attempts}
+use Rattle.world_causes.specs.world_commit.stops.CutEvents.{is_without_snapshots}
 
 -- a change by which no entry is stored
 abbrev pub StoresNothing : Option Change → Type 0

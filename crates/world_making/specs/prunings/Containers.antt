@@ -29,11 +29,11 @@ use Rattle.world_base.specs.declared.world.World.{World}
 use Rattle.world_base.specs.Changes.{Change, Creates, Extends, Freezes, IsPartly, Prepares, Prunes, Settles, made}
 use Rattle.world_base.specs.Events.{ByClient, ByTarget, Event, Rules, ToClient, ToTarget}
 use Rattle.world_base.specs.Stops.{Draws, Fails, Further, GivenUp, Happening, IsCut, Opens, Plainly, WorldEvent}
-use Rattle.world_contents.specs.frozen.Rows.{of-marked_at, of-raised_at}
+use Rattle.world_causes.specs.world_contents.frozen.Rows.{of-marked_at, of-raised_at}
 use Rattle.world_making.specs.making.Leaving.{IsThereStill, event-left}
 use Rattle.world_letters.specs.snapshots.Makings.{IsAggregationOf, IsSnapIn}
 use Rattle.world_making.specs.prunings.Premises.{MakersAreKnown}
-use Rattle.world_contents.specs.posts.ScriptForm.{numbered-form}
+use Rattle.world_causes.specs.world_contents.posts.ScriptForm.{numbered-form}
 
 -- ---- the statements
 

@@ -22,7 +22,7 @@ use Rattle.world_base.specs.Changes.{After, Before, Change, Creates, Cut, Extend
 use Rattle.world_base.specs.CutTurns.{CutHere, CutTurn, Cutting, InChange, InQuestion, cut_line, line_of, lines_of}
 use Rattle.world_base.specs.PathLaws.{path-keeps}
 use Rattle.world_base.specs.Turns.{Here, More, Path, listed}
-use Rattle.world_contents.specs.frozen.Rows.{of-marked_at, of-raised_at, row-each}
+use Rattle.world_causes.specs.world_contents.frozen.Rows.{of-marked_at, of-raised_at, row-each}
 
 -- ---- one row
 

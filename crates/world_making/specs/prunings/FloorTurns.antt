@@ -24,8 +24,8 @@ use Rattle.world_base.specs.Further.{HearsFurther}
 use Rattle.world_base.specs.Snapshots as snap
 use Rattle.world_base.specs.Statuses.{AtOnce, Looks, NoChange}
 use Rattle.world_base.specs.Turns.{Whole, listed}
-use Rattle.world_commit.specs.statuses.Heard.{is_of_attempts}
-use Rattle.world_commit.specs.stops.CutEvents.{is_without_snapshots}
+use Rattle.world_causes.specs.world_commit.statuses.Heard.{is_of_attempts}
+use Rattle.world_causes.specs.world_commit.stops.CutEvents.{is_without_snapshots}
 use Rattle.world_making.specs.prunings.FloorRows.{BelowLease, CoversFreeze, RowsGo, cut-goes, path-goes, path-lines}
 
 -- no floor is low enough in itself

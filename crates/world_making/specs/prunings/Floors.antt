@@ -29,8 +29,8 @@ use Rattle.world_causes.specs.causes.Lasting.{told-more}
 use Rattle.world_causes.specs.causes.Shown.{FloorsShown, HasLine, IsCovered, IsOfBefore, IsTold}
 use Rattle.world_causes.specs.hearing.Floors.{happenings-keep-floors}
 use Rattle.world_letters.specs.lives.Leases.{further-lasts, hearing-lasts}
-use Rattle.world_commit.specs.statuses.Heard.{is_of_attempts}
-use Rattle.world_commit.specs.stops.CutEvents.{IsWithoutSnapshots, is_without_snapshots}
+use Rattle.world_causes.specs.world_commit.statuses.Heard.{is_of_attempts}
+use Rattle.world_causes.specs.world_commit.stops.CutEvents.{IsWithoutSnapshots, is_without_snapshots}
 use Rattle.world_making.specs.prunings.FloorRows.{BelowLease, HasFloorLine, RowsGo}
 use Rattle.world_making.specs.prunings.FloorTurns.{NoneLow, cut-floors-go, floors-go}
 

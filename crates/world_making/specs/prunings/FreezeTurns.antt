@@ -13,7 +13,7 @@ use Rattle.daos_model.specs.declared.durable.Version.{Version}
 use Rattle.model_laws.specs.Decided.{AreDecided}
 use Rattle.vos_store.specs.Answers.{freezes}
 use Rattle.vos_store.specs.declared.refusal.FreezeNo.{FreezeNo}
-use Rattle.world_commit.specs.attempts.History.{History, Served}
+use Rattle.world_causes.specs.world_commit.attempts.History.{History, Served}
 use Rattle.world_base.specs.declared.target.TargetMemory.{TargetMemory}
 use Rattle.world_base.specs.declared.target.TargetPlan.{TargetPlan}
 use Rattle.world_base.specs.Changes.{Change, Creates, Extends, Freezes, IsPartly, Kept, Steps}
@@ -23,10 +23,10 @@ use Rattle.world_base.specs.PathLaws.{reached-keeps}
 use Rattle.world_base.specs.Requests.{request_epoch}
 use Rattle.world_base.specs.Snapshots as snap
 use Rattle.world_base.specs.Turns.{Reached}
-use Rattle.world_contents.specs.frozen.FreezeLaws.{creates-sound, freezes-sound}
-use Rattle.world_contents.specs.reads.Midway.{Sound}
-use Rattle.world_contents.specs.reads.StepLaws.{extends-sound}
-use Rattle.world_contents.specs.reads.Transactions.{transactions}
+use Rattle.world_causes.specs.world_contents.frozen.FreezeLaws.{creates-sound, freezes-sound}
+use Rattle.world_causes.specs.world_contents.reads.Midway.{Sound}
+use Rattle.world_causes.specs.world_contents.reads.StepLaws.{extends-sound}
+use Rattle.world_causes.specs.world_contents.reads.Transactions.{transactions}
 use Rattle.world_making.specs.prunings.Parts.{parts-keep}
 
 -- the containers that are known stay so as the lease is extended

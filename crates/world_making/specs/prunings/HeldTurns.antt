@@ -8,7 +8,7 @@ use Rattle.base_types.specs.declared.outcome.Outcome.{Outcome}
 use Rattle.daos_model.specs.Opening.{Opening}
 use Rattle.daos_model.specs.declared.durable.Durable.{Durable}
 use Rattle.daos_model.specs.declared.durable.Version.{Version}
-use Rattle.world_commit.specs.attempts.History.{History, Served}
+use Rattle.world_causes.specs.world_commit.attempts.History.{History, Served}
 use Rattle.world_base.specs.declared.target.TargetMemory.{TargetMemory}
 use Rattle.world_base.specs.declared.target.TargetPlan.{TargetPlan}
 use Rattle.world_base.specs.Changes.{Change, Creates, IsPartly, Kept, Steps}
@@ -17,8 +17,8 @@ use Rattle.world_base.specs.Events.{Rules}
 use Rattle.world_base.specs.PathLaws.{reached-keeps}
 use Rattle.world_base.specs.Snapshots as snap
 use Rattle.world_base.specs.Turns.{Reached}
-use Rattle.world_contents.specs.frozen.FreezeLaws.{creates-sound}
-use Rattle.world_contents.specs.reads.Midway.{Sound}
+use Rattle.world_causes.specs.world_contents.frozen.FreezeLaws.{creates-sound}
+use Rattle.world_causes.specs.world_contents.reads.Midway.{Sound}
 use Rattle.world_making.specs.prunings.Parts.{parts-keep}
 
 module _ (r : Rules) (o : Opening) (held : List Version) (h : History) (served : List Served) (opening : Epoch × FloorWhy) (t : ℕ) (p : TargetPlan) (m : TargetMemory) (from : ℕ) (x : AttemptId) (refusal : Option Outcome) where

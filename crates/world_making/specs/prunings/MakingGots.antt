@@ -13,7 +13,7 @@ use Rattle.model_laws.specs.Members.{Has, contains-from_has, has-cases, has-from
 use Rattle.daos_model.specs.Attempts.{tries}
 use Rattle.daos_model.specs.BoolLaws.{clash}
 use Rattle.daos_model.specs.Laws.{tries-append}
-use Rattle.world_commit.specs.attempts.History.{History}
+use Rattle.world_causes.specs.world_commit.attempts.History.{History}
 use Rattle.world_base.specs.declared.client.ClientState.{ClientState}
 use Rattle.world_base.specs.declared.letter.Letter.{Letter}
 use Rattle.world_base.specs.declared.target.TargetMemory.{TargetMemory}
@@ -27,18 +27,18 @@ use Rattle.world_base.specs.Letters.{target}
 use Rattle.world_base.specs.Roles.{is_prepared}
 use Rattle.world_base.specs.Stops.{AtWork, CutOf, Draws, Fails, Further, GivenUp, Happening, Hearing, HearsMore, IdleWork, IsCut, Opens, Plainly, TargetCut, WorldEvent, is_not_to, is_to, reset_letter, resets, stops_so_far, swept}
 use Rattle.world_letters.specs.epochs.Epochs.{ClientsStand}
-use Rattle.world_commit.specs.fates.Facts.{Attempts}
-use Rattle.world_contents.specs.gots.Gots.{Gots, IsLineServed, Remembers}
-use Rattle.world_contents.specs.gots.TargetGots.{gots-remembered, sent-or_left}
+use Rattle.world_causes.specs.world_commit.fates.Facts.{Attempts}
+use Rattle.world_causes.specs.world_contents.gots.Gots.{Gots, IsLineServed, Remembers}
+use Rattle.world_causes.specs.world_contents.gots.TargetGots.{gots-remembered, sent-or_left}
 use Rattle.world_causes.specs.hearing.Cutting.{turn-silent}
 use Rattle.world_causes.specs.hearing.Going.{AnswersAreServed}
 use Rattle.world_causes.specs.hearing.HappeningGots.{happenings-keep-gots}
-use Rattle.world_contents.specs.reads.Adds.{is_answer}
+use Rattle.world_causes.specs.world_contents.reads.Adds.{is_answer}
 use Rattle.world_causes.specs.restarts.EpochLaws.{rests-gots}
 use Rattle.world_causes.specs.restarts.Resting.{sweep-rests, tries-none}
-use Rattle.world_commit.specs.statuses.Heard.{is_of_attempts}
-use Rattle.world_commit.specs.statuses.Senders.{SendersAreRight}
-use Rattle.world_commit.specs.stops.CutEvents.{IsWithoutSnapshots, is_without_snapshots}
+use Rattle.world_causes.specs.world_commit.statuses.Heard.{is_of_attempts}
+use Rattle.world_causes.specs.world_commit.statuses.Senders.{SendersAreRight}
+use Rattle.world_causes.specs.world_commit.stops.CutEvents.{IsWithoutSnapshots, is_without_snapshots}
 use Rattle.world_letters.specs.talks.TalkLaws.{left-is-among}
 use Rattle.world_letters.specs.waits.Waits.{Conversation}
 use Rattle.world_making.specs.prunings.Saying.{AreUntried, SaysQuietly, says-quietly}

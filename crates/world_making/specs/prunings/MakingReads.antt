@@ -7,8 +7,8 @@ use Rattle.base_messages.specs.declared.message.Message.TheVariants as message
 use Rattle.base_messages.specs.declared.message.Post.{Post}
 use Rattle.daos_model.specs.Opening.{Opening}
 use Rattle.daos_model.specs.declared.durable.Version.{Version}
-use Rattle.world_commit.specs.attempts.Counting.{has-taken}
-use Rattle.world_commit.specs.attempts.History.{GrowsBy, History}
+use Rattle.world_causes.specs.world_commit.attempts.Counting.{has-taken}
+use Rattle.world_causes.specs.world_commit.attempts.History.{GrowsBy, History}
 use Rattle.world_base.specs.declared.target.TargetState.{TargetState}
 use Rattle.world_base.specs.declared.world.World.{World}
 use Rattle.world_base.specs.Events.{Rules, TargetHearsBy, kept, listed, target_after, target_plan}
@@ -17,17 +17,17 @@ use Rattle.world_base.specs.Stops.{AtWork, CutOf, Draws, Fails, Further, GivenUp
 use Rattle.world_causes.specs.hearing.Going.{AnswersAreServed, Before, GoesOn}
 use Rattle.world_causes.specs.hearing.HappeningReads.{happenings-keep}
 use Rattle.world_causes.specs.hearing.PlainTurns.{knows, stays-on}
-use Rattle.world_contents.specs.reads.Adds.{none-answered}
-use Rattle.world_contents.specs.reads.GrowLaws.{none-grows}
-use Rattle.world_contents.specs.reads.Midway.{Sound}
-use Rattle.world_contents.specs.reads.Reads.{Reads}
-use Rattle.world_contents.specs.reads.Versions.{Versions}
+use Rattle.world_causes.specs.world_contents.reads.Adds.{none-answered}
+use Rattle.world_causes.specs.world_contents.reads.GrowLaws.{none-grows}
+use Rattle.world_causes.specs.world_contents.reads.Midway.{Sound}
+use Rattle.world_causes.specs.world_contents.reads.Reads.{Reads}
+use Rattle.world_causes.specs.world_contents.reads.Versions.{Versions}
 use Rattle.world_causes.specs.restarts.OpenLaws.{sweep-keeps}
 use Rattle.world_causes.specs.restarts.StopLaws.{one-changes, sound-keeps, stop-keeps}
-use Rattle.world_commit.specs.statuses.Events.{told_by}
-use Rattle.world_commit.specs.statuses.Fates.{told_by_it, told_further}
-use Rattle.world_commit.specs.statuses.Heard.{is_of_attempts}
-use Rattle.world_commit.specs.stops.CutEvents.{IsWithoutSnapshots, cut_told, is_without_snapshots, message_told}
+use Rattle.world_causes.specs.world_commit.statuses.Events.{told_by}
+use Rattle.world_causes.specs.world_commit.statuses.Fates.{told_by_it, told_further}
+use Rattle.world_causes.specs.world_commit.statuses.Heard.{is_of_attempts}
+use Rattle.world_causes.specs.world_commit.stops.CutEvents.{IsWithoutSnapshots, cut_told, is_without_snapshots, message_told}
 use Rattle.world_making.specs.prunings.MakingTurns.{making-cut, making-sound}
 use Rattle.world_making.specs.prunings.Premises.{MakersStand}
 use Rattle.world_making.specs.prunings.Saying.{SaysQuietly, says-quietly}

@@ -10,7 +10,7 @@ use Rattle.daos_model.specs.Opening.{Opening, top}
 use Rattle.daos_model.specs.declared.durable.Durable.{Durable}
 use Rattle.daos_model.specs.declared.durable.Version.{Version}
 use Rattle.model_laws.specs.Members.{Has, contains-from_has}
-use Rattle.world_commit.specs.attempts.History.{History}
+use Rattle.world_causes.specs.world_commit.attempts.History.{History}
 use Rattle.world_base.specs.declared.did.Did.{Did}
 use Rattle.world_base.specs.declared.letter.Letter.{Letter}
 use Rattle.world_base.specs.declared.target.Life.TheVariants.{Running}
@@ -26,16 +26,16 @@ use Rattle.world_base.specs.Roles.{is_prepared}
 use Rattle.world_base.specs.Snapshots.{is_held_by_all}
 use Rattle.world_letters.specs.epochs.Epochs.{AsksEpoch}
 use Rattle.world_letters.specs.epochs.TargetEvents.{issued-ticks}
-use Rattle.world_contents.specs.frozen.Laws.{AreUnsettledAbove}
-use Rattle.world_contents.specs.reads.Beginning.{TurnBegins}
-use Rattle.world_contents.specs.reads.ChangeLaws.{entry-among}
-use Rattle.world_contents.specs.reads.EventLaws.{turn-begins}
-use Rattle.world_contents.specs.reads.Midway.{Sound}
-use Rattle.world_contents.specs.reads.Standing.{Knows}
+use Rattle.world_causes.specs.world_contents.frozen.Laws.{AreUnsettledAbove}
+use Rattle.world_causes.specs.world_contents.reads.Beginning.{TurnBegins}
+use Rattle.world_causes.specs.world_contents.reads.ChangeLaws.{entry-among}
+use Rattle.world_causes.specs.world_contents.reads.EventLaws.{turn-begins}
+use Rattle.world_causes.specs.world_contents.reads.Midway.{Sound}
+use Rattle.world_causes.specs.world_contents.reads.Standing.{Knows}
 use Rattle.world_letters.specs.snapshots.Makings.{IsSo}
-use Rattle.world_commit.specs.statuses.Heard.{is_of_attempts}
-use Rattle.world_commit.specs.statuses.Turns.{looked}
-use Rattle.world_commit.specs.stops.CutEvents.{is_without_snapshots}
+use Rattle.world_causes.specs.world_commit.statuses.Heard.{is_of_attempts}
+use Rattle.world_causes.specs.world_commit.statuses.Turns.{looked}
+use Rattle.world_causes.specs.world_commit.stops.CutEvents.{is_without_snapshots}
 use Rattle.world_making.specs.prunings.FreezeTurns.{freeze-cut, freeze-reached}
 use Rattle.world_making.specs.prunings.HeldTurns.{held-cut, held-reached}
 use Rattle.world_making.specs.prunings.Premises.{MakersStand}

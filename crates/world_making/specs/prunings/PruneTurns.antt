@@ -14,7 +14,7 @@ use Rattle.daos_model.specs.declared.durable.Durable.{Durable}
 use Rattle.daos_model.specs.declared.durable.Version.{Version}
 use Rattle.model_laws.specs.Decided.{AreDecided}
 use Rattle.model_laws.specs.Members.{Has, contains-from_has, has-from_contains, has-from_map}
-use Rattle.world_commit.specs.attempts.History.{History, Served}
+use Rattle.world_causes.specs.world_commit.attempts.History.{History, Served}
 use Rattle.world_base.specs.declared.target.TargetMemory.{TargetMemory}
 use Rattle.world_base.specs.declared.target.TargetPlan.{TargetPlan}
 use Rattle.world_base.specs.Changes.{Change, Extends, IsPartly, Kept, Prunes, Settles, Steps}
@@ -24,13 +24,13 @@ use Rattle.world_base.specs.PathLaws.{reached-keeps}
 use Rattle.world_base.specs.Requests.{request_epoch}
 use Rattle.world_base.specs.Snapshots as snap
 use Rattle.world_base.specs.Turns.{Reached}
-use Rattle.world_contents.specs.frozen.Laws.{AreUnsettledAbove, MayBePruned}
-use Rattle.world_contents.specs.frozen.LimitLaws.{limits-clear}
-use Rattle.world_contents.specs.frozen.PruneLaws.{parts-sound, prunes-sound}
-use Rattle.world_contents.specs.reads.ChangeLaws.{WasDecided, other-stays, still-open}
-use Rattle.world_contents.specs.reads.Midway.{Sound}
-use Rattle.world_contents.specs.reads.StepLaws.{commits-sound, extends-sound}
-use Rattle.world_contents.specs.reads.Transactions.{transactions}
+use Rattle.world_causes.specs.world_contents.frozen.Laws.{AreUnsettledAbove, MayBePruned}
+use Rattle.world_causes.specs.world_contents.frozen.LimitLaws.{limits-clear}
+use Rattle.world_causes.specs.world_contents.frozen.PruneLaws.{parts-sound, prunes-sound}
+use Rattle.world_causes.specs.world_contents.reads.ChangeLaws.{WasDecided, other-stays, still-open}
+use Rattle.world_causes.specs.world_contents.reads.Midway.{Sound}
+use Rattle.world_causes.specs.world_contents.reads.StepLaws.{commits-sound, extends-sound}
+use Rattle.world_causes.specs.world_contents.reads.Transactions.{transactions}
 use Rattle.world_making.specs.prunings.FreezeTurns.{enlisted-leased}
 use Rattle.world_making.specs.prunings.Parts.{parts-keep}
 

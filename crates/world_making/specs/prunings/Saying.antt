@@ -26,10 +26,10 @@ use Rattle.world_base.specs.PathLaws.{reached-keeps}
 use Rattle.world_base.specs.Snapshots as snap
 use Rattle.world_base.specs.Statuses.{EndsAs, Looking, NoChange}
 use Rattle.world_base.specs.Turns.{Reached, Whole}
-use Rattle.world_contents.specs.reads.Adds.{NoneIs, is_answer}
-use Rattle.world_commit.specs.statuses.Heard.{is_of_attempts}
-use Rattle.world_commit.specs.statuses.ResetTurns.{is_collecting}
-use Rattle.world_commit.specs.statuses.Turns.{looked}
+use Rattle.world_causes.specs.world_contents.reads.Adds.{NoneIs, is_answer}
+use Rattle.world_causes.specs.world_commit.statuses.Heard.{is_of_attempts}
+use Rattle.world_causes.specs.world_commit.statuses.ResetTurns.{is_collecting}
+use Rattle.world_causes.specs.world_commit.statuses.Turns.{looked}
 
 -- no line tells of an attempt
 abbrev pub AreUntried : List Line → Type 0

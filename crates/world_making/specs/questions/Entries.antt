@@ -11,7 +11,7 @@ use Rattle.base_messages.specs.declared.message.Message.{Message}
 use Rattle.daos_model.specs.Changes.{committed_at, leased, settled}
 use Rattle.daos_model.specs.declared.durable.Durable.{Durable}
 use Rattle.daos_model.specs.Durables.{entry_of, is_entry_of}
-use Rattle.world_commit.specs.asks.Entries.{IsKept, Spares, StoresNot, Unprepared, kept-step, unprepared-step}
+use Rattle.world_causes.specs.world_commit.asks.Entries.{IsKept, Spares, StoresNot, Unprepared, kept-step, unprepared-step}
 use Rattle.world_base.specs.declared.did.Did.{Did}
 use Rattle.world_base.specs.declared.target.TargetMemory.{TargetMemory}
 use Rattle.world_base.specs.declared.target.TargetPlan.{TargetPlan}

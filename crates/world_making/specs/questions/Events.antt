@@ -7,10 +7,10 @@ use Rattle.base_types.specs.declared.outcome.FloorWhy.{FloorWhy}
 use Rattle.base_messages.specs.declared.actor.ActorId.{ActorId}
 use Rattle.base_messages.specs.declared.message.Message.{Message, more_of-Message}
 use Rattle.base_messages.specs.declared.message.Message.TheVariants as message
-use Rattle.world_commit.specs.asks.Entries.{IsKept}
-use Rattle.world_commit.specs.attempts.Attempts.{IsBorn, entry_at, entry_in, leader_of}
-use Rattle.world_commit.specs.attempts.History.{Aborted, History}
-use Rattle.world_commit.specs.attempts.Turning.{one-or_another}
+use Rattle.world_causes.specs.world_commit.asks.Entries.{IsKept}
+use Rattle.world_causes.specs.world_commit.attempts.Attempts.{IsBorn, entry_at, entry_in, leader_of}
+use Rattle.world_causes.specs.world_commit.attempts.History.{Aborted, History}
+use Rattle.world_causes.specs.world_commit.attempts.Turning.{one-or_another}
 use Rattle.world_base.specs.declared.did.Did.{Did}
 use Rattle.world_base.specs.declared.letter.Letter.{Letter}
 use Rattle.world_base.specs.declared.target.TargetMemory.{TargetMemory}
@@ -21,28 +21,28 @@ use Rattle.world_base.specs.Events.{Rules, kept, target_plan}
 use Rattle.world_base.specs.Further.{HearsFurther}
 use Rattle.world_base.specs.Roles.{is_prepared}
 use Rattle.world_base.specs.Stops.{AtWork, CutOf, Draws, Fails, Further, GivenUp, Happening, Hearing, HearsMore, IdleWork, IsCut, Opens, Plainly, TargetCut, stopped_at}
-use Rattle.world_commit.specs.fates.Asked.{AskedRight}
-use Rattle.world_commit.specs.fates.Facts.{Attempts}
+use Rattle.world_causes.specs.world_commit.fates.Asked.{AskedRight}
+use Rattle.world_causes.specs.world_commit.fates.Facts.{Attempts}
 use Rattle.world_making.specs.fates.Laws.{IsWorkOfMaking}
 use Rattle.world_making.specs.making.Making.{is_of_snapshots, making_issues, tells_of_snapshots}
 use Rattle.world_making.specs.making.Turns.{cuts-leave}
-use Rattle.world_commit.specs.questions.Facts.{Questions}
-use Rattle.world_commit.specs.questions.Happening.{happenings-keep, sweeping-keeps}
-use Rattle.world_commit.specs.questions.Flying.{namings-happen, waiting-happen}
-use Rattle.world_commit.specs.questions.Hearing.{is_of_stops}
-use Rattle.world_commit.specs.questions.Inquiring.{inquiries-loss}
-use Rattle.world_commit.specs.questions.Known.{knows-fates}
-use Rattle.world_commit.specs.questions.Lacking.{rows-happen}
-use Rattle.world_commit.specs.questions.Laws.{AbortsGrow}
-use Rattle.world_commit.specs.questions.Leaving as leaving
-use Rattle.world_commit.specs.questions.Senders.{senders-happen}
-use Rattle.world_commit.specs.questions.Stopping.{cut_loss}
+use Rattle.world_causes.specs.world_commit.questions.Facts.{Questions}
+use Rattle.world_causes.specs.world_commit.questions.Happening.{happenings-keep, sweeping-keeps}
+use Rattle.world_causes.specs.world_commit.questions.Flying.{namings-happen, waiting-happen}
+use Rattle.world_causes.specs.world_commit.questions.Hearing.{is_of_stops}
+use Rattle.world_causes.specs.world_commit.questions.Inquiring.{inquiries-loss}
+use Rattle.world_causes.specs.world_commit.questions.Known.{knows-fates}
+use Rattle.world_causes.specs.world_commit.questions.Lacking.{rows-happen}
+use Rattle.world_causes.specs.world_commit.questions.Laws.{AbortsGrow}
+use Rattle.world_causes.specs.world_commit.questions.Leaving as leaving
+use Rattle.world_causes.specs.world_commit.questions.Senders.{senders-happen}
+use Rattle.world_causes.specs.world_commit.questions.Stopping.{cut_loss}
 use Rattle.world_making.specs.questions.Entries.{cut-leaves-entry}
 use Rattle.world_making.specs.questions.Laws.{AllEventsKeepQuestions, AllHappeningsKeepQuestions, MakingCutsKeepQuestions, MakingKeepsQuestions}
 use Rattle.world_making.specs.questions.Turns.{making-questions}
-use Rattle.world_commit.specs.stops.CutEvents.{IsWithoutSnapshots, is_without_snapshots}
-use Rattle.world_commit.specs.stops.Parts.{now-here, now-there}
-use Rattle.world_commit.specs.stops.Stops as stopping
+use Rattle.world_causes.specs.world_commit.stops.CutEvents.{IsWithoutSnapshots, is_without_snapshots}
+use Rattle.world_causes.specs.world_commit.stops.Parts.{now-here, now-there}
+use Rattle.world_causes.specs.world_commit.stops.Stops as stopping
 
 pub making-keeps-questions : MakingKeepsQuestions
 making-keeps-questions r h later w v A g is grown B k = making-questions r w v g is h later (knows-fates r h w A) (knows-fates r later v B) grown k

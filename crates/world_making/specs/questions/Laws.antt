@@ -1,15 +1,15 @@
 -- The laws of questions between targets where snapshots are made and containers aggregated, as statements.
 use Rattle.base_types.specs.declared.id.AttemptId.{AttemptId}
-use Rattle.world_commit.specs.attempts.History.{Aborted, History}
+use Rattle.world_causes.specs.world_commit.attempts.History.{Aborted, History}
 use Rattle.world_base.specs.declared.world.World.{World}
 use Rattle.world_base.specs.Events.{Rules}
 use Rattle.world_base.specs.Stops.{Happening, HearsMore, TargetCut, WorldEvent}
-use Rattle.world_commit.specs.fates.Asked.{AskedRight}
-use Rattle.world_commit.specs.fates.Facts.{Attempts}
+use Rattle.world_causes.specs.world_commit.fates.Asked.{AskedRight}
+use Rattle.world_causes.specs.world_commit.fates.Facts.{Attempts}
 use Rattle.world_making.specs.fates.Laws.{IsWorkOfMaking}
 use Rattle.world_making.specs.making.Making.{IsOfMaking}
-use Rattle.world_commit.specs.questions.Facts.{Questions}
-use Rattle.world_commit.specs.questions.Laws.{AbortsGrow}
+use Rattle.world_causes.specs.world_commit.questions.Facts.{Questions}
+use Rattle.world_causes.specs.world_commit.questions.Laws.{AbortsGrow}
 
 -- a target hears of a snapshot or an aggregation, where what is aborted stays so
 abbrev pub MakingKeepsQuestions : Type 0

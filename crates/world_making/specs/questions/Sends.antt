@@ -6,12 +6,12 @@ use Rattle.base_messages.specs.declared.actor.ActorId.{ActorId}
 use Rattle.base_messages.specs.declared.message.Message.{Message, more_of-Message}
 use Rattle.base_messages.specs.declared.message.Message.TheVariants as message
 use Rattle.dtx_base.specs.declared.leading.Naming.{Naming}
-use Rattle.world_commit.specs.asks.Asks.{IsMark, IsMarked, IsNamingOf, IsQuery, IsQueryOf, IsVerdict}
-use Rattle.world_commit.specs.asks.Told.{IsPrepareOf}
+use Rattle.world_causes.specs.world_commit.asks.Asks.{IsMark, IsMarked, IsNamingOf, IsQuery, IsQueryOf, IsVerdict}
+use Rattle.world_causes.specs.world_commit.asks.Told.{IsPrepareOf}
 use Rattle.world_base.specs.declared.letter.Letter.{Letter}
 use Rattle.world_making.specs.fates.Sends.{is_sent_in_making}
 use Rattle.world_making.specs.making.Making.{IsOfMaking, is_of_snapshots}
-use Rattle.world_commit.specs.questions.Facts.{IsMarkFor, IsNamingReset, IsQueryReset, IsResetBy, NamesSender}
+use Rattle.world_causes.specs.world_commit.questions.Facts.{IsMarkFor, IsNamingReset, IsQueryReset, IsResetBy, NamesSender}
 
 -- ---- what is heard
 

@@ -12,18 +12,18 @@ use Rattle.dtx_base.specs.Leading.{undecided_attempt}
 use Rattle.dtx_base.specs.Members.{has_target}
 use Rattle.dtx_base.specs.Rows.{row_of}
 use Rattle.model_laws.specs.Members.{Has, has-left}
-use Rattle.world_commit.specs.asks.Asks.{IsNamingOf, IsQueryOf, IsVerdict, NonePrepares, RowsLack}
-use Rattle.world_commit.specs.asks.InquiryKept.{SenseStays, still-heard, still-inquired, still-told}
-use Rattle.world_commit.specs.asks.Knowing.{KnowsAttempts}
-use Rattle.world_commit.specs.asks.Moving.{TargetMoves, heard-moves, now-here, same-there}
-use Rattle.world_commit.specs.asks.NamedLaws.{newly-flies, target-named}
-use Rattle.world_commit.specs.asks.ParkedLaws.{target-parked}
-use Rattle.world_commit.specs.asks.RowsKept.{target-rows}
-use Rattle.world_commit.specs.asks.Told.{IsRefused, LeavesTold, held-or, none-or, prepare-is, told-on}
-use Rattle.world_commit.specs.attempts.Attempts.{IsOther, leader_of}
-use Rattle.world_commit.specs.attempts.History.{Aborted, History}
-use Rattle.world_commit.specs.attempts.MemberBits.{has-with, has-with_other}
-use Rattle.world_commit.specs.attempts.Turning.{one-or_another}
+use Rattle.world_causes.specs.world_commit.asks.Asks.{IsNamingOf, IsQueryOf, IsVerdict, NonePrepares, RowsLack}
+use Rattle.world_causes.specs.world_commit.asks.InquiryKept.{SenseStays, still-heard, still-inquired, still-told}
+use Rattle.world_causes.specs.world_commit.asks.Knowing.{KnowsAttempts}
+use Rattle.world_causes.specs.world_commit.asks.Moving.{TargetMoves, heard-moves, now-here, same-there}
+use Rattle.world_causes.specs.world_commit.asks.NamedLaws.{newly-flies, target-named}
+use Rattle.world_causes.specs.world_commit.asks.ParkedLaws.{target-parked}
+use Rattle.world_causes.specs.world_commit.asks.RowsKept.{target-rows}
+use Rattle.world_causes.specs.world_commit.asks.Told.{IsRefused, LeavesTold, held-or, none-or, prepare-is, told-on}
+use Rattle.world_causes.specs.world_commit.attempts.Attempts.{IsOther, leader_of}
+use Rattle.world_causes.specs.world_commit.attempts.History.{Aborted, History}
+use Rattle.world_causes.specs.world_commit.attempts.MemberBits.{has-with, has-with_other}
+use Rattle.world_causes.specs.world_commit.attempts.Turning.{one-or_another}
 use Rattle.world_base.specs.declared.letter.Letter.{Letter}
 use Rattle.world_base.specs.declared.target.TargetState.{TargetState}
 use Rattle.world_base.specs.declared.world.World.{World}
@@ -31,12 +31,12 @@ use Rattle.world_base.specs.Events.{Rules, TargetHearsBy, kept, target_after, ta
 use Rattle.world_base.specs.Further.{HearsFurther}
 use Rattle.world_base.specs.Letters.{letter_of, target}
 use Rattle.world_base.specs.Stops.{HearsMore}
-use Rattle.world_commit.specs.fates.Facts.{down_in, knows_down}
+use Rattle.world_causes.specs.world_commit.fates.Facts.{down_in, knows_down}
 use Rattle.world_making.specs.fates.Sends.{is_sent_in_making, making-sent}
 use Rattle.world_making.specs.making.Making.{IsOfMaking, MakingLeaves, down_then}
 use Rattle.world_making.specs.making.Turns.{hearings-leave}
-use Rattle.world_commit.specs.questions.Facts.{InquiriesHold, IsAsked, IsKnownDown, IsNamed, IsNamingReset, IsOnInquiry, IsOnNaming, IsOnQuery, IsQueryReset, IsTold, IsToldOrStopped, LeaderStopped, NamesSender, NamingsFly, Questions, ResetsNameSenders, WaitingAreAsked}
-use Rattle.world_commit.specs.questions.Facts as fact
+use Rattle.world_causes.specs.world_commit.questions.Facts.{InquiriesHold, IsAsked, IsKnownDown, IsNamed, IsNamingReset, IsOnInquiry, IsOnNaming, IsOnQuery, IsQueryReset, IsTold, IsToldOrStopped, LeaderStopped, NamesSender, NamingsFly, Questions, ResetsNameSenders, WaitingAreAsked}
+use Rattle.world_causes.specs.world_commit.questions.Facts as fact
 use Rattle.world_making.specs.questions.Entries.{LeavesEntryOf, turn-leaves-entry}
 use Rattle.world_making.specs.questions.Sends.{naming-unheard, naming-unlost, prepare-unsent, query-unheard, query-unlost, query-unsent, sent-names, mark-unheard}
 

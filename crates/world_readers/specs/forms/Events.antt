@@ -22,12 +22,12 @@ use Rattle.world_base.specs.Events.{ByClient, ByTarget, Event, Rules, TargetHear
 use Rattle.world_base.specs.Further.{HearsFurther}
 use Rattle.world_base.specs.Letters.{target}
 use Rattle.world_base.specs.Stops.{AtWork, CutOf, Draws, Fails, Further, GivenUp, Happening, Hearing, IdleWork, IsCut, IsInHand, Opens, Plainly, TargetCut, WorldEvent, opened_at, stopped_at}
-use Rattle.world_commit.specs.attempts.Attempts.{writes_of}
-use Rattle.world_commit.specs.attempts.Counting.{has-taken}
-use Rattle.world_commit.specs.attempts.History.{History}
-use Rattle.world_commit.specs.fates.Facts.{Attempts, IsPrepareRight, IsSaidSo}
-use Rattle.world_contents.specs.reads.EventLaws.{at-or-there}
-use Rattle.world_contents.specs.reads.Given.{Given, IsMessageRight}
+use Rattle.world_making.specs.world_commit.attempts.Attempts.{writes_of}
+use Rattle.world_making.specs.world_commit.attempts.Counting.{has-taken}
+use Rattle.world_making.specs.world_commit.attempts.History.{History}
+use Rattle.world_making.specs.world_commit.fates.Facts.{Attempts, IsPrepareRight, IsSaidSo}
+use Rattle.world_making.specs.world_contents.reads.EventLaws.{at-or-there}
+use Rattle.world_making.specs.world_contents.reads.Given.{Given, IsMessageRight}
 use Rattle.world_readers.specs.forms.Forms.{AllKeepInForm, VersionsInForm}
 use Rattle.world_readers.specs.forms.Turns.{AreWrites, AsksInForm, further-in_form, hearing-cut, hears-in_form, idle-cut, idles-in_form}
 

@@ -36,20 +36,20 @@ use Rattle.world_base.specs.StepLaws.{set-is, set-there}
 use Rattle.world_base.specs.Statuses.{opening_posts}
 use Rattle.world_base.specs.Steps.{without}
 use Rattle.world_base.specs.Stops.{AtWork, CutOf, Draws, Fails, Further, GivenUp, Happening, Hearing, IdleWork, IsCut, Opens, Plainly, WorldEvent, opened_at, restart_line, stopped_at, stops_so_far, swept}
-use Rattle.world_causes.specs.outcomes.Untried.{hearing-untried, idling-untried, untried-none, untried-one}
-use Rattle.world_contents.specs.gots.StepGots.{ops-of-attempt}
-use Rattle.world_contents.specs.reads.Given.{Given}
-use Rattle.world_letters.specs.clients.Answered.{ops_numbered}
-use Rattle.world_letters.specs.clients.Standing.{HasTold}
-use Rattle.world_letters.specs.kinds.Fitting.{AllAnswersFit, AnswersFit, AreOfOps, IsFittingClient, IsFittingOf, LeavesFitting, with_posts}
-use Rattle.world_letters.specs.kinds.FittingLaws.{AreLess, AreLessOf, clients-begin-fitting, fitting-less, fitting-less-of, hear-turn-fits, next-turn-fits}
-use Rattle.world_letters.specs.kinds.Loads.{AnswersOnce, letter_load, load, parked_load, post_load, total}
-use Rattle.world_letters.specs.kinds.LoadLaws.{total-append}
-use Rattle.world_letters.specs.kinds.PostLaws.{CarryNone, statuses-carry}
-use Rattle.world_letters.specs.lines.FilledLaws.{tries-filled}
-use Rattle.world_letters.specs.lines.Lines.{Lines, filled}
-use Rattle.world_letters.specs.lives.TurnLines.{further-lines, idle-lines, plain-lines}
-use Rattle.world_letters.specs.talks.TalkLaws.{taken-is-among}
+use Rattle.world_making.specs.world_causes.outcomes.Untried.{hearing-untried, idling-untried, untried-none, untried-one}
+use Rattle.world_making.specs.world_contents.gots.StepGots.{ops-of-attempt}
+use Rattle.world_making.specs.world_contents.reads.Given.{Given}
+use Rattle.world_ended.specs.world_letters.clients.Answered.{ops_numbered}
+use Rattle.world_ended.specs.world_letters.clients.Standing.{HasTold}
+use Rattle.world_ended.specs.world_letters.kinds.Fitting.{AllAnswersFit, AnswersFit, AreOfOps, IsFittingClient, IsFittingOf, LeavesFitting, with_posts}
+use Rattle.world_ended.specs.world_letters.kinds.FittingLaws.{AreLess, AreLessOf, clients-begin-fitting, fitting-less, fitting-less-of, hear-turn-fits, next-turn-fits}
+use Rattle.world_ended.specs.world_letters.kinds.Loads.{AnswersOnce, letter_load, load, parked_load, post_load, total}
+use Rattle.world_ended.specs.world_letters.kinds.LoadLaws.{total-append}
+use Rattle.world_ended.specs.world_letters.kinds.PostLaws.{CarryNone, statuses-carry}
+use Rattle.world_ended.specs.world_letters.lines.FilledLaws.{tries-filled}
+use Rattle.world_ended.specs.world_letters.lines.Lines.{Lines, filled}
+use Rattle.world_ended.specs.world_letters.lives.TurnLines.{further-lines, idle-lines, plain-lines}
+use Rattle.world_ended.specs.world_letters.talks.TalkLaws.{taken-is-among}
 use Rattle.world_making.specs.losses.Tells.{turn-lines-untried}
 use Rattle.world_readers.specs.forms.Forms.{AllKeepInForm}
 use Rattle.world_readers.specs.kinds.Kinds.{AnswersFitInWorld, loads_in, parked_while, waiting_load}

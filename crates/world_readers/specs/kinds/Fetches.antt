@@ -40,11 +40,11 @@ use Rattle.world_base.specs.Roles.{joins_on, member_at}
 use Rattle.world_base.specs.Turns.{Whole}
 use Rattle.world_base.specs.VerdictLaws.{Tries, verdict-keeps}
 use Rattle.world_base.specs.Verdicts as verdict
-use Rattle.world_contents.specs.reads.Given.{IsParkedRight, IsWaitingRight}
-use Rattle.world_contents.specs.reads.ServedLaws.{free-read}
-use Rattle.world_letters.specs.kinds.Loads.{AnswersOnce, load, parked_load, post_load, total}
-use Rattle.world_letters.specs.kinds.LoadLaws.{answer-carries, end-carries, total-append}
-use Rattle.world_letters.specs.kinds.PostLaws.{queries-carry, verdicts-free}
+use Rattle.world_making.specs.world_contents.reads.Given.{IsParkedRight, IsWaitingRight}
+use Rattle.world_making.specs.world_contents.reads.ServedLaws.{free-read}
+use Rattle.world_ended.specs.world_letters.kinds.Loads.{AnswersOnce, load, parked_load, post_load, total}
+use Rattle.world_ended.specs.world_letters.kinds.LoadLaws.{answer-carries, end-carries, total-append}
+use Rattle.world_ended.specs.world_letters.kinds.PostLaws.{queries-carry, verdicts-free}
 use Rattle.world_readers.specs.Freed.{freed-waited}
 use Rattle.world_readers.specs.forms.Changes.{leased-in_form, settles-in_form}
 use Rattle.world_readers.specs.forms.Forms.{VersionsInForm}

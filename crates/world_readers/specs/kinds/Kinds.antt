@@ -9,8 +9,8 @@ use Rattle.world_base.specs.declared.target.Life.TheVariants.{Down, Running, Sto
 use Rattle.world_base.specs.declared.target.TargetState.{TargetState}
 use Rattle.world_base.specs.declared.world.World.{World}
 use Rattle.world_base.specs.Events.{Rules, client_plan}
-use Rattle.world_letters.specs.kinds.Fitting.{AllAnswersFit, IsFittingClient, Loads}
-use Rattle.world_letters.specs.kinds.Loads.{letter_load, parked_load, total}
+use Rattle.world_ended.specs.world_letters.kinds.Fitting.{AllAnswersFit, IsFittingClient, Loads}
+use Rattle.world_ended.specs.world_letters.kinds.Loads.{letter_load, parked_load, total}
 
 -- what the Fetches carry that wait at a target; at one that doesn't run none waits
 abbrev pub parked_while : AttemptId → Read → Life → List Parked → ℕ

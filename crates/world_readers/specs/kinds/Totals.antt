@@ -14,9 +14,9 @@ use Rattle.world_base.specs.declared.target.TargetState.{TargetState}
 use Rattle.world_base.specs.declared.world.World.{World}
 use Rattle.world_base.specs.Letters.{Takes, letter_of, letters_of}
 use Rattle.world_base.specs.Stops.{is_not_to, is_not_to_down, is_to, is_to_down, reset_letter, resets, swept}
-use Rattle.world_letters.specs.kinds.FittingLaws.{AreAlike, AreLess}
-use Rattle.world_letters.specs.kinds.Loads.{letter_load, load, parked_load, post_load, total}
-use Rattle.world_letters.specs.kinds.LoadLaws.{none-alike, total-alike, total-append, total-filter, total-map, total-none, total-split}
+use Rattle.world_ended.specs.world_letters.kinds.FittingLaws.{AreAlike, AreLess}
+use Rattle.world_ended.specs.world_letters.kinds.Loads.{letter_load, load, parked_load, post_load, total}
+use Rattle.world_ended.specs.world_letters.kinds.LoadLaws.{none-alike, total-alike, total-append, total-filter, total-map, total-none, total-split}
 use Rattle.world_readers.specs.kinds.Kinds.{loads_in, parked_while, waiting_load}
 
 -- one of a list becomes another

@@ -39,11 +39,11 @@ use Rattle.world_base.specs.Snapshots as snap
 use Rattle.world_base.specs.Statuses.{AtOnce, EndsAs, IsDone, ask_left, reset_joins, reset_leads, state_of, status_left, status_refusal}
 use Rattle.world_base.specs.TargetTurns.{Hears, IdlesWhole, commit_request, fetch_request, prepare_request}
 use Rattle.world_base.specs.Verdicts as verdict
-use Rattle.world_contents.specs.reads.Given.{IsMessageRight, IsParkedRight}
-use Rattle.world_letters.specs.kinds.Loads.{AnswersOnce, post_load}
-use Rattle.world_letters.specs.kinds.LoadLaws.{total-append}
-use Rattle.world_letters.specs.kinds.PostLaws.{CarryNone, acks-carry, asks-carry, batches-carry, beginnings-carry, both-carry, each-carries, inquiries-carry, none-carried, resets-carry, resets-free}
-use Rattle.world_letters.specs.kinds.TurnLaws.{is_of_read, unread-answers, unread-none}
+use Rattle.world_making.specs.world_contents.reads.Given.{IsMessageRight, IsParkedRight}
+use Rattle.world_ended.specs.world_letters.kinds.Loads.{AnswersOnce, post_load}
+use Rattle.world_ended.specs.world_letters.kinds.LoadLaws.{total-append}
+use Rattle.world_ended.specs.world_letters.kinds.PostLaws.{CarryNone, acks-carry, asks-carry, batches-carry, beginnings-carry, both-carry, each-carries, inquiries-carry, none-carried, resets-carry, resets-free}
+use Rattle.world_ended.specs.world_letters.kinds.TurnLaws.{is_of_read, unread-answers, unread-none}
 use Rattle.world_making.specs.making.Making.{AsksAgain, AsksFreezes, AsksPrunes, EndsCollected, EndsIt, IsOfMaking, MakingSends, SaysFrozen, SaysNothing, SaysPruned, SaysRefused, is_lost_at}
 use Rattle.world_making.specs.making.Turns.{hearings-leave}
 use Rattle.world_readers.specs.kinds.Fetches.{fetch-once, verdict-once}

@@ -9,11 +9,11 @@ use Rattle.model_laws.specs.TargetLaws.{same_number}
 use Rattle.world_base.specs.declared.client.ClientState.{ClientState}
 use Rattle.world_base.specs.declared.world.World.{World}
 use Rattle.world_base.specs.Events.{Rules, client_plan}
-use Rattle.world_contents.specs.gots.StepGots.{ops-of-attempt}
+use Rattle.world_making.specs.world_contents.gots.StepGots.{ops-of-attempt}
 use Rattle.world_ended.specs.Clients.{AllEndWell, HasEndedWell}
-use Rattle.world_letters.specs.clients.Answered.{EndsAsAnswered, EndsWell}
-use Rattle.world_letters.specs.lines.LastLines.{lines-answered}
-use Rattle.world_letters.specs.lines.Lines.{Lines}
+use Rattle.world_ended.specs.world_letters.clients.Answered.{EndsAsAnswered, EndsWell}
+use Rattle.world_ended.specs.world_letters.lines.LastLines.{lines-answered}
+use Rattle.world_ended.specs.world_letters.lines.Lines.{Lines}
 
 abbrev pub LinesEndWell : Type 0
 LinesEndWell = (r : Rules) (w : World) → Lines r w → AllEndWell r.script w.lines

@@ -8,8 +8,8 @@ use Rattle.daos_model.specs.Attempts.{tries_of}
 use Rattle.daos_model.specs.Order.{AreInTurn, client_commands}
 use Rattle.world_base.specs.declared.client.ClientPlan.{ClientPlan}
 use Rattle.world_base.specs.declared.client.ClientState.{ClientState}
-use Rattle.world_letters.specs.clients.Standing.{AreTriedAgain, HasTold}
-use Rattle.world_letters.specs.lines.Lines.{AreTheSame}
+use Rattle.world_ended.specs.world_letters.clients.Standing.{AreTriedAgain, HasTold}
+use Rattle.world_ended.specs.world_letters.lines.Lines.{AreTheSame}
 
 -- ---- what a report says
 

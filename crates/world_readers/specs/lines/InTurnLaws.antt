@@ -14,10 +14,10 @@ use Rattle.world_base.specs.declared.client.ClientPlan.{ClientPlan}
 use Rattle.world_base.specs.declared.client.ClientState.{ClientState}
 use Rattle.world_base.specs.declared.world.World.{World}
 use Rattle.world_base.specs.Events.{Rules, client_plan, commands_or_none}
-use Rattle.world_letters.specs.clients.Standing.{AreOfPresent, AreTriedAgain, HasTold, has_number, number_of}
-use Rattle.world_letters.specs.lines.Lines.{AreTheSame, Lines}
+use Rattle.world_ended.specs.world_letters.clients.Standing.{AreOfPresent, AreTriedAgain, HasTold, has_number, number_of}
+use Rattle.world_ended.specs.world_letters.lines.Lines.{AreTheSame, Lines}
 use Rattle.world_readers.specs.lines.InTurn.{AllBeginInTurn, AreOfNext, BeginsInTurn, HasItsLines}
-use Rattle.world_letters.specs.lines.LastLines.{cut-alike, none-same}
+use Rattle.world_ended.specs.world_letters.lines.LastLines.{cut-alike, none-same}
 
 -- ---- attempts that are the same but for epochs
 

@@ -18,10 +18,10 @@ use Rattle.world_base.specs.Events.{ByClient, ByTarget, Event, Rules, TargetHear
 use Rattle.world_base.specs.Further.{HearsFurther}
 use Rattle.world_base.specs.MemoryLaws.{idle-leaves}
 use Rattle.world_base.specs.Stops.{Draws, Fails, Further, GivenUp, Happening, IsCut, Opens, Plainly, WorldEvent, opened_at, stopped_at}
-use Rattle.world_contents.specs.reads.EventLaws.{at-or-there}
-use Rattle.world_contents.specs.reads.Given.{Given}
-use Rattle.world_letters.specs.clients.Snapshots.{is_at_snapshot}
-use Rattle.world_letters.specs.talks.TalkLaws.{taken-is-among}
+use Rattle.world_making.specs.world_contents.reads.EventLaws.{at-or-there}
+use Rattle.world_making.specs.world_contents.reads.Given.{Given}
+use Rattle.world_ended.specs.world_letters.clients.Snapshots.{is_at_snapshot}
+use Rattle.world_ended.specs.world_letters.talks.TalkLaws.{taken-is-among}
 use Rattle.world_readers.specs.stamps.Stamps.{AddsOwn, IsOwnStamp, StampsAreOwn, StampsAreUnnamed, own-same}
 use Rattle.world_readers.specs.stamps.Turns.{further-stamps, hears-own}
 

@@ -31,9 +31,9 @@ use Rattle.world_base.specs.Roles.{joins_on, member_at}
 use Rattle.world_base.specs.Turns.{Whole}
 use Rattle.world_base.specs.VerdictLaws.{Tries, verdict-keeps}
 use Rattle.world_base.specs.Verdicts as verdict
-use Rattle.world_causes.specs.causes.Growth.{question-asks}
-use Rattle.world_contents.specs.reads.Given.{IsFetchRight, IsParkedRight, IsReadEpoch, IsWaitingRight}
-use Rattle.world_contents.specs.reads.Reads.{IsOfAttempt}
+use Rattle.world_making.specs.world_causes.causes.Growth.{question-asks}
+use Rattle.world_making.specs.world_contents.reads.Given.{IsFetchRight, IsParkedRight, IsReadEpoch, IsWaitingRight}
+use Rattle.world_making.specs.world_contents.reads.Reads.{IsOfAttempt}
 use Rattle.world_readers.specs.Freed.{freed-waited}
 use Rattle.world_readers.specs.stamps.Stamps.{AddsOwn, IsOwnStamp, own-same, own-then}
 

@@ -10,8 +10,8 @@ use Rattle.world_base.specs.declared.target.Life.TheVariants.{Running}
 use Rattle.world_base.specs.declared.target.TargetState.{TargetState}
 use Rattle.world_base.specs.declared.world.World.{World}
 use Rattle.world_base.specs.Events.{Rules}
-use Rattle.world_causes.specs.causes.Premises.{AreOfReads}
-use Rattle.world_letters.specs.clients.Snapshots.{is_at_snapshot}
+use Rattle.world_making.specs.world_causes.causes.Premises.{AreOfReads}
+use Rattle.world_ended.specs.world_letters.clients.Snapshots.{is_at_snapshot}
 
 -- ---- the facts
 

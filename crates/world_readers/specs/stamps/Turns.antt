@@ -28,7 +28,7 @@ use Rattle.world_base.specs.Requests.{request_epoch}
 use Rattle.world_base.specs.Roles.{is_prepared, told_by, told_of_all}
 use Rattle.world_base.specs.Statuses.{AtOnce, EndsAs, IsDone, ask_left}
 use Rattle.world_base.specs.TargetTurns.{Hears, commit_request, fetch_request, prepare_request}
-use Rattle.world_contents.specs.reads.Given.{IsMessageRight, IsParkedRight, IsReadEpoch}
+use Rattle.world_making.specs.world_contents.reads.Given.{IsMessageRight, IsParkedRight, IsReadEpoch}
 use Rattle.world_making.specs.prunings.Saying.{says-quietly}
 use Rattle.world_readers.specs.Freed.{all-told_stamps, told-member, told-stamps}
 use Rattle.world_readers.specs.stamps.Fetches.{fetch-own, verdict-own}

@@ -8,7 +8,7 @@ use Rattle.base_types.specs.declared.report.Attempt.{Attempt}
 use Rattle.daos_model.specs.declared.cell.Cell.{Cell}
 use Rattle.daos_model.specs.Prunes.{touches}
 use Rattle.model_laws.specs.Targets.{is_own}
-use Rattle.world_commit.specs.attempts.Attempts.{writes_of}
+use Rattle.world_causes.specs.world_commit.attempts.Attempts.{writes_of}
 use Rattle.world_base.specs.Events.{Rules}
 
 -- attempts, each with an epoch that was issued to it

@@ -17,7 +17,7 @@ use Rattle.vos_store.specs.Answers.{later_write, shown_or_none}
 use Rattle.world_base.specs.declared.target.TargetPlan.{TargetPlan}
 use Rattle.world_base.specs.Commits.{first_later, or_else}
 use Rattle.world_base.specs.Reads.{later_of, uncertain_from, uncertain_to}
-use Rattle.world_contents.specs.reads.ListLaws.{none-found}
+use Rattle.world_causes.specs.world_contents.reads.ListLaws.{none-found}
 
 no-shown : (o : Option Version) → shown_or_none o ≡ None → o ≡ None
 no-shown None h = refl

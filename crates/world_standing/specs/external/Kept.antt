@@ -12,10 +12,10 @@ use Rattle.base_types.specs.Paths.{overlaps}
 use Rattle.daos_model.specs.Accesses.{asked_member}
 use Rattle.daos_model.specs.Transactions.{attempt_ops, read_at}
 use Rattle.model_laws.specs.Members.{Has, contains-from_has, has-cases, has-from_contains, has-left, has-right}
-use Rattle.world_commit.specs.attempts.History.{Served}
+use Rattle.world_causes.specs.world_commit.attempts.History.{Served}
 use Rattle.world_base.specs.ClientTurns.{group_asked, group_count}
 use Rattle.world_base.specs.Events.{Rules}
-use Rattle.world_contents.specs.reads.Versions.{IsWriteAt}
+use Rattle.world_causes.specs.world_contents.reads.Versions.{IsWriteAt}
 use Rattle.world_standing.specs.external.Behind.{IsBehind, IsFar, IsFarOfFirst, IsLater, Issued, WasAnswered, WritesAt}
 
 -- ---- the definitions

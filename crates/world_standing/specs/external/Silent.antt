@@ -11,9 +11,9 @@ use Rattle.base_types.specs.declared.outcome.Outcome.TheVariants.{Committed}
 use Rattle.base_messages.specs.declared.actor.ActorId.{ActorId}
 use Rattle.base_messages.specs.declared.message.Message.TheVariants as message
 use Rattle.base_messages.specs.declared.message.Post.{Post}
-use Rattle.dtx_base.specs.Leading.{LeaderOf, begun, begun_alone, begun_with_others, prepare_to}
-use Rattle.dtx_base.specs.Members.{other_members}
-use Rattle.dtx_base.specs.Rows.{is_empty}
+use Rattle.world_base.specs.dtx_base.Leading.{LeaderOf, begun, begun_alone, begun_with_others, prepare_to}
+use Rattle.world_base.specs.dtx_base.Members.{other_members}
+use Rattle.world_base.specs.dtx_base.Rows.{is_empty}
 use Rattle.model_laws.specs.Members.{Has, has-from_map}
 use Rattle.world_base.specs.declared.did.Did.{Did}
 use Rattle.world_base.specs.declared.request.CommitRequest.{CommitRequest}
@@ -30,8 +30,8 @@ use Rattle.world_base.specs.Requests.{with_ticks}
 use Rattle.world_base.specs.Roles.{leader_at}
 use Rattle.world_base.specs.Turns.{Whole}
 use Rattle.world_base.specs.Verdicts as verdict
-use Rattle.world_contents.specs.reads.AckLaws.{AckTells, Nothing, Refused, TellsCommit, ack-tells, refusal-silent}
-use Rattle.world_contents.specs.reads.Adds.{NoneIs, is_answer}
+use Rattle.world_causes.specs.world_contents.reads.AckLaws.{AckTells, Nothing, Refused, TellsCommit, ack-tells, refusal-silent}
+use Rattle.world_causes.specs.world_contents.reads.Adds.{NoneIs, is_answer}
 
 -- one message is sent, which is no answer
 pub one-silent : (p : Post) → is_answer p.message ≡ false → NoneIs is_answer (p ∷ [])

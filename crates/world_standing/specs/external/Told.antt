@@ -18,16 +18,16 @@ use Rattle.daos_model.specs.Transactions.{attempt_ops, number_of_read, read_at, 
 use Rattle.model_laws.specs.DecidedLaws.{has-all}
 use Rattle.model_laws.specs.Members.{Has, has-filter, has-from_contains, has-from_map, has-right}
 use Rattle.model_laws.specs.TargetLaws.{same_number}
-use Rattle.world_commit.specs.attempts.History.{History, Served}
+use Rattle.world_causes.specs.world_commit.attempts.History.{History, Served}
 use Rattle.world_base.specs.declared.client.ClientState.{ClientState}
 use Rattle.world_base.specs.declared.world.World.{World}
 use Rattle.world_base.specs.Events.{Rules, client_plan}
-use Rattle.world_letters.specs.clients.Answered.{EndsAsAnswered, EndsWell, IsAnsweredWhole, ops_numbered}
-use Rattle.world_contents.specs.gots.Gots.{AreJoined, Gots, IsGot, IsLineServed, IsServedTo, NoneYet, OneMore, group_at, groups_asked}
-use Rattle.world_contents.specs.gots.StepGots.{ops-of-attempt}
-use Rattle.world_letters.specs.lines.LastLines.{lines-answered}
-use Rattle.world_letters.specs.lines.Lines.{Lines}
-use Rattle.world_contents.specs.reads.Reads.{IsOfAttempt}
+use Rattle.world_causes.specs.world_letters.clients.Answered.{EndsAsAnswered, EndsWell, IsAnsweredWhole, ops_numbered}
+use Rattle.world_causes.specs.world_contents.gots.Gots.{AreJoined, Gots, IsGot, IsLineServed, IsServedTo, NoneYet, OneMore, group_at, groups_asked}
+use Rattle.world_causes.specs.world_contents.gots.StepGots.{ops-of-attempt}
+use Rattle.world_causes.specs.world_letters.lines.LastLines.{lines-answered}
+use Rattle.world_causes.specs.world_letters.lines.Lines.{Lines}
+use Rattle.world_causes.specs.world_contents.reads.Reads.{IsOfAttempt}
 use Rattle.world_standing.specs.external.Kept.{ReadsAt}
 
 -- ---- reads

@@ -13,7 +13,7 @@ use Rattle.model_laws.specs.Members.{Has, contains-from_has, has-from_contains, 
 use Rattle.base_messages.specs.declared.message.Message.{Message}
 use Rattle.daos_model.specs.declared.durable.Durable.{Durable}
 use Rattle.world_base.specs.Events.{Rules, target_plan}
-use Rattle.world_contents.specs.posts.Forms.{HasFormAfterStops, IsInForm, HasForm}
+use Rattle.world_causes.specs.world_contents.posts.Forms.{HasFormAfterStops, IsInForm, HasForm}
 use Rattle.base_types.specs.declared.id.ContId.{ContId}
 use Rattle.base_types.specs.declared.script.Script.{Script}
 use Rattle.daos_model.specs.Forms.{AreWritesInForm, is_read_in_form}

@@ -13,9 +13,9 @@ use Rattle.base_messages.specs.declared.message.Message.TheVariants as message
 use Rattle.base_messages.specs.declared.message.Post.{Post}
 use Rattle.daos_model.specs.BoolLaws.{and_right}
 use Rattle.daos_model.specs.declared.durable.Durable.{Durable}
-use Rattle.dtx_base.specs.declared.member.Parked.{Parked}
-use Rattle.dtx_base.specs.Leading.{is_led, is_open}
-use Rattle.dtx_base.specs.Members.{other_members}
+use Rattle.world_base.specs.dtx_base.declared.member.Parked.{Parked}
+use Rattle.world_base.specs.dtx_base.Leading.{is_led, is_open}
+use Rattle.world_base.specs.dtx_base.Members.{other_members}
 use Rattle.model_laws.specs.Members.{Has, has-cases, has-from_filter, has-from_map}
 use Rattle.world_base.specs.declared.client.ClientPlan.{ClientPlan}
 use Rattle.world_base.specs.declared.client.ClientState.{ClientState}
@@ -36,14 +36,14 @@ use Rattle.world_base.specs.Letters.{client, letter_of, letters_of}
 use Rattle.world_base.specs.Statuses.{opening_posts, status_refusal, status_to, statuses_for, statuses_of}
 use Rattle.world_base.specs.Stops.{HearsMore, is_down_at, is_not_to, is_not_to_down, is_to, is_to_down, reset_letter, resets, swept}
 use Rattle.world_base.specs.TargetTurns.{commit_request}
-use Rattle.world_letters.specs.endings.Clients.{IsQuestion, heard-asks}
+use Rattle.world_causes.specs.world_letters.endings.Clients.{IsQuestion, heard-asks}
 use Rattle.world_causes.specs.hearing.Listening.{is_listened, listens}
 use Rattle.world_causes.specs.hearing.Saying.{AsksState, EndsHeld, EndsLost, MarksAgain, MetUnresolved, SaysFurther, TellsState}
-use Rattle.world_letters.specs.lines.EndingLaws.{all-hear-tell}
-use Rattle.world_letters.specs.lines.Lines.{MayEnd, TellsPlainly}
+use Rattle.world_causes.specs.world_letters.lines.EndingLaws.{all-hear-tell}
+use Rattle.world_causes.specs.world_letters.lines.Lines.{MayEnd, TellsPlainly}
 use Rattle.world_standing.specs.standing.Unsnapped.{is_of_snapshots, tells_of_snapshots}
-use Rattle.world_letters.specs.talks.AskLaws.{move-is, waiting-rests}
-use Rattle.world_letters.specs.talks.Asked.{ARead, ASnapshot, AnAggregation, Asked, Asking, IsMove, ItsWrites, Silent, Telling}
+use Rattle.world_causes.specs.world_letters.talks.AskLaws.{move-is, waiting-rests}
+use Rattle.world_causes.specs.world_letters.talks.Asked.{ARead, ASnapshot, AnAggregation, Asked, Asking, IsMove, ItsWrites, Silent, Telling}
 
 -- ---- the statements
 

@@ -5,8 +5,8 @@ use Rattle.base_messages.specs.declared.message.Message.{Message}
 use Rattle.base_messages.specs.declared.message.Message.TheVariants as message
 use Rattle.base_messages.specs.declared.message.Post.{Post}
 use Rattle.model_laws.specs.Members.{contains-from_has}
-use Rattle.world_commit.specs.attempts.Counting.{has-taken}
-use Rattle.world_commit.specs.attempts.History.{History, Decided}
+use Rattle.world_causes.specs.world_commit.attempts.Counting.{has-taken}
+use Rattle.world_causes.specs.world_commit.attempts.History.{History, Decided}
 use Rattle.world_base.specs.declared.client.ClientPlan.{ClientPlan}
 use Rattle.world_base.specs.declared.client.ClientState.{ClientState}
 use Rattle.world_base.specs.declared.client.Present.{Present}
@@ -16,17 +16,17 @@ use Rattle.world_base.specs.ClientTurns.{heard, listed}
 use Rattle.world_base.specs.Events.{Rules, client_plan}
 use Rattle.world_base.specs.Letters.{Takes, client, is_tell}
 use Rattle.world_base.specs.Steps.{after_move, without}
-use Rattle.world_letters.specs.clients.AnswerLaws.{heard-answered}
-use Rattle.world_letters.specs.clients.Answered.{IsFit, IsFitHere}
-use Rattle.world_letters.specs.clients.MoveLaws.{heard-keeps}
-use Rattle.world_letters.specs.epochs.Epochs.{Epochs}
+use Rattle.world_causes.specs.world_letters.clients.AnswerLaws.{heard-answered}
+use Rattle.world_causes.specs.world_letters.clients.Answered.{IsFit, IsFitHere}
+use Rattle.world_causes.specs.world_letters.clients.MoveLaws.{heard-keeps}
+use Rattle.world_causes.specs.world_letters.epochs.Epochs.{Epochs}
 use Rattle.world_causes.specs.handing.Handing.{told-to}
-use Rattle.world_letters.specs.lines.LineLaws.{did-tell, got-fits}
-use Rattle.world_letters.specs.lines.Lines.{Endings, Lines}
+use Rattle.world_causes.specs.world_letters.lines.LineLaws.{did-tell, got-fits}
+use Rattle.world_causes.specs.world_letters.lines.Lines.{Endings, Lines}
 use Rattle.world_causes.specs.outcomes.Outcomes.{Outcomes}
-use Rattle.world_letters.specs.talks.AskLaws.{sent-is-asked}
-use Rattle.world_letters.specs.talks.Conversation.{Answers}
-use Rattle.world_letters.specs.waits.Waits.{Conversation, IsAnswer, IsLost, IsQuestion, IsReplyTo, ItsAsk, ItsRequest}
+use Rattle.world_causes.specs.world_letters.talks.AskLaws.{sent-is-asked}
+use Rattle.world_causes.specs.world_letters.talks.Conversation.{Answers}
+use Rattle.world_causes.specs.world_letters.waits.Waits.{Conversation, IsAnswer, IsLost, IsQuestion, IsReplyTo, ItsAsk, ItsRequest}
 use Rattle.base_types.specs.declared.id.AttemptId.{AttemptId}
 use Rattle.base_types.specs.declared.epoch.Epoch.{Epoch}
 

@@ -42,15 +42,15 @@ use Rattle.world_base.specs.Stops.{AtWork, CutOf, Draws, Fails, Further, GivenUp
 use Rattle.world_base.specs.TargetTurns.{Hears, IdlesWhole, commit_request, fetch_request, prepare_request}
 use Rattle.world_base.specs.TurnLaws.{commit-plain, prepare-plain}
 use Rattle.world_base.specs.Turns.{Whole}
-use Rattle.world_letters.specs.epochs.FetchTurns.{lease-covers}
-use Rattle.world_letters.specs.epochs.Sayings.{Known, StepFits}
+use Rattle.world_causes.specs.world_letters.epochs.FetchTurns.{lease-covers}
+use Rattle.world_causes.specs.world_letters.epochs.Sayings.{Known, StepFits}
 use Rattle.world_causes.specs.hearing.Storing.{AllFit, ack-fits, fetch-fits, idle-fits, look-fits, mark-fits, marked-fits, query-fits, verdict-fits}
-use Rattle.world_contents.specs.reads.EventLaws.{at-or-there}
+use Rattle.world_causes.specs.world_contents.reads.EventLaws.{at-or-there}
 use Rattle.world_causes.specs.restarts.CutLaws.{commit-is-cut}
 use Rattle.world_causes.specs.restarts.Cuts.{cut-keeps}
-use Rattle.world_commit.specs.statuses.Events.{HappensWithoutSnapshots}
-use Rattle.world_commit.specs.statuses.Heard.{is_of_attempts}
-use Rattle.world_commit.specs.stops.CutEvents.{IsWithoutSnapshots, is_without_snapshots}
+use Rattle.world_causes.specs.world_commit.statuses.Events.{HappensWithoutSnapshots}
+use Rattle.world_causes.specs.world_commit.statuses.Heard.{is_of_attempts}
+use Rattle.world_causes.specs.world_commit.stops.CutEvents.{IsWithoutSnapshots, is_without_snapshots}
 
 -- ---- the statements
 

@@ -7,20 +7,20 @@ use Rattle.base_messages.specs.declared.message.Message.{Message, more_of-Messag
 use Rattle.base_messages.specs.declared.message.Message.TheVariants as message
 use Rattle.model_laws.specs.Members.{Has, contains-from_has}
 use Rattle.base_types.specs.declared.outcome.Outcome.{Outcome}
-use Rattle.world_commit.specs.attempts.Attempts.{IsBorn, leader_of}
-use Rattle.world_commit.specs.attempts.History.{Aborted, GrowsBy, History, TellsRefusal}
+use Rattle.world_causes.specs.world_commit.attempts.Attempts.{IsBorn, leader_of}
+use Rattle.world_causes.specs.world_commit.attempts.History.{Aborted, GrowsBy, History, TellsRefusal}
 use Rattle.world_base.specs.declared.world.World.{World}
 use Rattle.world_base.specs.Events.{Rules, kept, target_plan}
 use Rattle.world_base.specs.Further.{HearsFurther}
 use Rattle.world_base.specs.Stops.{Draws, Fails, Further, GivenUp, Happening, HearsMore, IsCut, Opens, Plainly}
-use Rattle.world_commit.specs.fates.Facts.{Attempts}
-use Rattle.world_letters.specs.lines.Lines.{Lines}
+use Rattle.world_causes.specs.world_commit.fates.Facts.{Attempts}
+use Rattle.world_causes.specs.world_letters.lines.Lines.{Lines}
 use Rattle.world_causes.specs.outcomes.Outcomes.{IsEndTrue, Outcomes}
-use Rattle.world_commit.specs.questions.Flying.{IsWithoutCollections}
-use Rattle.world_commit.specs.questions.Hearing.{is_of_collections, is_of_stops}
-use Rattle.world_commit.specs.questions.Laws.{AbortsGrow}
-use Rattle.world_commit.specs.statuses.Events.{HappensWithoutSnapshots, told_by}
-use Rattle.world_commit.specs.statuses.Heard.{is_of_attempts}
+use Rattle.world_causes.specs.world_commit.questions.Flying.{IsWithoutCollections}
+use Rattle.world_causes.specs.world_commit.questions.Hearing.{is_of_collections, is_of_stops}
+use Rattle.world_causes.specs.world_commit.questions.Laws.{AbortsGrow}
+use Rattle.world_causes.specs.world_commit.statuses.Events.{HappensWithoutSnapshots, told_by}
+use Rattle.world_causes.specs.world_commit.statuses.Heard.{is_of_attempts}
 use Rattle.world_standing.specs.standing.Clients.{DecidedIssued}
 
 -- what is decided has its epoch, which was issued

@@ -5,7 +5,7 @@ use Rattle.base_types.specs.declared.epoch.Epoch.{Epoch}
 use Rattle.base_messages.specs.declared.message.Message.{Message}
 use Rattle.base_messages.specs.declared.message.Message.TheVariants as message
 use Rattle.base_messages.specs.declared.message.Post.{Post}
-use Rattle.dtx_base.specs.declared.member.Parked.{Parked}
+use Rattle.world_base.specs.dtx_base.declared.member.Parked.{Parked}
 use Rattle.model_laws.specs.Members.{Has, has-filter, has-left, has-map, has-right}
 use Rattle.world_base.specs.declared.client.ClientPlan.{ClientPlan}
 use Rattle.world_base.specs.declared.client.ClientState.{ClientState}
@@ -18,12 +18,12 @@ use Rattle.world_base.specs.ClientTurns.{waits}
 use Rattle.world_base.specs.Events.{Rules, client_plan}
 use Rattle.world_base.specs.Letters.{talk_of}
 use Rattle.world_base.specs.Requests.{fetch_message}
-use Rattle.world_letters.specs.talks.AskLaws.{sent-is-asked}
-use Rattle.world_letters.specs.talks.Asked.{Asked, commit_of}
-use Rattle.world_letters.specs.talks.Conversation.{is_fetch_of}
-use Rattle.world_letters.specs.waits.ClientLaws.{present-of}
-use Rattle.world_letters.specs.waits.Passing.{held-beside}
-use Rattle.world_letters.specs.waits.Waits.{Conversation, Held, HoldsIt, IsAsked, IsHeld, IsQuestion, IsReplied, ItsAsk, ItsRequest, ParkedAt, TalksSo, asked_of, collected_at, held_by, held_of, is_collected_of, is_open_of, is_parked_of, open_at, parked_at}
+use Rattle.world_causes.specs.world_letters.talks.AskLaws.{sent-is-asked}
+use Rattle.world_causes.specs.world_letters.talks.Asked.{Asked, commit_of}
+use Rattle.world_causes.specs.world_letters.talks.Conversation.{is_fetch_of}
+use Rattle.world_causes.specs.world_letters.waits.ClientLaws.{present-of}
+use Rattle.world_causes.specs.world_letters.waits.Passing.{held-beside}
+use Rattle.world_causes.specs.world_letters.waits.Waits.{Conversation, Held, HoldsIt, IsAsked, IsHeld, IsQuestion, IsReplied, ItsAsk, ItsRequest, ParkedAt, TalksSo, asked_of, collected_at, held_by, held_of, is_collected_of, is_open_of, is_parked_of, open_at, parked_at}
 
 -- ---- what waits
 

@@ -8,21 +8,21 @@ use Rattle.base_types.specs.declared.report.Line.TheVariants as line
 use Rattle.daos_model.specs.Attempts.{is_of_client, tries}
 use Rattle.daos_model.specs.Laws.{tries-append}
 use Rattle.model_laws.specs.Members.{Has, has-cases}
-use Rattle.world_commit.specs.attempts.Counting.{has-taken}
-use Rattle.world_commit.specs.attempts.History.{History}
+use Rattle.world_causes.specs.world_commit.attempts.Counting.{has-taken}
+use Rattle.world_causes.specs.world_commit.attempts.History.{History}
 use Rattle.world_base.specs.declared.world.World.{World}
 use Rattle.world_base.specs.Events.{ByClient, ByTarget, Rules, TargetHearsRightly, ToClient, ToTarget, kept, target_plan, with_epoch, rightly}
 use Rattle.world_base.specs.MemoryLaws.{hears-follows, idles-follows}
 use Rattle.world_base.specs.Stops.{AtWork, CutOf, Draws, Fails, Further, GivenUp, Happening, Hearing, IdleWork, IsCut, Opens, Plainly, TargetCut, stops_so_far, swept}
-use Rattle.world_commit.specs.fates.Facts.{Attempts}
-use Rattle.world_commit.specs.fates.Rightly.{letters-tell}
+use Rattle.world_causes.specs.world_commit.fates.Facts.{Attempts}
+use Rattle.world_causes.specs.world_commit.fates.Rightly.{letters-tell}
 use Rattle.world_causes.specs.hearing.Cutting.{hearing-cut-tells, turn-silent}
 use Rattle.world_causes.specs.hearing.HappeningGots.{further-lines}
-use Rattle.world_letters.specs.lines.Lines.{AreTheSame, Lines}
+use Rattle.world_causes.specs.world_letters.lines.Lines.{AreTheSame, Lines}
 use Rattle.world_causes.specs.outcomes.Keeping.{IsOfTarget}
 use Rattle.world_causes.specs.restarts.Resting.{Rests, failure-rests, given_up-rests, numbers-rests, opening-rests, same-tries, sweep-rests, tries-none}
-use Rattle.world_commit.specs.statuses.Events.{HappensWithoutSnapshots}
-use Rattle.world_commit.specs.stops.CutEvents.{IsWithoutSnapshots}
+use Rattle.world_causes.specs.world_commit.statuses.Events.{HappensWithoutSnapshots}
+use Rattle.world_causes.specs.world_commit.stops.CutEvents.{IsWithoutSnapshots}
 
 -- clients stay, and no line of an attempt is added
 pub record TellsNone (w v : World) : Type 0 where

@@ -16,7 +16,7 @@ use Rattle.world_base.specs.Changes.{Kept}
 use Rattle.world_base.specs.Further.{HearsFurther}
 use Rattle.world_base.specs.Snapshots as snap
 use Rattle.world_letters.specs.lines.Lines.{TellsPlainly}
-use Rattle.world_making.specs.freezings.Answering.{further-none, is_held}
+use Rattle.world_owners.specs.world_making.freezings.Answering.{further-none, is_held}
 
 -- a message says that a freeze is refused
 abbrev pub says_refused : Message → Bool

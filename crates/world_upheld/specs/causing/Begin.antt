@@ -17,11 +17,11 @@ use Rattle.vos_store.specs.Answers.{floor_of, later_floor}
 use Rattle.world_base.specs.declared.target.TargetState.{TargetState}
 use Rattle.world_base.specs.declared.world.World.{World}
 use Rattle.world_base.specs.Events.{Rules}
-use Rattle.world_causes.specs.causes.Shown.{Causes, FloorsShown, IsOfBefore, OutcomeStands, limit_over}
+use Rattle.world_legal.specs.world_causes.causes.Shown.{Causes, FloorsShown, IsOfBefore, OutcomeStands, limit_over}
 use Rattle.world_upheld.specs.causing.Places.{Places}
 use Rattle.world_upheld.specs.causing.Refusing.{FreezeRefusalsShow}
 use Rattle.world_base.specs.declared.client.ClientState.{ClientState}
-use Rattle.world_causes.specs.causes.Causes.{LowFloors}
+use Rattle.world_legal.specs.world_causes.causes.Causes.{LowFloors}
 
 -- a world at its beginning: nothing is in flight, issued, parked or told of; free blocks, ticks, trackers, floors and leases are the opening's
 pub record IsBegun (o : Opening) (w : World) : Type 0 where

@@ -4,31 +4,31 @@ use Rattle.std.specs.Prelude.{◌<◌, refl}
 use Rattle.std.proofs.Common.{append-nil, inl, inr, sym, ap, subst, arith}
 use Rattle.daos_model.specs.Opening.{Opening, top}
 use Rattle.model_laws.specs.Members.{Has}
-use Rattle.world_commit.specs.attempts.Counting.{has-left_over, has-taken}
+use Rattle.world_legal.specs.world_commit.attempts.Counting.{has-left_over, has-taken}
 use Rattle.world_base.specs.declared.world.World.{World}
 use Rattle.world_base.specs.ClientTurns.{Ended_by, HearTurn, Heard_on, Move, heard, listed, moved}
 use Rattle.world_base.specs.Events.{ClientGoes, ClientHears, Rules, after_turn, client_plan, with_client}
 use Rattle.world_base.specs.Letters.{client}
 use Rattle.world_base.specs.StepLaws.{after-both, by-going, by-next, set-here}
 use Rattle.world_base.specs.Steps.{KeptByCounting, KeptByMoves, after_move, without}
-use Rattle.world_causes.specs.causes.Causes.{Dated, Stored}
-use Rattle.world_causes.specs.causes.HearingLaws.{LossesStand}
-use Rattle.world_causes.specs.causes.Shown.{Causes}
+use Rattle.world_legal.specs.world_causes.causes.Causes.{Dated, Stored}
+use Rattle.world_legal.specs.world_causes.causes.HearingLaws.{LossesStand}
+use Rattle.world_legal.specs.world_causes.causes.Shown.{Causes}
 use Rattle.world_upheld.specs.causing.Dates.{line-on, with_dates}
 use Rattle.world_upheld.specs.causing.Doing.{AreBegun, counting-causes, dated-goes_causes}
 use Rattle.world_upheld.specs.causing.Ending.{AreToldOf, told-by-counting, told-by-hearing, told-by-moves}
 use Rattle.world_upheld.specs.causing.Told.{dated-hears_causes}
-use Rattle.world_making.specs.dates.Answering.{quiet-client}
-use Rattle.world_making.specs.dates.Going.{moved-dates}
-use Rattle.world_making.specs.dates.Heard.{heard-dates}
-use Rattle.world_making.specs.dates.Moves.{quiet-same}
+use Rattle.world_owners.specs.world_making.dates.Answering.{quiet-client}
+use Rattle.world_owners.specs.world_making.dates.Going.{moved-dates}
+use Rattle.world_owners.specs.world_making.dates.Heard.{heard-dates}
+use Rattle.world_owners.specs.world_making.dates.Moves.{quiet-same}
 use Rattle.world_letters.specs.epochs.Epochs.{ClientsStand, Epochs}
 use Rattle.world_letters.specs.epochs.EventLaws.{stands-by-counting, stands-by-hearing, stands-by-moves}
 use Rattle.world_letters.specs.epochs.Talking.{silent-unless}
-use Rattle.world_causes.specs.hearing.HappeningEpochs.{talks-once}
-use Rattle.world_causes.specs.losses.ClientHears.{LossesAreAsked, heard-steps}
-use Rattle.world_causes.specs.losses.Clients.{After, Stepped, after-none, moves-step, stepped, counts-step}
-use Rattle.world_causes.specs.losses.Losses.{Losses}
+use Rattle.world_legal.specs.world_causes.hearing.HappeningEpochs.{talks-once}
+use Rattle.world_legal.specs.world_causes.losses.ClientHears.{LossesAreAsked, heard-steps}
+use Rattle.world_legal.specs.world_causes.losses.Clients.{After, Stepped, after-none, moves-step, stepped, counts-step}
+use Rattle.world_legal.specs.world_causes.losses.Losses.{Losses}
 use Rattle.world_letters.specs.waits.ClientLaws.{counting-keeps, hearing-keeps, moves-keep}
 use Rattle.world_letters.specs.waits.Waits.{Conversation}
 

@@ -25,12 +25,12 @@ use Rattle.world_base.specs.PathLaws.{path-keeps}
 use Rattle.world_base.specs.Requests.{request_epoch}
 use Rattle.world_base.specs.Snapshots as snap
 use Rattle.world_base.specs.Turns.{Path}
-use Rattle.world_causes.specs.causes.Causes.{Dated, Stored}
-use Rattle.world_causes.specs.causes.CommitTurns.{RefusalShows}
-use Rattle.world_causes.specs.causes.Shown.{limit_over}
+use Rattle.world_legal.specs.world_causes.causes.Causes.{Dated, Stored}
+use Rattle.world_legal.specs.world_causes.causes.CommitTurns.{RefusalShows}
+use Rattle.world_legal.specs.world_causes.causes.Shown.{limit_over}
 use Rattle.world_upheld.specs.causing.Posts.{EachShows, between-shows, commit-shows, end-shows, is_of_first_target, none-shows, one-shows}
-use Rattle.world_making.specs.freezings.Turns.{HeldSo}
-use Rattle.world_causes.specs.showing.Further.{IsGone}
+use Rattle.world_owners.specs.world_making.freezings.Turns.{HeldSo}
+use Rattle.world_legal.specs.world_causes.showing.Further.{IsGone}
 
 -- what is collected is of its attempt's client, and at an epoch within the limit
 abbrev pub CollectsFor : Opening → Dated → List Line → Collection → Type 0

@@ -16,17 +16,17 @@ use Rattle.world_base.specs.Events.{ByClient, ByTarget, Rules, ToClient, ToTarge
 use Rattle.world_base.specs.ClientTurns.{known_epoch}
 use Rattle.world_base.specs.StepLaws.{by-hearing, by-next}
 use Rattle.world_base.specs.Stops.{Draws, Fails, Further, GivenUp, Happening, IsCut, Opens, Plainly, WorldEvent}
-use Rattle.world_causes.specs.causes.Causes.{Dated, Stored}
-use Rattle.world_causes.specs.causes.Dates.{limit-more}
-use Rattle.world_causes.specs.causes.Shown.{Causes, limit_over}
-use Rattle.world_causes.specs.causes.Storing.{AreApart, dated_ids}
+use Rattle.world_legal.specs.world_causes.causes.Causes.{Dated, Stored}
+use Rattle.world_legal.specs.world_causes.causes.Dates.{limit-more}
+use Rattle.world_legal.specs.world_causes.causes.Shown.{Causes, limit_over}
+use Rattle.world_legal.specs.world_causes.causes.Storing.{AreApart, dated_ids}
 use Rattle.world_upheld.specs.causing.DatedReads.{counting-keeps}
 use Rattle.world_upheld.specs.causing.Dates.{AreDates, IsBegunBy, counted-own, counted_as, is_own_date, is_read_date, newly_dated, with_dates}
 use Rattle.world_upheld.specs.causing.Doing.{AreBegun}
-use Rattle.world_causes.specs.causes.CommitTurns.{RefusalShows}
+use Rattle.world_legal.specs.world_causes.causes.CommitTurns.{RefusalShows}
 use Rattle.world_upheld.specs.causing.Refusing.{FreezeRefusalsShow, refusal-on}
 use Rattle.world_letters.specs.clients.Snapshots.{is_at_snapshot}
-use Rattle.world_making.specs.dates.Known.{events-know}
+use Rattle.world_owners.specs.world_making.dates.Known.{events-know}
 use Rattle.world_letters.specs.epochs.Epochs.{Epochs, IsEpochOf, IsOwn, IsSeen}
 
 -- ---- the statements

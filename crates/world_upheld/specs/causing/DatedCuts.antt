@@ -26,22 +26,22 @@ use Rattle.world_base.specs.Roles.{is_prepared, member_at, told_by}
 use Rattle.world_base.specs.Stops.{CutOf, Hearing, IsCut, TargetCut, is_not_to, is_to, reset_letter, resets, stopped_at, stops_so_far, swept}
 use Rattle.world_base.specs.TurnLaws.{fetch-plain, verdict-plain}
 use Rattle.world_base.specs.Verdicts as turn
-use Rattle.world_causes.specs.causes.AtFloors.{IsTarget}
-use Rattle.world_causes.specs.causes.Causes.{Dated, Stored}
-use Rattle.world_causes.specs.causes.Heard.{meet-at}
-use Rattle.world_causes.specs.causes.Leases.{AsksBelow, VerdictBelow, verdict-to}
-use Rattle.world_causes.specs.causes.Paths.{AreOpen}
-use Rattle.world_causes.specs.causes.Shown.{Causes, FloorsShown, limit_over}
-use Rattle.world_causes.specs.causes.Turns.{PostShows}
+use Rattle.world_legal.specs.world_causes.causes.AtFloors.{IsTarget}
+use Rattle.world_legal.specs.world_causes.causes.Causes.{Dated, Stored}
+use Rattle.world_legal.specs.world_causes.causes.Heard.{meet-at}
+use Rattle.world_legal.specs.world_causes.causes.Leases.{AsksBelow, VerdictBelow, verdict-to}
+use Rattle.world_legal.specs.world_causes.causes.Paths.{AreOpen}
+use Rattle.world_legal.specs.world_causes.causes.Shown.{Causes, FloorsShown, limit_over}
+use Rattle.world_legal.specs.world_causes.causes.Turns.{PostShows}
 use Rattle.world_upheld.specs.causing.DatedVerdicts.{IsVerdictRight, freed-below}
 use Rattle.world_upheld.specs.causing.Dates.{with_dates}
-use Rattle.world_causes.specs.showing.Following.{posted}
+use Rattle.world_legal.specs.world_causes.showing.Following.{posted}
 use Rattle.world_upheld.specs.causing.OneTurn.{turn-keeps}
 use Rattle.world_upheld.specs.causing.SnapshotReads.{IsAtSnapshot, extends-none}
-use Rattle.world_making.specs.prunings.Floors.{all-events-keep_floors}
-use Rattle.world_causes.specs.restarts.Resting.{is_silent}
-use Rattle.world_causes.specs.showing.CutTurns.{cut-free, cut-leased, cut-silent, fetch-cheap, verdict-cheap}
-use Rattle.world_causes.specs.showing.Follows.{silent-shows}
+use Rattle.world_owners.specs.world_making.prunings.Floors.{all-events-keep_floors}
+use Rattle.world_legal.specs.world_causes.restarts.Resting.{is_silent}
+use Rattle.world_legal.specs.world_causes.showing.CutTurns.{cut-free, cut-leased, cut-silent, fetch-cheap, verdict-cheap}
+use Rattle.world_legal.specs.world_causes.showing.Follows.{silent-shows}
 use Rattle.world_letters.specs.snapshots.Makings.{ComesOf}
 
 -- a target stops as it hears a read at a snapshot

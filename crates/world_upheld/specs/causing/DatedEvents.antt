@@ -10,7 +10,7 @@ use Rattle.world_base.specs.Further.{HearsFurther}
 use Rattle.world_base.specs.Letters.{target}
 use Rattle.world_base.specs.MemoryLaws.{hears-follows, idles-follows}
 use Rattle.world_base.specs.Stops.{AtWork, Hearing, HearsMore, IdleWork, IsInHand, IsNumberFresh, NumbersDrawn, OpeningFails, TargetCut, TargetGivenUp, TargetOpens}
-use Rattle.world_causes.specs.causes.Causes.{Dated}
+use Rattle.world_legal.specs.world_causes.causes.Causes.{Dated}
 use Rattle.world_upheld.specs.causing.Dates.{with_dates}
 use Rattle.world_letters.specs.lives.Events.{as-added}
 use Rattle.world_letters.specs.lives.TurnLines.{further-lines}

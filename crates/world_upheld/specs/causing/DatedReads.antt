@@ -21,15 +21,15 @@ use Rattle.world_base.specs.Requests.{fetch_message}
 use Rattle.world_base.specs.TargetTurns.{Hears}
 use Rattle.world_base.specs.TurnLaws.{hears-keeps}
 use Rattle.world_base.specs.Turns.{Whole}
-use Rattle.world_causes.specs.causes.AtFloors.{IsTarget}
-use Rattle.world_causes.specs.causes.Causes.{Dated, Stored, blocks_of_stored, stored_by}
-use Rattle.world_causes.specs.causes.FloorLaws.{turns-keep-floors}
-use Rattle.world_causes.specs.causes.Paths.{AreOpen}
-use Rattle.world_causes.specs.causes.Shown.{Causes, FloorsShown, limit_over}
-use Rattle.world_causes.specs.causes.Turns.{PostShows}
-use Rattle.world_causes.specs.causes.Leases.{whole-to}
+use Rattle.world_legal.specs.world_causes.causes.AtFloors.{IsTarget}
+use Rattle.world_legal.specs.world_causes.causes.Causes.{Dated, Stored, blocks_of_stored, stored_by}
+use Rattle.world_legal.specs.world_causes.causes.FloorLaws.{turns-keep-floors}
+use Rattle.world_legal.specs.world_causes.causes.Paths.{AreOpen}
+use Rattle.world_legal.specs.world_causes.causes.Shown.{Causes, FloorsShown, limit_over}
+use Rattle.world_legal.specs.world_causes.causes.Turns.{PostShows}
+use Rattle.world_legal.specs.world_causes.causes.Leases.{whole-to}
 use Rattle.world_upheld.specs.causing.Dates.{with_dates}
-use Rattle.world_causes.specs.showing.Following.{FollowsOn, continues-keep, posted}
+use Rattle.world_legal.specs.world_causes.showing.Following.{FollowsOn, continues-keep, posted}
 use Rattle.world_upheld.specs.causing.OneTurn.{post-on, turn-keeps}
 use Rattle.world_upheld.specs.causing.SnapshotReads.{IsAtSnapshot, extends-none, IsDatedRead, SnapshotReadLeaves, WaitsThen, snapshot-reads_show}
 use Rattle.world_letters.specs.epochs.Epochs.{reads_snapshot}

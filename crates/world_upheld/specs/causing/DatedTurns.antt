@@ -27,22 +27,22 @@ use Rattle.world_base.specs.Stops.{HearsMore}
 use Rattle.world_base.specs.TurnLaws.{KeepsAs, rightly-keeps}
 use Rattle.world_base.specs.Turns.{Whole}
 use Rattle.world_base.specs.Verdicts as turn
-use Rattle.world_causes.specs.causes.AtFloors.{IsTarget}
-use Rattle.world_causes.specs.causes.Causes.{Dated, Stored, stored_by}
-use Rattle.world_causes.specs.causes.Paths.{AreOpen}
-use Rattle.world_causes.specs.causes.CommitTurns.{space-same}
-use Rattle.world_causes.specs.causes.Heard.{meet-at}
-use Rattle.world_causes.specs.causes.Leases.{VerdictBelow, verdict-to, was-leased, whole-to}
-use Rattle.world_causes.specs.causes.ReadTurns.{meet-more}
-use Rattle.world_causes.specs.causes.Shown.{Causes, limit_over}
-use Rattle.world_causes.specs.causes.TargetLaws.{leaves-keep}
-use Rattle.world_causes.specs.causes.Turns.{AllMeet, AllShow, Leaves, all-more}
+use Rattle.world_legal.specs.world_causes.causes.AtFloors.{IsTarget}
+use Rattle.world_legal.specs.world_causes.causes.Causes.{Dated, Stored, stored_by}
+use Rattle.world_legal.specs.world_causes.causes.Paths.{AreOpen}
+use Rattle.world_legal.specs.world_causes.causes.CommitTurns.{space-same}
+use Rattle.world_legal.specs.world_causes.causes.Heard.{meet-at}
+use Rattle.world_legal.specs.world_causes.causes.Leases.{VerdictBelow, verdict-to, was-leased, whole-to}
+use Rattle.world_legal.specs.world_causes.causes.ReadTurns.{meet-more}
+use Rattle.world_legal.specs.world_causes.causes.Shown.{Causes, limit_over}
+use Rattle.world_legal.specs.world_causes.causes.TargetLaws.{leaves-keep}
+use Rattle.world_legal.specs.world_causes.causes.Turns.{AllMeet, AllShow, Leaves, all-more}
 use Rattle.world_upheld.specs.causing.Dates.{with_dates}
 use Rattle.world_upheld.specs.causing.DatedEvents.{further-dated, hears-dated}
 use Rattle.world_upheld.specs.causing.DatedVerdicts.{IsVerdictRight, all-unresolved_show, freed-below, verdict-leaves}
-use Rattle.world_causes.specs.showing.Further.{TellsReset}
+use Rattle.world_legal.specs.world_causes.showing.Further.{TellsReset}
 use Rattle.world_letters.specs.talks.TalkLaws.{left-is-among}
-use Rattle.world_commit.specs.statuses.Turns.{looked}
+use Rattle.world_legal.specs.world_commit.statuses.Turns.{looked}
 
 -- a target hears a Verdict
 abbrev pub VerdictsKeepCauses : Type 0

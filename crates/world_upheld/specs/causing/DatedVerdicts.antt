@@ -38,15 +38,15 @@ use Rattle.world_base.specs.TargetTurns.{fetch_request}
 use Rattle.world_base.specs.TurnLaws.{verdict-plain}
 use Rattle.world_base.specs.Turns.{Whole}
 use Rattle.world_base.specs.Verdicts as turn
-use Rattle.world_causes.specs.causes.AtFloors.{IsTarget}
-use Rattle.world_causes.specs.causes.Causes.{Dated, MeetsOther, Stored, stored_by}
-use Rattle.world_causes.specs.causes.CommitTurns.{space-same}
-use Rattle.world_causes.specs.causes.Leases.{AskBelow, AsksBelow, EpochBelow}
-use Rattle.world_causes.specs.causes.Paths.{AreOpen, Lasts, ReadSoFar, lasts-aborted, lasts-committed, lasts-here, lasts-known, lasts-rests, left_at, read-step}
-use Rattle.world_causes.specs.causes.ReadTurns.{FetchLeft, IsFetch, fetch-ends, meet-more, told-one, unresolved-stands}
-use Rattle.world_causes.specs.causes.Shown.{IsOpenTo, limit_over}
-use Rattle.world_causes.specs.causes.Turns.{AllMeet, AllShow, Leaves, ParkedMeets, all-both, all-more}
-use Rattle.world_causes.specs.showing.Following.{none-borne}
+use Rattle.world_legal.specs.world_causes.causes.AtFloors.{IsTarget}
+use Rattle.world_legal.specs.world_causes.causes.Causes.{Dated, MeetsOther, Stored, stored_by}
+use Rattle.world_legal.specs.world_causes.causes.CommitTurns.{space-same}
+use Rattle.world_legal.specs.world_causes.causes.Leases.{AskBelow, AsksBelow, EpochBelow}
+use Rattle.world_legal.specs.world_causes.causes.Paths.{AreOpen, Lasts, ReadSoFar, lasts-aborted, lasts-committed, lasts-here, lasts-known, lasts-rests, left_at, read-step}
+use Rattle.world_legal.specs.world_causes.causes.ReadTurns.{FetchLeft, IsFetch, fetch-ends, meet-more, told-one, unresolved-stands}
+use Rattle.world_legal.specs.world_causes.causes.Shown.{IsOpenTo, limit_over}
+use Rattle.world_legal.specs.world_causes.causes.Turns.{AllMeet, AllShow, Leaves, ParkedMeets, all-both, all-more}
+use Rattle.world_legal.specs.world_causes.showing.Following.{none-borne}
 use Rattle.world_upheld.specs.causing.Posts.{EachShows}
 use Rattle.world_upheld.specs.causing.SnapshotReads.{IsDatedRead, ReadsSo, SnapshotReadLeaves, WaitsThen, ends-show, reads-step}
 use Rattle.world_letters.specs.epochs.Epochs.{reads_snapshot}

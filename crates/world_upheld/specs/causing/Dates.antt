@@ -12,8 +12,8 @@ use Rattle.world_base.specs.declared.world.World.{World}
 use Rattle.world_base.specs.Events as events
 use Rattle.world_base.specs.Events.{ByClient, ByTarget, Rules, ToClient, ToTarget}
 use Rattle.world_base.specs.Stops.{Draws, Fails, Further, GivenUp, Happening, IsCut, Opens, Plainly}
-use Rattle.world_causes.specs.causes.Causes.{Dated}
-use Rattle.world_causes.specs.causes.Storing.{AreApart, dated_ids}
+use Rattle.world_legal.specs.world_causes.causes.Causes.{Dated}
+use Rattle.world_legal.specs.world_causes.causes.Storing.{AreApart, dated_ids}
 use Rattle.world_letters.specs.clients.Snapshots.{is_at_snapshot}
 use Rattle.world_letters.specs.epochs.Epochs.{IsEpochOf, IsPresent}
 

@@ -12,9 +12,9 @@ use Rattle.daos_model.specs.Stops.{restart_numbers}
 use Rattle.world_base.specs.declared.target.TargetMemory.{TargetMemory}
 use Rattle.world_base.specs.declared.target.TargetPlan.{TargetPlan}
 use Rattle.world_base.specs.Requests.{epoch_of_ticks, request_epoch}
-use Rattle.world_causes.specs.causes.Causes.{Dated}
-use Rattle.world_causes.specs.causes.Dates.{limit-more}
-use Rattle.world_causes.specs.causes.Shown.{limit_over}
+use Rattle.world_legal.specs.world_causes.causes.Causes.{Dated}
+use Rattle.world_legal.specs.world_causes.causes.Dates.{limit-more}
+use Rattle.world_legal.specs.world_causes.causes.Shown.{limit_over}
 
 -- ticks that are issued are above the tracker's, and at most one above all within a bound
 ticks-next : (ticks reading tracker last b : ℕ) → ticks ≤ b → tracker / 256 ≤ b → last ≤ b → (tracker / 256 < max (max (ticks + 1) (min reading last)) (tracker / 256 + 1)) × (max (max (ticks + 1) (min reading last)) (tracker / 256 + 1) ≤ b + 1)

@@ -41,18 +41,18 @@ use Rattle.world_letters.specs.lines.Lines.{filled}
 use Rattle.world_letters.specs.talks.AskLaws.{move-is, waiting-rests}
 use Rattle.world_letters.specs.talks.Asked.{ARead, ASnapshot, AnAggregation, Asked, Asking, IsMove, ItsWrites, Silent, Telling}
 use Rattle.world_letters.specs.talks.TalkLaws.{got-is-talk, none-among}
-use Rattle.world_causes.specs.causes.Causes.{Dated, EndsOf, IsAskedFor, IsUndecidedFor, Stored, epochs_told, is_try}
-use Rattle.world_causes.specs.causes.Growth.{at-set}
-use Rattle.world_causes.specs.causes.Turns.{HasNoLine}
+use Rattle.world_legal.specs.world_causes.causes.Causes.{Dated, EndsOf, IsAskedFor, IsUndecidedFor, Stored, epochs_told, is_try}
+use Rattle.world_legal.specs.world_causes.causes.Growth.{at-set}
+use Rattle.world_legal.specs.world_causes.causes.Turns.{HasNoLine}
 use Rattle.base_types.specs.declared.id.ContId.{ContId}
 use Rattle.base_types.specs.declared.outcome.FloorWhy.{FloorWhy}
 use Rattle.model_laws.specs.Lists.{any-of, any-all}
 use Rattle.daos_model.specs.CausesShown.{ShowsFloor}
-use Rattle.world_causes.specs.causes.FloorLaws.{lines-keep-floors}
-use Rattle.world_causes.specs.causes.Lasting.{AreOfOthers, limit-told, message-more, open-more}
-use Rattle.world_causes.specs.causes.Shown.{Causes, FloorsShown, IsOpenTo, MessageStands, OutcomeStands, limit_over}
+use Rattle.world_legal.specs.world_causes.causes.FloorLaws.{lines-keep-floors}
+use Rattle.world_legal.specs.world_causes.causes.Lasting.{AreOfOthers, limit-told, message-more, open-more}
+use Rattle.world_legal.specs.world_causes.causes.Shown.{Causes, FloorsShown, IsOpenTo, MessageStands, OutcomeStands, limit_over}
 use Rattle.world_upheld.specs.causing.Dates.{IsBegunBy, with_dates}
-use Rattle.world_causes.specs.causes.ClientLaws.{ArePlain, IsLineOf, IsMild, IsPlain, IsQuiet, LineShows, attempt_here, ends-no_tell, ends-tracker, quiet-line}
+use Rattle.world_legal.specs.world_causes.causes.ClientLaws.{ArePlain, IsLineOf, IsMild, IsPlain, IsQuiet, LineShows, attempt_here, ends-no_tell, ends-tracker, quiet-line}
 use Rattle.world_letters.specs.clients.Standing.{HasTold}
 use Rattle.world_letters.specs.snapshots.Events.{command-is}
 use Rattle.model_laws.specs.DecidedLaws.{all-from_has}

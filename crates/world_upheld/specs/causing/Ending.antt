@@ -14,7 +14,7 @@ use Rattle.base_messages.specs.declared.message.Reply.TheVariants as reply
 use Rattle.daos_model.specs.Attempts.{tries}
 use Rattle.daos_model.specs.Laws.{tries-append}
 use Rattle.model_laws.specs.Members.{Has, contains-from_has, has-right}
-use Rattle.world_commit.specs.attempts.Turning.{one-or_another}
+use Rattle.world_legal.specs.world_commit.attempts.Turning.{one-or_another}
 use Rattle.world_base.specs.declared.client.ClientPlan.{ClientPlan}
 use Rattle.world_base.specs.declared.client.ClientState.{ClientState}
 use Rattle.world_base.specs.declared.client.Present.{Present}
@@ -26,8 +26,8 @@ use Rattle.world_base.specs.StepLaws.{set-here, set-there}
 use Rattle.world_base.specs.Steps.{KeptByCounting, KeptByMoves, after_client, after_move, without}
 use Rattle.world_letters.specs.epochs.Epochs.{IsPresent}
 use Rattle.world_letters.specs.lines.Lines.{filled}
-use Rattle.world_causes.specs.losses.Moving.{StaysAt, stays-or}
-use Rattle.world_causes.specs.outcomes.Moving.{AnswerDoes, FailsWith, OnWith, op-does}
+use Rattle.world_legal.specs.world_causes.losses.Moving.{StaysAt, stays-or}
+use Rattle.world_legal.specs.world_causes.outcomes.Moving.{AnswerDoes, FailsWith, OnWith, op-does}
 use Rattle.world_upheld.specs.causing.Dates.{HasItsLine, line-on}
 
 -- ---- one move

@@ -21,10 +21,10 @@ use Rattle.world_base.specs.Further.{HearsFurther}
 use Rattle.world_base.specs.Letters.{letter_of, letters_of, target}
 use Rattle.world_base.specs.Roles.{is_prepared}
 use Rattle.world_base.specs.Stops.{AtWork, CutOf, Further, Happening, Hearing, HearsMore, IdleWork, IsCut, IsInHand, TargetCut, is_not_to, is_to, reset_letter, resets, stopped_at, stops_so_far, swept}
-use Rattle.world_causes.specs.causes.Causes.{Stored, stored_by}
-use Rattle.world_causes.specs.causes.Shown.{Causes, FloorsShown, limit_over}
-use Rattle.world_causes.specs.causes.Turns.{PostShows}
-use Rattle.world_causes.specs.showing.Following.{posted}
+use Rattle.world_legal.specs.world_causes.causes.Causes.{Stored, stored_by}
+use Rattle.world_legal.specs.world_causes.causes.Shown.{Causes, FloorsShown, limit_over}
+use Rattle.world_legal.specs.world_causes.causes.Turns.{PostShows}
+use Rattle.world_legal.specs.world_causes.showing.Following.{posted}
 use Rattle.world_upheld.specs.causing.Frames.{IsBounded, IsCutBounded, cut-bounded, whole-bounded}
 use Rattle.world_upheld.specs.causing.Hearing.{making-shows}
 use Rattle.world_upheld.specs.causing.Known.{IsMakingKnown, dated-within}
@@ -33,16 +33,16 @@ use Rattle.world_upheld.specs.causing.Posts.{EachShows}
 use Rattle.world_letters.specs.lives.CutLines.{hearing-cut}
 use Rattle.world_letters.specs.lives.Events.{as-added}
 use Rattle.world_letters.specs.lives.TurnLines.{IsTurnLine}
-use Rattle.world_making.specs.making.Making.{IsOfMaking, MakingLeaves}
-use Rattle.world_making.specs.making.Turns.{cuts-leave, hearings-leave}
-use Rattle.world_making.specs.prunings.Floors.{all-events-keep_floors}
-use Rattle.world_causes.specs.restarts.Resting.{is_silent}
-use Rattle.world_causes.specs.showing.Cutting.{work_stored}
-use Rattle.world_causes.specs.showing.Follows.{silent-shows}
+use Rattle.world_owners.specs.world_making.making.Making.{IsOfMaking, MakingLeaves}
+use Rattle.world_owners.specs.world_making.making.Turns.{cuts-leave, hearings-leave}
+use Rattle.world_owners.specs.world_making.prunings.Floors.{all-events-keep_floors}
+use Rattle.world_legal.specs.world_causes.restarts.Resting.{is_silent}
+use Rattle.world_legal.specs.world_causes.showing.Cutting.{work_stored}
+use Rattle.world_legal.specs.world_causes.showing.Follows.{silent-shows}
 use Rattle.world_letters.specs.snapshots.Events.{event-keeps}
 use Rattle.world_letters.specs.snapshots.Makings.{ComesOf}
-use Rattle.world_commit.specs.statuses.Heard.{is_of_attempts}
-use Rattle.world_commit.specs.stops.CutEvents.{IsWithoutSnapshots, is_without_snapshots}
+use Rattle.world_legal.specs.world_commit.statuses.Heard.{is_of_attempts}
+use Rattle.world_legal.specs.world_commit.stops.CutEvents.{IsWithoutSnapshots, is_without_snapshots}
 use Rattle.world_letters.specs.talks.TalkLaws.{left-is-among}
 
 -- ---- the statements

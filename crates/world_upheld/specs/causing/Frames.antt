@@ -23,13 +23,13 @@ use Rattle.world_base.specs.Events.{listed}
 use Rattle.world_base.specs.PathLaws.{path-keeps}
 use Rattle.world_base.specs.Requests.{issued_for, request_epoch}
 use Rattle.world_base.specs.Snapshots.{prune_limit}
-use Rattle.world_causes.specs.causes.Causes.{Dated}
-use Rattle.world_causes.specs.causes.Dates.{heard-within, limit-rises}
-use Rattle.world_causes.specs.causes.Paths.{costs, free-path}
-use Rattle.world_causes.specs.causes.Shown.{limit_over}
-use Rattle.world_causes.specs.causes.Leases.{lease-near}
-use Rattle.world_making.specs.making.Making.{CreatesIt, ExtendsLease, FreezesIt, IsCovered, MakingLeaves, MakingNext, MakingRequest, MakingStage, Passes, PrunesIt, SettlesFirst, asks_making, making_begins, making_issue, making_issues, ticks_then}
-use Rattle.world_making.specs.prunings.Parts.{parts-keep}
+use Rattle.world_legal.specs.world_causes.causes.Causes.{Dated}
+use Rattle.world_legal.specs.world_causes.causes.Dates.{heard-within, limit-rises}
+use Rattle.world_legal.specs.world_causes.causes.Paths.{costs, free-path}
+use Rattle.world_legal.specs.world_causes.causes.Shown.{limit_over}
+use Rattle.world_legal.specs.world_causes.causes.Leases.{lease-near}
+use Rattle.world_owners.specs.world_making.making.Making.{CreatesIt, ExtendsLease, FreezesIt, IsCovered, MakingLeaves, MakingNext, MakingRequest, MakingStage, Passes, PrunesIt, SettlesFirst, asks_making, making_begins, making_issue, making_issues, ticks_then}
+use Rattle.world_owners.specs.world_making.prunings.Parts.{parts-keep}
 
 -- ---- leases
 

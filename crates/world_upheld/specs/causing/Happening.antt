@@ -11,8 +11,8 @@ use Rattle.base_types.specs.declared.report.Line.TheVariants as line
 use Rattle.base_messages.specs.declared.message.Message.{Message}
 use Rattle.base_messages.specs.declared.message.Message.TheVariants as message
 use Rattle.daos_model.specs.Opening.{Opening}
-use Rattle.world_commit.specs.attempts.Counting.{has-taken}
-use Rattle.world_commit.specs.attempts.History.{History}
+use Rattle.world_legal.specs.world_commit.attempts.Counting.{has-taken}
+use Rattle.world_legal.specs.world_commit.attempts.History.{History}
 use Rattle.world_base.specs.declared.letter.Letter.{Letter}
 use Rattle.world_base.specs.declared.request.FetchRequest.{FetchRequest}
 use Rattle.world_base.specs.declared.target.TargetState.{TargetState}
@@ -21,12 +21,12 @@ use Rattle.world_base.specs.Events as events
 use Rattle.world_base.specs.Events.{ByClient, ByTarget, Rules, ToClient, ToTarget, TargetHears, kept, target_plan, rightly}
 use Rattle.world_base.specs.Requests.{fetch_message}
 use Rattle.world_base.specs.Stops.{AtWork, CutOf, Draws, Fails, Further, GivenUp, Happening, Hearing, HearsMore, IdleWork, IsCut, IsInHand, Opens, Plainly, TargetCut, WorldEvent, restart_line, stops_so_far}
-use Rattle.world_causes.specs.causes.Causes.{Dated, Stored, stored_by}
-use Rattle.world_causes.specs.causes.Growth.{blocks-more}
-use Rattle.world_causes.specs.causes.Heard.{IsHeardAs, IsKnownAt}
-use Rattle.world_causes.specs.causes.HearingLaws.{LossesStand}
-use Rattle.world_causes.specs.causes.Shown.{Causes}
-use Rattle.world_causes.specs.causes.TargetLaws.{target-hears-keeps, target-idles-keeps}
+use Rattle.world_legal.specs.world_causes.causes.Causes.{Dated, Stored, stored_by}
+use Rattle.world_legal.specs.world_causes.causes.Growth.{blocks-more}
+use Rattle.world_legal.specs.world_causes.causes.Heard.{IsHeardAs, IsKnownAt}
+use Rattle.world_legal.specs.world_causes.causes.HearingLaws.{LossesStand}
+use Rattle.world_legal.specs.world_causes.causes.Shown.{Causes}
+use Rattle.world_legal.specs.world_causes.causes.TargetLaws.{target-hears-keeps, target-idles-keeps}
 use Rattle.world_upheld.specs.causing.Clients.{ClientsKnown, LossesKnown, going-keeps, hears-keeps}
 use Rattle.world_upheld.specs.causing.DatedCuts.{snapshot-read-cuts_keep, verdict-cuts_keep}
 use Rattle.world_upheld.specs.causing.DatedEvents.{cut-dated, drawn-dated, fails-dated, further-dated, given_up-dated, hears-dated, idles-dated, opens-dated}
@@ -39,15 +39,15 @@ use Rattle.world_upheld.specs.causing.Events.{making-cuts_keep_causes, making-ke
 use Rattle.world_upheld.specs.causing.Known.{IsMakingKnown}
 use Rattle.world_upheld.specs.causing.SnapshotReads.{IsDatedRead}
 use Rattle.world_letters.specs.epochs.Epochs.{IsAt}
-use Rattle.world_commit.specs.fates.Facts.{Attempts}
-use Rattle.world_commit.specs.fates.Rightly.{letters-tell}
-use Rattle.world_causes.specs.showing.Cutting.{cut-follows_on, hearing-leaves, idle-leaves, work_stored}
-use Rattle.world_causes.specs.showing.Further.{IsHeardFurther, TellsReset}
-use Rattle.world_causes.specs.showing.FurtherEvents.{further-keeps}
-use Rattle.world_causes.specs.showing.Happening.{stored_in}
-use Rattle.world_causes.specs.showing.Stopping.{failure-keeps, given_up-keeps, numbers-keep, opening-keeps, sweep-keeps}
-use Rattle.world_commit.specs.statuses.Heard.{is_of_attempts}
-use Rattle.world_commit.specs.stops.CutEvents.{IsWithoutSnapshots, is_without_snapshots}
+use Rattle.world_legal.specs.world_commit.fates.Facts.{Attempts}
+use Rattle.world_legal.specs.world_commit.fates.Rightly.{letters-tell}
+use Rattle.world_legal.specs.world_causes.showing.Cutting.{cut-follows_on, hearing-leaves, idle-leaves, work_stored}
+use Rattle.world_legal.specs.world_causes.showing.Further.{IsHeardFurther, TellsReset}
+use Rattle.world_legal.specs.world_causes.showing.FurtherEvents.{further-keeps}
+use Rattle.world_legal.specs.world_causes.showing.Happening.{stored_in}
+use Rattle.world_legal.specs.world_causes.showing.Stopping.{failure-keeps, given_up-keeps, numbers-keep, opening-keeps, sweep-keeps}
+use Rattle.world_legal.specs.world_commit.statuses.Heard.{is_of_attempts}
+use Rattle.world_legal.specs.world_commit.stops.CutEvents.{IsWithoutSnapshots, is_without_snapshots}
 
 -- ---- what is known of what is heard
 

@@ -22,19 +22,19 @@ use Rattle.world_base.specs.Events.{Rules, kept, listed, target_plan}
 use Rattle.world_base.specs.Further.{HearsFurther, collection_left, reset_by}
 use Rattle.world_base.specs.Letters.{Takes, target}
 use Rattle.world_base.specs.Snapshots as snap
-use Rattle.world_causes.specs.causes.Causes.{Stored}
-use Rattle.world_causes.specs.causes.CommitTurns.{RefusalShows}
-use Rattle.world_causes.specs.causes.Shown.{Causes, limit_over}
+use Rattle.world_legal.specs.world_causes.causes.Causes.{Stored}
+use Rattle.world_legal.specs.world_causes.causes.CommitTurns.{RefusalShows}
+use Rattle.world_legal.specs.world_causes.causes.Shown.{Causes, limit_over}
 use Rattle.world_upheld.specs.causing.Collected.{freeze-tells, held-shows, nothing-issued, prune-dated, prune-tells, reset-shows}
 use Rattle.world_upheld.specs.causing.Known.{IsMakingKnown, asked-now, asks_new, collected-gone, collects-for, few, freezer}
 use Rattle.world_upheld.specs.causing.Posts.{EachShows, aggregate-shows, freeze-answers, freeze-comes, is_of_first_target, snap-shows}
 use Rattle.world_upheld.specs.causing.Refusing.{refusal-anywhere}
 use Rattle.world_letters.specs.epochs.Epochs.{AsksEpoch}
-use Rattle.world_making.specs.freezings.Turns.{held-so}
-use Rattle.world_making.specs.making.Ends.{as-done}
-use Rattle.world_causes.specs.showing.Further.{IsGone, TellsReset}
+use Rattle.world_owners.specs.world_making.freezings.Turns.{held-so}
+use Rattle.world_owners.specs.world_making.making.Ends.{as-done}
+use Rattle.world_legal.specs.world_causes.showing.Further.{IsGone, TellsReset}
 use Rattle.world_letters.specs.snapshots.Makings.{IsSo}
-use Rattle.world_commit.specs.statuses.Heard.{is_of_attempts}
+use Rattle.world_legal.specs.world_commit.statuses.Heard.{is_of_attempts}
 use Rattle.world_letters.specs.talks.TalkLaws.{taken-is-among}
 
 module _ (r : Rules) (o : Opening) (stored : Stored) (w : World) (K : IsMakingKnown r o w) (C : Causes r o stored w) (t : ℕ) (s : TargetState) (here : slice_get w.targets t ≡ Some s) (ticks : s.memory.ticks ≤ limit_over o w.lines w.issued) (reading : ℕ)

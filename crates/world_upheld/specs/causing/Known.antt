@@ -27,8 +27,8 @@ use Rattle.world_base.specs.ClientTurns.{attempt_id, request_of, waits}
 use Rattle.world_base.specs.Events.{Rules, client_plan, kept, listed, target_plan}
 use Rattle.world_base.specs.Letters.{Takes, client, is_client, is_tell, talk_of, target}
 use Rattle.world_base.specs.Requests.{issued_for, request_epoch}
-use Rattle.world_causes.specs.causes.Causes.{Stored}
-use Rattle.world_causes.specs.causes.Shown.{Causes, limit_over}
+use Rattle.world_legal.specs.world_causes.causes.Causes.{Stored}
+use Rattle.world_legal.specs.world_causes.causes.Shown.{Causes, limit_over}
 use Rattle.world_upheld.specs.causing.Collected.{CollectsFor}
 use Rattle.world_upheld.specs.causing.Dating.{request-new}
 use Rattle.world_upheld.specs.causing.Frames.{IsDatedWithin}
@@ -38,8 +38,8 @@ use Rattle.world_upheld.specs.causing.Refusing.{FreezeRefusalsShow, snap-at}
 use Rattle.world_letters.specs.epochs.Epochs.{AsksEpoch, ClientsStand}
 use Rattle.world_letters.specs.lines.Lines.{Endings}
 use Rattle.world_letters.specs.lives.Lives.{Lives}
-use Rattle.world_making.specs.making.Making.{MakingRequest}
-use Rattle.world_causes.specs.showing.Further.{IsGone, TellsReset}
+use Rattle.world_owners.specs.world_making.making.Making.{MakingRequest}
+use Rattle.world_legal.specs.world_causes.showing.Further.{IsGone, TellsReset}
 use Rattle.world_letters.specs.snapshots.Makings.{IsMadeBy, IsSnapIn, IsSo, Makings}
 use Rattle.world_letters.specs.talks.Asked.{ARead, ASnapshot, AnAggregation, Asked, ItsWrites}
 use Rattle.world_letters.specs.talks.AskLaws.{sent-is-asked}

@@ -20,16 +20,16 @@ use Rattle.world_base.specs.declared.target.Life.TheVariants.{Running}
 use Rattle.world_base.specs.declared.target.TargetState.{TargetState}
 use Rattle.world_base.specs.declared.world.World.{World}
 use Rattle.world_base.specs.Events.{Rules}
-use Rattle.world_causes.specs.causes.Causes.{Dated, Stored, blocks_of_stored}
-use Rattle.world_causes.specs.causes.Dates.{limit-rises}
-use Rattle.world_causes.specs.causes.Growth.{blocks-more}
-use Rattle.world_causes.specs.causes.Lasting.{limit-told, message-more, open-more, silent-others}
-use Rattle.world_causes.specs.causes.Shown.{Causes, FloorsShown, MessageStands, limit_over}
-use Rattle.world_causes.specs.causes.Turns.{PostShows}
-use Rattle.world_causes.specs.showing.Following.{FollowsOn, continues-keep, posted}
+use Rattle.world_legal.specs.world_causes.causes.Causes.{Dated, Stored, blocks_of_stored}
+use Rattle.world_legal.specs.world_causes.causes.Dates.{limit-rises}
+use Rattle.world_legal.specs.world_causes.causes.Growth.{blocks-more}
+use Rattle.world_legal.specs.world_causes.causes.Lasting.{limit-told, message-more, open-more, silent-others}
+use Rattle.world_legal.specs.world_causes.causes.Shown.{Causes, FloorsShown, MessageStands, limit_over}
+use Rattle.world_legal.specs.world_causes.causes.Turns.{PostShows}
+use Rattle.world_legal.specs.world_causes.showing.Following.{FollowsOn, continues-keep, posted}
 use Rattle.world_letters.specs.epochs.Epochs.{reads_snapshot}
 use Rattle.world_letters.specs.lives.TurnLines.{IsTurnLine}
-use Rattle.world_contents.specs.reads.EventLaws.{at-or-there}
+use Rattle.world_legal.specs.world_contents.reads.EventLaws.{at-or-there}
 use Rattle.world_letters.specs.snapshots.Makings.{ComesOf}
 
 -- ---- lines

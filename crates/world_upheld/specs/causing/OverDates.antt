@@ -13,13 +13,13 @@ use Rattle.base_types.specs.declared.report.Line.TheVariants as line
 use Rattle.daos_model.specs.Opening.{Opening, top}
 use Rattle.model_laws.specs.Lists.{none-in}
 use Rattle.model_laws.specs.Members.{Has}
-use Rattle.world_commit.specs.attempts.History.{History}
+use Rattle.world_legal.specs.world_commit.attempts.History.{History}
 use Rattle.world_base.specs.declared.world.World.{World}
 use Rattle.world_base.specs.Events.{Rules}
 use Rattle.world_base.specs.Stops.{WorldEvent}
-use Rattle.world_causes.specs.causes.Causes.{Dated, ShowsRead, Stored}
-use Rattle.world_causes.specs.causes.Shown.{Causes, OutcomeStands, limit_over}
-use Rattle.world_causes.specs.causes.Storing.{AreApart, dated_ids}
+use Rattle.world_legal.specs.world_causes.causes.Causes.{Dated, ShowsRead, Stored}
+use Rattle.world_legal.specs.world_causes.causes.Shown.{Causes, OutcomeStands, limit_over}
+use Rattle.world_legal.specs.world_causes.causes.Storing.{AreApart, dated_ids}
 use Rattle.world_upheld.specs.causing.Begin.{causes-begin, IsBegun}
 use Rattle.world_upheld.specs.causing.Clients.{ClientsKnown, LossesKnown}
 use Rattle.world_upheld.specs.causing.DateLaws.{epoch-once, events-keep_dates, reads-come_to_count}
@@ -31,8 +31,8 @@ use Rattle.world_upheld.specs.causing.RefusalLaws.{all-events-keep_refusals}
 use Rattle.world_upheld.specs.causing.Refusing.{FreezeRefusalsShow}
 use Rattle.world_letters.specs.clients.Snapshots.{is_at_snapshot}
 use Rattle.world_letters.specs.epochs.Epochs.{Epochs, IsEpochOf}
-use Rattle.world_commit.specs.fates.Facts.{Attempts}
-use Rattle.world_causes.specs.showing.Happening.{stored_in}
+use Rattle.world_legal.specs.world_commit.fates.Facts.{Attempts}
+use Rattle.world_legal.specs.world_causes.showing.Happening.{stored_in}
 
 -- Outcomes show their causes by what counts as attempts' epochs: those that were issued, and for an attempt that reads at a snapshot that of the
 -- snapshot, so much later. So do refusals of Freezes; and reads at snapshots that wait meet what they wait for.

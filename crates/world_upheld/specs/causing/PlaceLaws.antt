@@ -11,10 +11,10 @@ use Rattle.world_base.specs.Stops.{WorldEvent}
 use Rattle.world_upheld.specs.causing.Counting.{passes-longer}
 use Rattle.world_upheld.specs.causing.DateLaws.{issued-now}
 use Rattle.world_upheld.specs.causing.Dates.{newly_dated}
-use Rattle.world_making.specs.freezings.Snapped.{WasSnapped, all-events-snap_so}
+use Rattle.world_owners.specs.world_making.freezings.Snapped.{WasSnapped, all-events-snap_so}
 use Rattle.world_upheld.specs.causing.Places.{HavePlaces, Places, Placing, is_frozen_for, placing-both, placing-made, placing-none, placing-opened, placing-partly}
-use Rattle.world_making.specs.freezings.Freezings.{Freezings, HaveOneEpoch, IsOfSnap}
-use Rattle.world_making.specs.making.Leaving.{IsThereStill, event-left}
+use Rattle.world_owners.specs.world_making.freezings.Freezings.{Freezings, HaveOneEpoch, IsOfSnap}
+use Rattle.world_owners.specs.world_making.making.Leaving.{IsThereStill, event-left}
 use Rattle.world_letters.specs.snapshots.Makings.{Makings}
 
 abbrev pub AllEventsKeepPlaces : Type 0

@@ -20,10 +20,10 @@ use Rattle.world_base.specs.Changes.{Change, Creates, Extends, Freezes, IsPartly
 use Rattle.world_base.specs.declared.target.TargetState.{TargetState}
 use Rattle.world_base.specs.declared.world.World.{World}
 use Rattle.world_base.specs.Events.{Rules}
-use Rattle.world_causes.specs.causes.Causes.{Dated}
+use Rattle.world_legal.specs.world_causes.causes.Causes.{Dated}
 use Rattle.world_upheld.specs.causing.Counting.{passes-more, passes-one_more}
-use Rattle.world_making.specs.freezings.Freezings.{IsOfSnap}
-use Rattle.world_making.specs.freezings.Snapping.{NoSnaps, frozen-there, snapping-made, snapping-same}
+use Rattle.world_owners.specs.world_making.freezings.Freezings.{IsOfSnap}
+use Rattle.world_owners.specs.world_making.freezings.Snapping.{NoSnaps, frozen-there, snapping-made, snapping-same}
 use Rattle.world_letters.specs.snapshots.Makings.{IsSnapIn}
 
 -- the snapshot is frozen that a command makes at an epoch

@@ -32,13 +32,13 @@ use Rattle.world_base.specs.PathLaws.{path-keeps}
 use Rattle.world_base.specs.Requests.{request_epoch}
 use Rattle.world_base.specs.Snapshots as snap
 use Rattle.world_base.specs.Turns.{Path}
-use Rattle.world_causes.specs.causes.Causes.{Dated, Stored}
-use Rattle.world_causes.specs.causes.CommitTurns.{RefusalShows}
-use Rattle.world_causes.specs.causes.Dates.{limit-rises}
-use Rattle.world_causes.specs.causes.Lasting.{refusal-shows}
-use Rattle.world_causes.specs.causes.ReadTurns.{none-told}
-use Rattle.world_causes.specs.causes.Shown.{IsTold, limit_over}
-use Rattle.world_causes.specs.causes.Turns.{PostShows}
+use Rattle.world_legal.specs.world_causes.causes.Causes.{Dated, Stored}
+use Rattle.world_legal.specs.world_causes.causes.CommitTurns.{RefusalShows}
+use Rattle.world_legal.specs.world_causes.causes.Dates.{limit-rises}
+use Rattle.world_legal.specs.world_causes.causes.Lasting.{refusal-shows}
+use Rattle.world_legal.specs.world_causes.causes.ReadTurns.{none-told}
+use Rattle.world_legal.specs.world_causes.causes.Shown.{IsTold, limit_over}
+use Rattle.world_legal.specs.world_causes.causes.Turns.{PostShows}
 use Rattle.world_upheld.specs.causing.Counting.{passes-longer}
 use Rattle.world_upheld.specs.causing.Dating.{IsIssuedNow, request-new, request-none}
 use Rattle.world_upheld.specs.causing.Places.{HavePlaces, is_frozen_for}

@@ -13,8 +13,8 @@ use Rattle.daos_model.specs.Opening.{Opening}
 use Rattle.dtx_base.specs.declared.member.Parked.{Parked}
 use Rattle.dtx_base.specs.Joining as joining
 use Rattle.dtx_base.specs.Joining.{MemberOf, is_not_waiting, unresolved}
-use Rattle.world_commit.specs.attempts.Counting.{has-taken}
-use Rattle.world_commit.specs.attempts.History.{History}
+use Rattle.world_legal.specs.world_commit.attempts.Counting.{has-taken}
+use Rattle.world_legal.specs.world_commit.attempts.History.{History}
 use Rattle.world_base.specs.declared.did.Did.{Did}
 use Rattle.world_base.specs.declared.target.TargetMemory.{TargetMemory}
 use Rattle.world_base.specs.declared.target.TargetPlan.{TargetPlan}
@@ -33,10 +33,10 @@ use Rattle.world_base.specs.StepLaws.{by-hearing, by-next}
 use Rattle.world_base.specs.Statuses.{ask_left, reset_left, status_left}
 use Rattle.world_base.specs.Stops.{Draws, Fails, Further, GivenUp, Happening, HearsMore, IsCut, Opens, Plainly, WorldEvent, opened_at, stopped_at}
 use Rattle.world_base.specs.TargetTurns.{commit_request, fetch_request, prepare_request}
-use Rattle.world_causes.specs.causes.Causes.{Dated, MeetsOther, Stored}
-use Rattle.world_causes.specs.causes.Growth.{meets-more}
-use Rattle.world_causes.specs.causes.Heard.{IsKnownAt, meet-at}
-use Rattle.world_causes.specs.causes.Shown.{Causes}
+use Rattle.world_legal.specs.world_causes.causes.Causes.{Dated, MeetsOther, Stored}
+use Rattle.world_legal.specs.world_causes.causes.Growth.{meets-more}
+use Rattle.world_legal.specs.world_causes.causes.Heard.{IsKnownAt, meet-at}
+use Rattle.world_legal.specs.world_causes.causes.Shown.{Causes}
 use Rattle.world_upheld.specs.causing.DatedTurns.{looks-so}
 use Rattle.world_upheld.specs.causing.DatedVerdicts.{AsksFor, ReadsMeet, own-waits, verdict-reads_meet}
 use Rattle.world_upheld.specs.causing.Dates.{newly_dated, with_dates}
@@ -44,11 +44,11 @@ use Rattle.world_upheld.specs.causing.Happening.{frees_none, IsHeardSo, IsOther,
 use Rattle.world_upheld.specs.causing.SnapshotReads.{SnapshotReadLeaves, snapshot-reads_show}
 use Rattle.world_upheld.specs.causing.Events.{of-making}
 use Rattle.world_letters.specs.epochs.Epochs.{reads_snapshot}
-use Rattle.world_commit.specs.fates.Facts.{Attempts}
-use Rattle.world_commit.specs.fates.Rightly.{letters-tell}
-use Rattle.world_making.specs.making.Turns.{hearings-leave}
-use Rattle.world_contents.specs.reads.EventLaws.{at-or-there}
-use Rattle.world_commit.specs.statuses.Heard.{is_of_attempts}
+use Rattle.world_legal.specs.world_commit.fates.Facts.{Attempts}
+use Rattle.world_legal.specs.world_commit.fates.Rightly.{letters-tell}
+use Rattle.world_owners.specs.world_making.making.Turns.{hearings-leave}
+use Rattle.world_legal.specs.world_contents.reads.EventLaws.{at-or-there}
+use Rattle.world_legal.specs.world_commit.statuses.Heard.{is_of_attempts}
 
 -- at each target
 abbrev pub AllReadsMeet : Rules → Dated → World → Type 0

@@ -22,9 +22,9 @@ use Rattle.world_base.specs.Statuses.{opening_posts}
 use Rattle.world_base.specs.StepLaws.{by-hearing, by-next}
 use Rattle.world_base.specs.Steps.{KeptByCounting, KeptByHearing, KeptByMoves}
 use Rattle.world_base.specs.Stops.{Draws, Fails, Further, GivenUp, Happening, HearsMore, IsCut, Opens, Plainly, WorldEvent, is_not_to, is_not_to_down, is_to, is_to_down, reset_letter, resets, restart_line, stops_so_far, swept}
-use Rattle.world_causes.specs.causes.Causes.{Dated, Stored}
-use Rattle.world_causes.specs.causes.CommitTurns.{RefusalShows}
-use Rattle.world_causes.specs.causes.Shown.{Causes}
+use Rattle.world_legal.specs.world_causes.causes.Causes.{Dated, Stored}
+use Rattle.world_legal.specs.world_causes.causes.CommitTurns.{RefusalShows}
+use Rattle.world_legal.specs.world_causes.causes.Shown.{Causes}
 use Rattle.world_upheld.specs.causing.Answers.{NoneRefuses, further-not, plainly-not, says_refused}
 use Rattle.world_upheld.specs.causing.Hearing.{answers-show}
 use Rattle.world_upheld.specs.causing.Dates.{newly_dated, with_dates}
@@ -33,7 +33,7 @@ use Rattle.world_upheld.specs.causing.Refusing.{FreezeRefusalsShow, refusal-on}
 use Rattle.world_letters.specs.endings.Clients.{heard-asks}
 use Rattle.world_letters.specs.lines.EndingLaws.{all-hear-tell, idle-tells}
 use Rattle.world_letters.specs.talks.TalkLaws.{left-is-among, taken-is-among}
-use Rattle.world_making.specs.freezings.Unasked.{AreUnasked, is_unasked, move-unasked, opening-unasked, question-unasked}
+use Rattle.world_owners.specs.world_making.freezings.Unasked.{AreUnasked, is_unasked, move-unasked, opening-unasked, question-unasked}
 
 abbrev pub AllEventsKeepFreezeRefusals : Type 0
 AllEventsKeepFreezeRefusals =

@@ -31,12 +31,12 @@ use Rattle.world_base.specs.declared.world.World.{World}
 use Rattle.world_base.specs.Changes.{Kept}
 use Rattle.world_base.specs.Events.{Rules, target_plan}
 use Rattle.world_base.specs.Snapshots.{freeze_cause, refusal_of}
-use Rattle.world_causes.specs.causes.Causes.{Dated, Stored}
-use Rattle.world_causes.specs.causes.CommitTurns.{RefusalShows}
-use Rattle.world_causes.specs.causes.Dates.{limit-rises}
-use Rattle.world_causes.specs.causes.Floors.{has-line, row-stays}
-use Rattle.world_causes.specs.causes.Lasting.{limit-told, refusal-more}
-use Rattle.world_causes.specs.causes.Shown.{IsTold, LacksSpace, is_other_snap, limit_over}
+use Rattle.world_legal.specs.world_causes.causes.Causes.{Dated, Stored}
+use Rattle.world_legal.specs.world_causes.causes.CommitTurns.{RefusalShows}
+use Rattle.world_legal.specs.world_causes.causes.Dates.{limit-rises}
+use Rattle.world_legal.specs.world_causes.causes.Floors.{has-line, row-stays}
+use Rattle.world_legal.specs.world_causes.causes.Lasting.{limit-told, refusal-more}
+use Rattle.world_legal.specs.world_causes.causes.Shown.{IsTold, LacksSpace, is_other_snap, limit_over}
 use Rattle.world_upheld.specs.causing.Counting.{passes-more}
 use Rattle.world_upheld.specs.causing.Places.{HavePlaces, freezes_of, is_frozen_for}
 use Rattle.world_letters.specs.snapshots.Makings.{IsSnapIn}

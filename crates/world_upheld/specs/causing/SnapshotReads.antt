@@ -24,7 +24,7 @@ use Rattle.daos_model.specs.Versions.{version_path}
 use Rattle.daos_model.specs.declared.durable.Durable.{Durable}
 use Rattle.daos_model.specs.Durables.{same_attempt}
 use Rattle.dtx_base.specs.declared.member.Parked.{Parked}
-use Rattle.vos_stamp.specs.Stamps.{read_cause}
+use Rattle.world_base.specs.vos_stamp.Stamps.{read_cause}
 use Rattle.vos_store.specs.Answers.{fetched, is_past}
 use Rattle.vos_store.specs.declared.refusal.FetchNo.TheVariants.{Unsettled}
 use Rattle.world_base.specs.declared.did.Did.{Did}
@@ -43,15 +43,15 @@ use Rattle.world_base.specs.Reads as read
 use Rattle.world_base.specs.Requests.{issued_for, with_ticks}
 use Rattle.world_base.specs.Roles.{other_leader}
 use Rattle.world_base.specs.Turns.{Path, Whole}
-use Rattle.world_causes.specs.causes.AtFloors.{IsTarget}
-use Rattle.world_causes.specs.causes.Causes.{Dated, IsAskedFor, MeetsOther, Stored}
-use Rattle.world_causes.specs.causes.Floors.{IsInTheWay, meets-open}
-use Rattle.world_causes.specs.causes.Leases.{ExtendsTo}
-use Rattle.world_causes.specs.causes.Writes.{written-stays}
-use Rattle.world_causes.specs.causes.Paths.{AreOpen, IsKnown, IsMet, IsOpenStill, IsOthers, Lasts, lasts-committed, lasts-here, lasts-rests}
-use Rattle.world_causes.specs.causes.ReadTurns.{none-told, told-one, unresolved-stands}
-use Rattle.world_causes.specs.causes.Shown.{Causes, IsOpenToAll, MeetsUnresolved, MessageStands, ReplyStands, limit_over}
-use Rattle.world_causes.specs.causes.Turns.{PostShows}
+use Rattle.world_legal.specs.world_causes.causes.AtFloors.{IsTarget}
+use Rattle.world_legal.specs.world_causes.causes.Causes.{Dated, IsAskedFor, MeetsOther, Stored}
+use Rattle.world_legal.specs.world_causes.causes.Floors.{IsInTheWay, meets-open}
+use Rattle.world_legal.specs.world_causes.causes.Leases.{ExtendsTo}
+use Rattle.world_legal.specs.world_causes.causes.Writes.{written-stays}
+use Rattle.world_legal.specs.world_causes.causes.Paths.{AreOpen, IsKnown, IsMet, IsOpenStill, IsOthers, Lasts, lasts-committed, lasts-here, lasts-rests}
+use Rattle.world_legal.specs.world_causes.causes.ReadTurns.{none-told, told-one, unresolved-stands}
+use Rattle.world_legal.specs.world_causes.causes.Shown.{Causes, IsOpenToAll, MeetsUnresolved, MessageStands, ReplyStands, limit_over}
+use Rattle.world_legal.specs.world_causes.causes.Turns.{PostShows}
 use Rattle.world_upheld.specs.causing.Posts.{EachShows, one-shows}
 use Rattle.world_letters.specs.clients.Snapshots.{is_at_snapshot}
 use Rattle.world_letters.specs.epochs.Epochs.{Epochs}

@@ -27,17 +27,17 @@ use Rattle.world_base.specs.Letters.{Takes, client, is_tell}
 use Rattle.world_base.specs.Steps.{after_move, without}
 use Rattle.world_letters.specs.talks.HearLaws.{replied-silent}
 use Rattle.world_letters.specs.talks.TalkLaws.{got-is-talk, left-is-among, none-among, taken-is-among}
-use Rattle.world_causes.specs.causes.Causes.{Dated, EndsOf, Stored, epochs_told}
-use Rattle.world_causes.specs.causes.ReadTurns.{none-told}
+use Rattle.world_legal.specs.world_causes.causes.Causes.{Dated, EndsOf, Stored, epochs_told}
+use Rattle.world_legal.specs.world_causes.causes.ReadTurns.{none-told}
 use Rattle.base_types.specs.declared.outcome.Cause.TheVariants as cause
 use Rattle.model_laws.specs.EntryLaws.{same-attempt}
 use Rattle.daos_model.specs.Accesses.{attempt_targets}
 use Rattle.daos_model.specs.BoolLaws.{and_left, and_right}
 use Rattle.daos_model.specs.CausesShown.{StopsAfter}
 use Rattle.daos_model.specs.EntryLaws.{same_attempt-itself}
-use Rattle.world_causes.specs.causes.Shown.{Causes, MeetsUnresolved, MessageStands, OutcomeStands, ReplyStands, limit_over}
-use Rattle.world_causes.specs.causes.ClientLaws.{ArePlain, IsMild, IsPlain, answer-mild, attempt_here, ends-no_tell, ends-tracker, quiet-line}
-use Rattle.world_causes.specs.causes.HearingLaws.{IsHeard, LossStands, LossesStand}
+use Rattle.world_legal.specs.world_causes.causes.Shown.{Causes, MeetsUnresolved, MessageStands, OutcomeStands, ReplyStands, limit_over}
+use Rattle.world_legal.specs.world_causes.causes.ClientLaws.{ArePlain, IsMild, IsPlain, answer-mild, attempt_here, ends-no_tell, ends-tracker, quiet-line}
+use Rattle.world_legal.specs.world_causes.causes.HearingLaws.{IsHeard, LossStands, LossesStand}
 use Rattle.world_upheld.specs.causing.Dates.{with_dates}
 use Rattle.world_upheld.specs.causing.Doing.{AreBegun, did-causes, none-ended, was-present}
 

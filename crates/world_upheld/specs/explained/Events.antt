@@ -2,18 +2,18 @@
 use Rattle.std.specs.Prelude.{ℕ, ◌≤◌, ◌++◌}
 use Rattle.daos_model.specs.Opening.{Opening}
 use Rattle.model_laws.specs.Members.{contains-from_has}
-use Rattle.world_commit.specs.attempts.History.{GrowsBy, History}
-use Rattle.world_commit.specs.statuses.Events.{told_by}
+use Rattle.world_legal.specs.world_commit.attempts.History.{GrowsBy, History}
+use Rattle.world_legal.specs.world_commit.statuses.Events.{told_by}
 use Rattle.world_base.specs.declared.world.World.{World}
 use Rattle.world_base.specs.Events.{Rules}
 use Rattle.world_base.specs.Stops.{WorldEvent}
-use Rattle.world_causes.specs.causes.Causes.{Stored}
+use Rattle.world_legal.specs.world_causes.causes.Causes.{Stored}
 use Rattle.world_upheld.specs.causing.OverDates.{CausesOverDates, events-keep_causes}
 use Rattle.world_upheld.specs.causing.PlaceLaws.{all-events-keep_places}
 use Rattle.world_upheld.specs.causing.Places.{Places}
-use Rattle.world_making.specs.freezings.Freezings.{HaveOneEpoch}
-use Rattle.world_causes.specs.handing.Begun.{losses-asked}
-use Rattle.world_causes.specs.showing.Happening.{stored_in}
+use Rattle.world_owners.specs.world_making.freezings.Freezings.{HaveOneEpoch}
+use Rattle.world_legal.specs.world_causes.handing.Begun.{losses-asked}
+use Rattle.world_legal.specs.world_causes.showing.Happening.{stored_in}
 use Rattle.world_upheld.specs.upheld.Begins.{AreRulesInForm}
 use Rattle.world_upheld.specs.upheld.Heard.{HeardGrounds}
 use Rattle.world_upheld.specs.reasons.Reasons.{Reasons, all-events-keep_reasons}

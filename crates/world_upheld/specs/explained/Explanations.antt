@@ -12,20 +12,20 @@ use Rattle.base_types.specs.declared.report.Line.TheVariants as line
 use Rattle.base_types.specs.declared.snapshot.Snap.{Snap}
 use Rattle.daos_model.specs.declared.durable.Version.{Version}
 use Rattle.daos_model.specs.Opening.{Opening, kept_map}
-use Rattle.world_commit.specs.attempts.History.{Grew, GrowsBy, History}
-use Rattle.world_commit.specs.statuses.Events.{told_by}
+use Rattle.world_legal.specs.world_commit.attempts.History.{Grew, GrowsBy, History}
+use Rattle.world_legal.specs.world_commit.statuses.Events.{told_by}
 use Rattle.world_base.specs.declared.target.TargetState.{TargetState}
 use Rattle.world_base.specs.declared.world.World.{World}
 use Rattle.world_base.specs.Events.{Rules}
 use Rattle.world_base.specs.Stops.{WorldEvent, WorldRun}
-use Rattle.world_causes.specs.causes.Causes.{Stored}
+use Rattle.world_legal.specs.world_causes.causes.Causes.{Stored}
 use Rattle.world_upheld.specs.causing.Dates.{with_dates}
 use Rattle.world_upheld.specs.causing.OverDates.{CausesOverDates}
 use Rattle.world_upheld.specs.causing.Happening.{IsOtherwiseKnown}
 use Rattle.world_upheld.specs.causing.Known.{IsMakingKnown}
 use Rattle.world_upheld.specs.causing.Places.{Places}
 use Rattle.world_legal.specs.reasons.Accounted.{stored_over}
-use Rattle.world_causes.specs.showing.Happening.{stored_in}
+use Rattle.world_legal.specs.world_causes.showing.Happening.{stored_in}
 use Rattle.world_upheld.specs.upheld.Begins.{AreRulesInForm, RunBeginsWell, RunBeginsWith, held_at, no_history, AreBefore}
 use Rattle.world_upheld.specs.upheld.Upheld.{Contents, Upheld}
 use Rattle.world_upheld.specs.reasons.Reasons.{Reasons}

@@ -20,8 +20,8 @@ use Rattle.dtx_base.specs.declared.member.Parked.{Parked}
 use Rattle.dtx_base.specs.Joining.{is_asker, is_waiting}
 use Rattle.dtx_base.specs.LeaderLaws.{same-is}
 use Rattle.model_laws.specs.Members.{Has, contains-from_has, has-from_contains}
-use Rattle.world_commit.specs.attempts.Counting.{has-taken}
-use Rattle.world_commit.specs.attempts.History.{History}
+use Rattle.world_legal.specs.world_commit.attempts.Counting.{has-taken}
+use Rattle.world_legal.specs.world_commit.attempts.History.{History}
 use Rattle.world_base.specs.declared.letter.Letter.{Letter}
 use Rattle.world_base.specs.declared.request.FetchRequest.{FetchRequest}
 use Rattle.world_base.specs.declared.target.Life.TheVariants.{Running}
@@ -32,10 +32,10 @@ use Rattle.world_base.specs.Letters.{target}
 use Rattle.world_base.specs.Requests.{fetch_message}
 use Rattle.world_base.specs.Stops.{AtWork, Draws, Fails, Further, GivenUp, Happening, Hearing, IdleWork, IsCut, IsInHand, Opens, Plainly, WorldEvent, swept}
 use Rattle.world_base.specs.TargetTurns.{fetch_request}
-use Rattle.world_causes.specs.causes.Causes.{Dated, IsUndecidedFor, Stored}
-use Rattle.world_causes.specs.causes.Floors.{floors-told}
-use Rattle.world_causes.specs.causes.Heard.{IsHeardAs, IsKnownAt}
-use Rattle.world_causes.specs.causes.Shown.{Causes, IsOpenTo, limit_over}
+use Rattle.world_legal.specs.world_causes.causes.Causes.{Dated, IsUndecidedFor, Stored}
+use Rattle.world_legal.specs.world_causes.causes.Floors.{floors-told}
+use Rattle.world_legal.specs.world_causes.causes.Heard.{IsHeardAs, IsKnownAt}
+use Rattle.world_legal.specs.world_causes.causes.Shown.{Causes, IsOpenTo, limit_over}
 use Rattle.world_upheld.specs.causing.DateLaws.{dates-once}
 use Rattle.world_upheld.specs.causing.DatedVerdicts.{AsksFor, IsVerdictRight}
 use Rattle.world_upheld.specs.causing.Dates.{IsBegunBy, counted-up, counted_as, counts-issued, is_own_date, issued-own, passes-among, with_dates}
@@ -46,12 +46,12 @@ use Rattle.world_upheld.specs.causing.Places.{is_frozen_for}
 use Rattle.world_upheld.specs.causing.SnapshotReads.{IsDatedRead}
 use Rattle.world_letters.specs.clients.Snapshots.{is_at_snapshot}
 use Rattle.world_letters.specs.epochs.Epochs.{Epochs, GoesWith, IsEpochOf, IsPresent}
-use Rattle.world_making.specs.freezings.Fetching.{fetches-right}
+use Rattle.world_owners.specs.world_making.freezings.Fetching.{fetches-right}
 use Rattle.world_legal.specs.doubts.Doubts.{Doubts}
 use Rattle.world_legal.specs.reasons.Downs.{TellsDown}
 use Rattle.world_legal.specs.shown.Open.{query-open, stopped-open}
-use Rattle.world_causes.specs.losses.ClientHears.{TellsLoss}
-use Rattle.world_causes.specs.showing.Further.{IsResetKnown, TellsReset}
+use Rattle.world_legal.specs.world_causes.losses.ClientHears.{TellsLoss}
+use Rattle.world_legal.specs.world_causes.showing.Further.{IsResetKnown, TellsReset}
 use Rattle.world_letters.specs.snapshots.Makings.{IsSnapIn, asks-more, collects-more, comes-more, so-more}
 use Rattle.world_upheld.specs.upheld.Begins.{AreRulesInForm}
 use Rattle.world_upheld.specs.upheld.Heard.{HeardGrounds}

@@ -5,7 +5,7 @@ use Rattle.base_types.specs.declared.id.ContId.{ContId}
 use Rattle.daos_model.specs.Durables.{row_of}
 use Rattle.daos_model.specs.Opening.{Opening, top}
 use Rattle.vos_store.specs.Answers.{floor_of}
-use Rattle.world_commit.specs.asks.Entries.{mapped}
+use Rattle.world_legal.specs.world_commit.asks.Entries.{mapped}
 use Rattle.world_base.specs.declared.client.ClientState.{ClientState}
 use Rattle.world_base.specs.declared.target.TargetState.{TargetState}
 use Rattle.world_base.specs.declared.world.World.{World}
@@ -17,7 +17,7 @@ use Rattle.world_legal.specs.reasons.Accounted.{stored_over}
 use Rattle.world_upheld.specs.upheld.Begins.{RunBeginsWell, client_begins, held_at, no_history}
 use Rattle.world_upheld.specs.upheld.BeginVersions.{begins-well}
 use Rattle.world_upheld.specs.upheld.Events.{grows-with, later-with}
-use Rattle.world_commit.specs.statuses.Events.{told_by}
+use Rattle.world_legal.specs.world_commit.statuses.Events.{told_by}
 use Rattle.world_upheld.specs.upheld.Runs.{contents-begin, held-first}
 use Rattle.world_upheld.specs.reasons.Reasons.{reasons-begin}
 use Rattle.world_legal.specs.closing.Kept.{get-map}

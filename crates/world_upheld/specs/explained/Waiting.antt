@@ -16,7 +16,7 @@ use Rattle.dtx_base.specs.Joining.{asker}
 use Rattle.model_laws.specs.Lists.{has-at}
 use Rattle.model_laws.specs.Members.{Has, contains-from_has, has-from_contains, has-map}
 use Rattle.model_laws.specs.TargetLaws.{same_number}
-use Rattle.world_commit.specs.attempts.History.{History}
+use Rattle.world_legal.specs.world_commit.attempts.History.{History}
 use Rattle.world_base.specs.declared.request.FetchRequest.{FetchRequest}
 use Rattle.world_base.specs.declared.target.TargetState.{TargetState}
 use Rattle.world_base.specs.declared.world.World.{World}
@@ -26,10 +26,10 @@ use Rattle.world_base.specs.Letters.{client, target}
 use Rattle.world_base.specs.Reads.{fetch_at}
 use Rattle.world_base.specs.Requests.{fetch_message}
 use Rattle.world_base.specs.TargetTurns.{fetch_request}
-use Rattle.world_causes.specs.causes.Causes.{Dated, MeetsOther, Stored}
-use Rattle.world_causes.specs.causes.Growth.{question-asks}
-use Rattle.world_causes.specs.causes.Premises.{MessageBears}
-use Rattle.world_causes.specs.causes.Shown.{Causes, IsFirstOf, limit_over}
+use Rattle.world_legal.specs.world_causes.causes.Causes.{Dated, MeetsOther, Stored}
+use Rattle.world_legal.specs.world_causes.causes.Growth.{question-asks}
+use Rattle.world_legal.specs.world_causes.causes.Premises.{MessageBears}
+use Rattle.world_legal.specs.world_causes.causes.Shown.{Causes, IsFirstOf, limit_over}
 use Rattle.world_upheld.specs.causing.DateLaws.{epoch-once}
 use Rattle.world_upheld.specs.causing.DatedVerdicts.{AsksFor, AtOwnEpoch, AtSnapshot, IsAskRight, IsAskFit}
 use Rattle.world_upheld.specs.causing.Dates.{counted-up, counted_as, counts-issued, with_dates}
@@ -38,11 +38,11 @@ use Rattle.world_upheld.specs.causing.SnapshotReads.{IsDatedRead}
 use Rattle.world_letters.specs.clients.Snapshots.{is_at_snapshot}
 use Rattle.world_letters.specs.epochs.Asking.{ops-at}
 use Rattle.world_letters.specs.epochs.Epochs.{BearsEpoch, Epochs, HasItsEpoch, IsEpochOf, IsIssued, IsOwn, IsPresent, IsReadOf, IsSeen, reads_snapshot}
-use Rattle.world_causes.specs.firsts.Firsts.{GoesWith}
-use Rattle.world_making.specs.freezings.Fetching.{AsksOp, waiters-right}
-use Rattle.world_causes.specs.handing.Targets.{question-target}
+use Rattle.world_legal.specs.world_causes.firsts.Firsts.{GoesWith}
+use Rattle.world_owners.specs.world_making.freezings.Fetching.{AsksOp, waiters-right}
+use Rattle.world_legal.specs.world_causes.handing.Targets.{question-target}
 use Rattle.world_legal.specs.shown.Parked.{read-sent}
-use Rattle.world_standing.specs.standing.Requests.{IsParkedBy, parked-by}
+use Rattle.world_legal.specs.world_standing.standing.Requests.{IsParkedBy, parked-by}
 use Rattle.world_letters.specs.talks.AskLaws.{asked-read}
 use Rattle.world_letters.specs.talks.Asked.{Asked, AsksRead}
 use Rattle.world_upheld.specs.upheld.Begins.{AreRulesInForm}

@@ -14,27 +14,27 @@ use Rattle.daos_model.specs.Versions.{version_path}
 use Rattle.dtx_base.specs.Rows.{is_among}
 use Rattle.model_laws.specs.Lists.{any-of}
 use Rattle.model_laws.specs.Members.{contains-from_has, has-from_contains}
-use Rattle.world_commit.specs.attempts.Attempts.{IsItsEntry, IsOther, entry_in, leader_of}
-use Rattle.world_commit.specs.attempts.History.{History}
-use Rattle.world_commit.specs.attempts.MemberBits.{other-no_leader}
-use Rattle.world_commit.specs.attempts.Stored.{among-is}
+use Rattle.world_legal.specs.world_commit.attempts.Attempts.{IsItsEntry, IsOther, entry_in, leader_of}
+use Rattle.world_legal.specs.world_commit.attempts.History.{History}
+use Rattle.world_legal.specs.world_commit.attempts.MemberBits.{other-no_leader}
+use Rattle.world_legal.specs.world_commit.attempts.Stored.{among-is}
 use Rattle.world_base.specs.declared.target.TargetPlan.{TargetPlan}
 use Rattle.world_base.specs.declared.target.TargetState.{TargetState}
 use Rattle.world_base.specs.declared.world.World.{World}
 use Rattle.world_base.specs.Events.{Rules, target_plan}
 use Rattle.world_base.specs.Roles.{other_leader, other_leader_of}
 use Rattle.base_types.specs.declared.entry.Entry.{Entry}
-use Rattle.world_causes.specs.causes.Paths.{AreOpen, IsKnown, IsMet, IsOpenStill, IsOthers}
-use Rattle.world_causes.specs.causes.Premises.{AreWritten}
-use Rattle.world_causes.specs.causes.Causes.{Stored}
+use Rattle.world_legal.specs.world_causes.causes.Paths.{AreOpen, IsKnown, IsMet, IsOpenStill, IsOthers}
+use Rattle.world_legal.specs.world_causes.causes.Premises.{AreWritten}
+use Rattle.world_legal.specs.world_causes.causes.Causes.{Stored}
 use Rattle.world_owners.specs.Owners.{AllKeepOwn}
 use Rattle.world_letters.specs.epochs.Epochs.{Epochs}
-use Rattle.world_commit.specs.fates.Facts.{Attempts}
-use Rattle.world_causes.specs.hearing.Going.{EntriesWrite}
+use Rattle.world_legal.specs.world_commit.fates.Facts.{Attempts}
+use Rattle.world_legal.specs.world_causes.hearing.Going.{EntriesWrite}
 use Rattle.world_legal.specs.doubts.Doubts.{Doubts}
 use Rattle.world_legal.specs.shown.Open.{led-open}
-use Rattle.world_causes.specs.outcomes.Outcomes.{Outcomes}
-use Rattle.world_contents.specs.reads.Versions.{IsPreparedAt, IsVersionOf}
+use Rattle.world_legal.specs.world_causes.outcomes.Outcomes.{Outcomes}
+use Rattle.world_legal.specs.world_contents.reads.Versions.{IsPreparedAt, IsVersionOf}
 
 -- the write that a version is
 write-of : (r : Rules) (t : ℕ) (v : Version) → IsVersionOf r t v → Any (λ w. write_path w.write ≡ version_path v) (minor_writes 0 (attempt_ops r.script v.by))

@@ -15,7 +15,7 @@ use Rattle.daos_model.specs.declared.durable.Durable.{Durable}
 use Rattle.dtx_base.specs.Leading.{is_led, is_open, to_target}
 use Rattle.dtx_base.specs.Members.{all_targets, other_members}
 use Rattle.model_laws.specs.Members.{Has, contains-from_has, has-cases, has-from_filter, has-from_map}
-use Rattle.world_commit.specs.attempts.Counting.{has-left_over, has-taken}
+use Rattle.world_legal.specs.world_commit.attempts.Counting.{has-left_over, has-taken}
 use Rattle.world_base.specs.declared.client.ClientState.{ClientState}
 use Rattle.world_base.specs.declared.client.Present.{Present}
 use Rattle.world_base.specs.declared.letter.Letter.{Letter}
@@ -32,12 +32,12 @@ use Rattle.world_base.specs.StepLaws.{by-hearing, by-next}
 use Rattle.world_base.specs.Steps.{KeptByCounting, KeptByHearing, KeptByMoves}
 use Rattle.world_base.specs.Stops.{Draws, Fails, Further, GivenUp, Happening, IsCut, Opens, Plainly, WorldEvent, is_down_at, is_not_to, is_not_to_down, is_to, is_to_down, reset_letter, resets, swept, with_lost}
 use Rattle.world_letters.specs.endings.Clients.{IsQuestion, heard-asks}
-use Rattle.world_commit.specs.fates.Asking.{asked-was}
+use Rattle.world_legal.specs.world_commit.fates.Asking.{asked-was}
 use Rattle.world_letters.specs.lines.EndingLaws.{all-hear-tell, idle-tells}
 use Rattle.world_letters.specs.lines.Lines.{Endings}
-use Rattle.world_making.specs.makers.Posts.{NoneIsOfMaking, all-plainly, further-none}
-use Rattle.world_making.specs.making.Making.{AsksAgain, AsksFreezes, AsksPrunes, EndsCollected, EndsIt, MakingSends, SaysFrozen, SaysNothing, SaysPruned, SaysRefused, is_lost_at, is_of_snapshots, tells_of_snapshots}
-use Rattle.world_making.specs.making.Turns.{hearings-leave}
+use Rattle.world_owners.specs.world_making.makers.Posts.{NoneIsOfMaking, all-plainly, further-none}
+use Rattle.world_owners.specs.world_making.making.Making.{AsksAgain, AsksFreezes, AsksPrunes, EndsCollected, EndsIt, MakingSends, SaysFrozen, SaysNothing, SaysPruned, SaysRefused, is_lost_at, is_of_snapshots, tells_of_snapshots}
+use Rattle.world_owners.specs.world_making.making.Turns.{hearings-leave}
 use Rattle.world_letters.specs.talks.AskLaws.{move-is, waiting-rests}
 use Rattle.world_letters.specs.talks.Asked.{ARead, ASnapshot, AnAggregation, Asked, Asking, IsMove, ItsWrites, Silent, Telling}
 

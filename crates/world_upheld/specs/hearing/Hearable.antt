@@ -25,10 +25,10 @@ use Rattle.daos_model.specs.Forms.{AreWritesInForm}
 use Rattle.daos_model.specs.Opening.{Opening, top}
 use Rattle.daos_model.specs.Transactions.{attempt_ops}
 use Rattle.dtx_base.specs.Members.{is_written_at, writes_at}
-use Rattle.world_commit.specs.attempts.Asked.{IsCommitNew}
-use Rattle.world_commit.specs.attempts.Attempts.{IsOther, entry_at, entry_in, leader_of, writes_of}
-use Rattle.world_commit.specs.attempts.History.{History}
-use Rattle.world_commit.specs.attempts.Turning.{prepare-to}
+use Rattle.world_legal.specs.world_commit.attempts.Asked.{IsCommitNew}
+use Rattle.world_legal.specs.world_commit.attempts.Attempts.{IsOther, entry_at, entry_in, leader_of, writes_of}
+use Rattle.world_legal.specs.world_commit.attempts.History.{History}
+use Rattle.world_legal.specs.world_commit.attempts.Turning.{prepare-to}
 use Rattle.world_base.specs.declared.letter.Letter.{Letter}
 use Rattle.world_base.specs.declared.target.TargetPlan.{TargetPlan}
 use Rattle.world_base.specs.declared.target.TargetState.{TargetState}
@@ -39,26 +39,26 @@ use Rattle.world_base.specs.Events.{Rules, target_plan}
 use Rattle.world_base.specs.Letters.{reset_message, target}
 use Rattle.world_base.specs.Requests.{request_epoch}
 use Rattle.world_letters.specs.epochs.Epochs.{AsksEpoch, IsReadOf}
-use Rattle.world_commit.specs.fates.Asked.{AskedRight}
-use Rattle.world_commit.specs.fates.Facts.{IsPrepareRight, IsSaidSo}
-use Rattle.world_contents.specs.gots.FormLaws.{ops-form, read-declared, write-declared}
-use Rattle.world_standing.specs.hearable.Hearable.{CanHearOn, cont-declared, heard-in_form, leads-within, CanCommit, CanPrepare, CanStore}
-use Rattle.world_standing.specs.hearable.Sent.{AreSentSo, IsSentSo}
-use Rattle.world_making.specs.makers.Makers.{IsPruneRight, IsToldByMaker}
-use Rattle.world_contents.specs.posts.Forms.{IsInForm, IsReadAsked, is_collecting}
-use Rattle.world_contents.specs.reads.Given.{FitsTargets, Given, IsFetchRight, IsItsEpoch, IsMessageRight}
-use Rattle.world_contents.specs.reads.ListLaws.{some-in_form}
-use Rattle.world_contents.specs.reads.Reads.{IsOfAttempt}
+use Rattle.world_legal.specs.world_commit.fates.Asked.{AskedRight}
+use Rattle.world_legal.specs.world_commit.fates.Facts.{IsPrepareRight, IsSaidSo}
+use Rattle.world_legal.specs.world_contents.gots.FormLaws.{ops-form, read-declared, write-declared}
+use Rattle.world_legal.specs.world_standing.hearable.Hearable.{CanHearOn, cont-declared, heard-in_form, leads-within, CanCommit, CanPrepare, CanStore}
+use Rattle.world_legal.specs.world_standing.hearable.Sent.{AreSentSo, IsSentSo}
+use Rattle.world_owners.specs.world_making.makers.Makers.{IsPruneRight, IsToldByMaker}
+use Rattle.world_legal.specs.world_contents.posts.Forms.{IsInForm, IsReadAsked, is_collecting}
+use Rattle.world_legal.specs.world_contents.reads.Given.{FitsTargets, Given, IsFetchRight, IsItsEpoch, IsMessageRight}
+use Rattle.world_legal.specs.world_contents.reads.ListLaws.{some-in_form}
+use Rattle.world_legal.specs.world_contents.reads.Reads.{IsOfAttempt}
 use Rattle.world_letters.specs.snapshots.Makings.{AsksSo, IsAggregationOf, IsSnapIn, IsSo}
 use Rattle.world_letters.specs.waits.Premises.{is_end}
 use Rattle.world_letters.specs.waits.Requests.{is_lost_request, is_request}
 use Rattle.world_upheld.specs.upheld.Begins.{AreEnlisted}
-use Rattle.world_contents.specs.posts.ScriptForm.{writes-declared, question-form}
+use Rattle.world_legal.specs.world_contents.posts.ScriptForm.{writes-declared, question-form}
 use Rattle.world_legal.specs.closing.Sharing.{leader-writes, members-below, others-write}
 use Rattle.world_upheld.specs.upheld.Dated.{issued-its}
-use Rattle.world_causes.specs.causes.Causes.{Stored}
-use Rattle.world_causes.specs.causes.Storing.{IsPrepareOf}
-use Rattle.world_causes.specs.causes.StoreTurns.{IsCommitOf}
+use Rattle.world_legal.specs.world_causes.causes.Causes.{Stored}
+use Rattle.world_legal.specs.world_causes.causes.Storing.{IsPrepareOf}
+use Rattle.world_legal.specs.world_causes.causes.StoreTurns.{IsCommitOf}
 use Rattle.world_upheld.specs.reasons.Accounted.{AccountedFor}
 use Rattle.world_upheld.specs.upheld.Events.{asked-so, given-before, nothing_held}
 use Rattle.world_upheld.specs.upheld.Upheld.{Grounds}

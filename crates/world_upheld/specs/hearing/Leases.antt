@@ -18,7 +18,7 @@ use Rattle.daos_model.specs.Opening.{Opening}
 use Rattle.daos_model.specs.Ordered.{put}
 use Rattle.model_laws.specs.DecidedLaws.{all-from_has}
 use Rattle.model_laws.specs.Members.{contains-from_has}
-use Rattle.world_commit.specs.attempts.History.{History}
+use Rattle.world_legal.specs.world_commit.attempts.History.{History}
 use Rattle.world_base.specs.declared.target.TargetState.{TargetState}
 use Rattle.world_base.specs.declared.world.World.{World}
 use Rattle.world_base.specs.ChangeLaws.{lease-settled, snaps-made}
@@ -28,8 +28,8 @@ use Rattle.world_base.specs.Events.{Rules, target_plan}
 use Rattle.world_base.specs.Snapshots.{prune_limit}
 use Rattle.world_base.specs.StepLaws.{set-here}
 use Rattle.world_base.specs.Stops.{AtWork, Begins, CutOf, Goes, IsCut, TargetCut, WorldEvent, WorldRun, swept}
-use Rattle.world_standing.specs.hearable.Covered.{AreCovered, IsCovered, stays-covered}
-use Rattle.world_standing.specs.standing.Covering.{all-put, epochs-puts}
+use Rattle.world_legal.specs.world_standing.hearable.Covered.{AreCovered, IsCovered, stays-covered}
+use Rattle.world_legal.specs.world_standing.standing.Covering.{all-put, epochs-puts}
 use Rattle.world_upheld.specs.upheld.Begins.{AreRulesInForm, RunBeginsWell}
 use Rattle.world_upheld.specs.upheld.Upheld.{Upheld}
 use Rattle.world_upheld.specs.hearing.Staying.{StaysCoveredOn, cuts-leave_what_stays, events-keep_what_stays}

@@ -10,7 +10,7 @@ use Rattle.world_base.specs.declared.world.World.{World}
 use Rattle.world_base.specs.Events.{Rules}
 use Rattle.world_base.specs.Letters.{target}
 use Rattle.world_base.specs.Stops.{Begins, Goes, WorldRun}
-use Rattle.world_standing.specs.hearable.Sent.{AreSentSo}
+use Rattle.world_legal.specs.world_standing.hearable.Sent.{AreSentSo}
 use Rattle.world_upheld.specs.upheld.Begins.{AreRulesInForm, RunBeginsWell}
 use Rattle.world_upheld.specs.upheld.Containers.{runs-know_declared}
 use Rattle.world_upheld.specs.upheld.Runs.{runs-have_grounds}

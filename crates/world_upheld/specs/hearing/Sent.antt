@@ -10,7 +10,7 @@ use Rattle.daos_model.specs.Changes.{reopened}
 use Rattle.daos_model.specs.declared.durable.Durable.{Durable}
 use Rattle.dtx_base.specs.Leading.{to_target}
 use Rattle.model_laws.specs.Members.{contains-from_has, has-from_map}
-use Rattle.world_commit.specs.attempts.Counting.{has-left_over, has-taken}
+use Rattle.world_legal.specs.world_commit.attempts.Counting.{has-left_over, has-taken}
 use Rattle.world_base.specs.declared.target.TargetMemory.{TargetMemory}
 use Rattle.world_base.specs.declared.target.TargetPlan.{TargetPlan}
 use Rattle.world_base.specs.declared.target.TargetState.{TargetState}
@@ -22,13 +22,13 @@ use Rattle.world_base.specs.Snapshots.{freeze_to, others, prune_to}
 use Rattle.world_base.specs.Statuses.{opening_posts}
 use Rattle.world_base.specs.StepLaws.{by-hearing, by-next}
 use Rattle.world_base.specs.Stops.{Draws, Fails, Further, GivenUp, Happening, HearsMore, IsCut, Opens, Plainly, WorldEvent}
-use Rattle.world_standing.specs.hearable.Sent.{AreSentSo, AreSo, IsSentSo, Posts, both-so, client-so, heard-so, lost-so, more-so, move-so, opening-so, plainly-so, posts-so, swept-so}
+use Rattle.world_legal.specs.world_standing.hearable.Sent.{AreSentSo, AreSo, IsSentSo, Posts, both-so, client-so, heard-so, lost-so, more-so, move-so, opening-so, plainly-so, posts-so, swept-so}
 use Rattle.world_letters.specs.lines.EndingLaws.{all-hear-tell, idle-tells}
 use Rattle.world_letters.specs.lines.Lines.{Endings}
-use Rattle.world_making.specs.making.Making.{AsksAgain, AsksFreezes, AsksPrunes, EndsCollected, EndsIt, MakingSends, SaysFrozen, SaysNothing, SaysPruned, SaysRefused, is_lost_at, is_of_snapshots, tells_of_snapshots}
-use Rattle.world_making.specs.making.Turns.{hearings-leave}
+use Rattle.world_owners.specs.world_making.making.Making.{AsksAgain, AsksFreezes, AsksPrunes, EndsCollected, EndsIt, MakingSends, SaysFrozen, SaysNothing, SaysPruned, SaysRefused, is_lost_at, is_of_snapshots, tells_of_snapshots}
+use Rattle.world_owners.specs.world_making.making.Turns.{hearings-leave}
 use Rattle.world_upheld.specs.upheld.Events.{event-many}
-use Rattle.world_standing.specs.standing.Unsnapped.{is_of_snapshots as is_of_snapshots_there, tells_of_snapshots as tells_of_snapshots_there}
+use Rattle.world_legal.specs.world_standing.standing.Unsnapped.{is_of_snapshots as is_of_snapshots_there, tells_of_snapshots as tells_of_snapshots_there}
 
 -- ---- the statement
 

@@ -24,13 +24,13 @@ use Rattle.world_base.specs.PathLaws.{path-keeps}
 use Rattle.world_base.specs.Roles.{is_prepared}
 use Rattle.world_base.specs.Snapshots.{is_prune_due, prune_limit}
 use Rattle.world_base.specs.Stops.{AtWork, CutOf, Draws, Fails, Further, GivenUp, Happening, Hearing, IdleWork, IsCut, Opens, Plainly, WorldEvent, swept}
-use Rattle.world_making.specs.making.Making.{CreatesIt, ExtendsLease, FreezesIt, IsCovered as IsCoveredNow, MakingNext, MakingStage, Passes, PrunesIt, SettlesFirst, making_begins, making_issues}
-use Rattle.world_making.specs.making.Turns.{cuts-leave as making-cuts-leave, hearings-leave}
-use Rattle.world_contents.specs.reads.EventLaws.{at-or-there}
-use Rattle.world_standing.specs.standing.Covering.{AreAll, StaysCovered, cuts-leave, events-keep}
-use Rattle.world_commit.specs.statuses.Heard.{is_of_attempts}
-use Rattle.world_commit.specs.stops.CutEvents.{is_without_snapshots}
-use Rattle.world_making.specs.making.Kinds.{of-making, cut-making}
+use Rattle.world_owners.specs.world_making.making.Making.{CreatesIt, ExtendsLease, FreezesIt, IsCovered as IsCoveredNow, MakingNext, MakingStage, Passes, PrunesIt, SettlesFirst, making_begins, making_issues}
+use Rattle.world_owners.specs.world_making.making.Turns.{cuts-leave as making-cuts-leave, hearings-leave}
+use Rattle.world_legal.specs.world_contents.reads.EventLaws.{at-or-there}
+use Rattle.world_legal.specs.world_standing.standing.Covering.{AreAll, StaysCovered, cuts-leave, events-keep}
+use Rattle.world_legal.specs.world_commit.statuses.Heard.{is_of_attempts}
+use Rattle.world_legal.specs.world_commit.stops.CutEvents.{is_without_snapshots}
+use Rattle.world_owners.specs.world_making.making.Kinds.{of-making, cut-making}
 
 -- ---- the statements
 

@@ -22,8 +22,8 @@ use Rattle.daos_model.specs.Opening.{Opening}
 use Rattle.dtx_base.specs.declared.member.Parked.{Parked}
 use Rattle.dtx_base.specs.Joining.{all_unresolved_told, is_waiting, unresolved, unresolved_told, verdict_heard}
 use Rattle.model_laws.specs.Members.{Has, has-cases}
-use Rattle.world_commit.specs.attempts.Counting.{has-taken}
-use Rattle.world_commit.specs.attempts.History.{History, Served}
+use Rattle.world_legal.specs.world_commit.attempts.Counting.{has-taken}
+use Rattle.world_legal.specs.world_commit.attempts.History.{History, Served}
 use Rattle.world_base.specs.declared.did.Did.{Did}
 use Rattle.world_base.specs.declared.letter.Letter.{Letter}
 use Rattle.world_base.specs.declared.request.FetchRequest.{FetchRequest}
@@ -43,22 +43,22 @@ use Rattle.world_base.specs.TargetTurns.{commit_request, fetch_request, prepare_
 use Rattle.world_base.specs.Turns.{Whole}
 use Rattle.world_base.specs.VerdictLaws.{Tries, verdict-keeps}
 use Rattle.world_base.specs.Verdicts as verdict
-use Rattle.world_standing.specs.external.Kept.{IsServedBehind}
-use Rattle.world_standing.specs.external.Silent.{ack-silent, commit-silent, mark-silent, marked-silent, prepare-silent, query-silent}
-use Rattle.world_standing.specs.external.Behind.{FirstIsKnown}
-use Rattle.world_causes.specs.hearing.Going.{Before}
-use Rattle.world_causes.specs.hearing.PlainTurns.{knows}
+use Rattle.world_legal.specs.world_standing.external.Kept.{IsServedBehind}
+use Rattle.world_legal.specs.world_standing.external.Silent.{ack-silent, commit-silent, mark-silent, marked-silent, prepare-silent, query-silent}
+use Rattle.world_legal.specs.world_standing.external.Behind.{FirstIsKnown}
+use Rattle.world_legal.specs.world_causes.hearing.Going.{Before}
+use Rattle.world_legal.specs.world_causes.hearing.PlainTurns.{knows}
 use Rattle.world_upheld.specs.order.Serving.{served-lie-behind}
 use Rattle.world_upheld.specs.order.Storing.{KnowsTold}
-use Rattle.world_contents.specs.reads.Adds.{Heard, IsAskedIn, NoneIs, Waited, is_answer, served_at}
-use Rattle.world_contents.specs.reads.Beginning.{TurnBegins}
-use Rattle.world_contents.specs.reads.EventLaws.{parked-right, right, told-so, turn-begins, verdict-right}
-use Rattle.world_contents.specs.reads.FetchLaws.{Mid, fetch-step}
-use Rattle.world_contents.specs.reads.Given.{IsParkedRight, IsReadEpoch}
-use Rattle.world_contents.specs.reads.Standing.{Knows}
-use Rattle.world_contents.specs.reads.VerdictLaws.{IsVerdictRight, VerdictMid, begins, goes, trying-mid}
-use Rattle.world_contents.specs.reads.VerdictLaws as verdicts
-use Rattle.world_contents.specs.reads.Versions.{VersionsStand}
+use Rattle.world_legal.specs.world_contents.reads.Adds.{Heard, IsAskedIn, NoneIs, Waited, is_answer, served_at}
+use Rattle.world_legal.specs.world_contents.reads.Beginning.{TurnBegins}
+use Rattle.world_legal.specs.world_contents.reads.EventLaws.{parked-right, right, told-so, turn-begins, verdict-right}
+use Rattle.world_legal.specs.world_contents.reads.FetchLaws.{Mid, fetch-step}
+use Rattle.world_legal.specs.world_contents.reads.Given.{IsParkedRight, IsReadEpoch}
+use Rattle.world_legal.specs.world_contents.reads.Standing.{Knows}
+use Rattle.world_legal.specs.world_contents.reads.VerdictLaws.{IsVerdictRight, VerdictMid, begins, goes, trying-mid}
+use Rattle.world_legal.specs.world_contents.reads.VerdictLaws as verdicts
+use Rattle.world_legal.specs.world_contents.reads.Versions.{VersionsStand}
 
 module _ (r : Rules) (o : Opening) (held : List Version) (h : History) (w : World) (t : ℕ) (s : TargetState) (b : TurnBegins r o held h w t s) where
   -- An answer is that of a read which is asked here, at an epoch at which nothing refused it; and then the target froze what it froze before.

@@ -9,7 +9,7 @@ use Rattle.base_types.specs.declared.report.Line.TheVariants as line
 use Rattle.daos_model.specs.Attempts.{tries}
 use Rattle.daos_model.specs.Laws.{tries-append}
 use Rattle.model_laws.specs.Members.{Has, contains-from_has}
-use Rattle.world_commit.specs.attempts.History.{Served}
+use Rattle.world_legal.specs.world_commit.attempts.History.{Served}
 use Rattle.world_base.specs.declared.client.ClientState.{ClientState}
 use Rattle.world_base.specs.declared.target.TargetState.{TargetState}
 use Rattle.world_base.specs.declared.world.World.{World}
@@ -19,9 +19,9 @@ use Rattle.world_base.specs.StepLaws.{by-hearing, by-next}
 use Rattle.world_base.specs.Steps.{KeptByCounting, KeptByHearing, KeptByMoves, after_move, without}
 use Rattle.world_letters.specs.lines.Lines.{filled}
 use Rattle.world_letters.specs.epochs.Epochs.{ClientsStand, Epochs, HasLine, IsPast, IsPresent}
-use Rattle.world_standing.specs.external.Behind.{WasAnswered}
-use Rattle.world_standing.specs.external.Kept.{AreInOrder, IsServedBehind, IsStoredBehind, answered-back, order-on, served-on, stored-on}
-use Rattle.world_standing.specs.external.Lines.{LineIsOf, heard-its, moved-its}
+use Rattle.world_legal.specs.world_standing.external.Behind.{WasAnswered}
+use Rattle.world_legal.specs.world_standing.external.Kept.{AreInOrder, IsServedBehind, IsStoredBehind, answered-back, order-on, served-on, stored-on}
+use Rattle.world_legal.specs.world_standing.external.Lines.{LineIsOf, heard-its, moved-its}
 use Rattle.world_upheld.specs.order.Passing.{OrderStands}
 use Rattle.world_letters.specs.waits.Waits.{Conversation}
 

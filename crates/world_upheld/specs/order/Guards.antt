@@ -31,19 +31,19 @@ use Rattle.model_laws.specs.PlaceLaws.{overlaps-container}
 use Rattle.model_laws.specs.TargetLaws.{same_number}
 use Rattle.model_laws.specs.Targets.{is_own}
 use Rattle.model_laws.specs.TouchLaws.{punch-path, update-path}
-use Rattle.vos_stamp.specs.Stamps.{aggregated_cause, floor_cause, or_later}
+use Rattle.world_base.specs.vos_stamp.Stamps.{aggregated_cause, floor_cause, or_later}
 use Rattle.vos_store.specs.Answers.{floor_of, is_past}
-use Rattle.world_commit.specs.attempts.Attempts.{writes_of}
-use Rattle.world_commit.specs.attempts.History.{Decided, History}
+use Rattle.world_legal.specs.world_commit.attempts.Attempts.{writes_of}
+use Rattle.world_legal.specs.world_commit.attempts.History.{Decided, History}
 use Rattle.world_base.specs.declared.request.FetchRequest.{FetchRequest}
 use Rattle.world_base.specs.declared.target.TargetPlan.{TargetPlan}
 use Rattle.world_base.specs.Commits.{IsAllowed, first_floor, or_else}
 use Rattle.world_base.specs.Events.{Rules, target_plan}
 use Rattle.world_base.specs.Reads.{aggregated_unless, fetch_cause, later_of, later_unless, uncertain_from}
-use Rattle.world_standing.specs.external.Behind.{FirstIsKnown, IsBehind, IsFar, IsFarOfFirst, IsLater, Issued, WritesAt}
-use Rattle.world_standing.specs.external.Checks.{unrefused}
-use Rattle.world_contents.specs.reads.Transactions.{counts_by, decided_of, transactions}
-use Rattle.world_contents.specs.reads.Versions.{VersionsStand, is_own_in, mark_of}
+use Rattle.world_legal.specs.world_standing.external.Behind.{FirstIsKnown, IsBehind, IsFar, IsFarOfFirst, IsLater, Issued, WritesAt}
+use Rattle.world_legal.specs.world_standing.external.Checks.{unrefused}
+use Rattle.world_legal.specs.world_contents.reads.Transactions.{counts_by, decided_of, transactions}
+use Rattle.world_legal.specs.world_contents.reads.Versions.{VersionsStand, is_own_in, mark_of}
 
 -- an epoch is above what was aggregated of a container in this run
 abbrev pub IsAboveAggregated : Opening → Durable → ContId → Epoch → Type 0

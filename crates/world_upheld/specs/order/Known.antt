@@ -9,26 +9,26 @@ use Rattle.base_messages.specs.declared.message.Message.{Message}
 use Rattle.base_messages.specs.declared.message.Message.TheVariants as message
 use Rattle.daos_model.specs.Attempts.{tries}
 use Rattle.model_laws.specs.Members.{Has, contains-from_has, has-from_contains}
-use Rattle.world_commit.specs.attempts.Attempts.{writes_of}
-use Rattle.world_commit.specs.attempts.History.{Decided, History, Served}
+use Rattle.world_legal.specs.world_commit.attempts.Attempts.{writes_of}
+use Rattle.world_legal.specs.world_commit.attempts.History.{Decided, History, Served}
 use Rattle.dtx_base.specs.declared.member.Parked.{Parked}
 use Rattle.world_base.specs.declared.letter.Letter.{Letter}
 use Rattle.world_base.specs.declared.target.TargetState.{TargetState}
 use Rattle.world_base.specs.declared.world.World.{World}
 use Rattle.world_base.specs.Events.{Rules}
-use Rattle.world_causes.specs.causes.Shown.{IsFirstOf}
+use Rattle.world_legal.specs.world_causes.causes.Shown.{IsFirstOf}
 use Rattle.world_letters.specs.clients.Snapshots.{is_at_snapshot}
 use Rattle.world_letters.specs.epochs.Epochs.{AsksEpoch, Epochs}
-use Rattle.world_standing.specs.external.Behind.{FirstIsKnown}
-use Rattle.world_standing.specs.external.Told.{line-served, none-has}
-use Rattle.world_commit.specs.fates.Asked.{AskedRight}
-use Rattle.world_commit.specs.fates.Facts.{Attempts, IsSaidSo}
-use Rattle.world_causes.specs.firsts.Firsts.{Firsts, GoesWith, MessageTells, WaitsSo}
-use Rattle.world_contents.specs.gots.Gots.{Gots}
+use Rattle.world_legal.specs.world_standing.external.Behind.{FirstIsKnown}
+use Rattle.world_legal.specs.world_standing.external.Told.{line-served, none-has}
+use Rattle.world_legal.specs.world_commit.fates.Asked.{AskedRight}
+use Rattle.world_legal.specs.world_commit.fates.Facts.{Attempts, IsSaidSo}
+use Rattle.world_legal.specs.world_causes.firsts.Firsts.{Firsts, GoesWith, MessageTells, WaitsSo}
+use Rattle.world_legal.specs.world_contents.gots.Gots.{Gots}
 use Rattle.world_letters.specs.lines.Lines.{Lines}
 use Rattle.world_upheld.specs.order.Storing.{KnowsTold}
-use Rattle.world_causes.specs.outcomes.Outcomes.{IsEndTrue, Outcomes}
-use Rattle.world_contents.specs.reads.Reads.{IsOfAttempt}
+use Rattle.world_legal.specs.world_causes.outcomes.Outcomes.{IsEndTrue, Outcomes}
+use Rattle.world_legal.specs.world_contents.reads.Reads.{IsOfAttempt}
 
 -- ---- attempts that were answered
 

@@ -14,8 +14,8 @@ use Rattle.daos_model.specs.Attempts.{tries}
 use Rattle.daos_model.specs.BoolLaws.{clash}
 use Rattle.daos_model.specs.Opening.{Opening, top}
 use Rattle.model_laws.specs.Members.{Has, contains-from_has, has-cases, has-left}
-use Rattle.world_commit.specs.attempts.Counting.{has-taken}
-use Rattle.world_commit.specs.attempts.History.{History, Served}
+use Rattle.world_legal.specs.world_commit.attempts.Counting.{has-taken}
+use Rattle.world_legal.specs.world_commit.attempts.History.{History, Served}
 use Rattle.world_base.specs.declared.did.Did.{Did}
 use Rattle.world_base.specs.declared.letter.Letter.{Letter}
 use Rattle.world_base.specs.declared.target.TargetMemory.{TargetMemory}
@@ -31,26 +31,26 @@ use Rattle.world_base.specs.Stops.{Draws, Fails, Further, GivenUp, Happening, Is
 use Rattle.world_base.specs.TargetTurns.{commit_request}
 use Rattle.world_letters.specs.clients.Snapshots.{is_at_snapshot}
 use Rattle.world_letters.specs.epochs.Epochs.{Epochs, IsReadOf}
-use Rattle.world_standing.specs.external.Kept.{AreInOrder, IsServedBehind, IsStoredBehind, served-on, stored-on}
-use Rattle.world_standing.specs.external.Silent.{ack-silent, one-silent}
-use Rattle.world_commit.specs.fates.Rightly.{letters-tell}
-use Rattle.world_making.specs.fates.Sends.{making-sent, making-silent}
-use Rattle.world_causes.specs.hearing.Going.{AnswersAreServed, Before}
-use Rattle.world_causes.specs.hearing.Listening.{listens}
-use Rattle.world_making.specs.making.Kinds.{of-attempts}
-use Rattle.world_making.specs.making.Making.{tells_of_snapshots}
-use Rattle.world_making.specs.making.Turns.{hearings-leave}
+use Rattle.world_legal.specs.world_standing.external.Kept.{AreInOrder, IsServedBehind, IsStoredBehind, served-on, stored-on}
+use Rattle.world_legal.specs.world_standing.external.Silent.{ack-silent, one-silent}
+use Rattle.world_legal.specs.world_commit.fates.Rightly.{letters-tell}
+use Rattle.world_owners.specs.world_making.fates.Sends.{making-sent, making-silent}
+use Rattle.world_legal.specs.world_causes.hearing.Going.{AnswersAreServed, Before}
+use Rattle.world_legal.specs.world_causes.hearing.Listening.{listens}
+use Rattle.world_owners.specs.world_making.making.Kinds.{of-attempts}
+use Rattle.world_owners.specs.world_making.making.Making.{tells_of_snapshots}
+use Rattle.world_owners.specs.world_making.making.Turns.{hearings-leave}
 use Rattle.world_upheld.specs.order.Answers.{IsAnswerBehind, answers-lie-behind}
 use Rattle.world_upheld.specs.order.Known.{BearsOfReader, ReadersBearFirsts, WritersBearFirsts}
 use Rattle.world_upheld.specs.order.Serving.{FrozenAreMade, others-are-unfrozen}
 use Rattle.world_upheld.specs.order.Stored.{StoredLieBehind, happenings-store-behind}
 use Rattle.world_upheld.specs.order.Storing.{KnowsTold}
-use Rattle.world_causes.specs.outcomes.Keeping.{IsOfTarget}
-use Rattle.world_contents.specs.reads.Adds.{AreAnswered, Heard, IsAnswered, IsAskedIn, NoneIs, Waited, is_answer, none-answered, served_at}
-use Rattle.world_contents.specs.reads.Given.{IsFetchRight, IsMessageRight, IsParkedRight}
-use Rattle.world_contents.specs.reads.Reads.{IsOfAttempt}
-use Rattle.world_commit.specs.statuses.Heard.{is_of_attempts}
-use Rattle.world_causes.specs.hearing.FurtherTurns.{says-silent}
+use Rattle.world_legal.specs.world_causes.outcomes.Keeping.{IsOfTarget}
+use Rattle.world_legal.specs.world_contents.reads.Adds.{AreAnswered, Heard, IsAnswered, IsAskedIn, NoneIs, Waited, is_answer, none-answered, served_at}
+use Rattle.world_legal.specs.world_contents.reads.Given.{IsFetchRight, IsMessageRight, IsParkedRight}
+use Rattle.world_legal.specs.world_contents.reads.Reads.{IsOfAttempt}
+use Rattle.world_legal.specs.world_commit.statuses.Heard.{is_of_attempts}
+use Rattle.world_legal.specs.world_causes.hearing.FurtherTurns.{says-silent}
 use Rattle.world_letters.specs.lives.Issued.{issued-on}
 
 -- ---- the statement

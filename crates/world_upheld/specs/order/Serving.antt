@@ -14,19 +14,19 @@ use Rattle.daos_model.specs.declared.durable.Version.{Version}
 use Rattle.daos_model.specs.BoolLaws.{clash}
 use Rattle.daos_model.specs.Durables.{is_frozen}
 use Rattle.daos_model.specs.Opening.{Opening, top}
-use Rattle.vos_stamp.specs.Stamps.{or_later}
-use Rattle.world_commit.specs.attempts.History.{Decided, History}
+use Rattle.world_base.specs.vos_stamp.Stamps.{or_later}
+use Rattle.world_legal.specs.world_commit.attempts.History.{Decided, History}
 use Rattle.world_base.specs.declared.request.FetchRequest.{FetchRequest}
 use Rattle.world_base.specs.declared.world.World.{World}
 use Rattle.world_base.specs.Events.{Rules, target_plan}
 use Rattle.world_base.specs.Reads.{fetch_cause, later_of, later_unless}
 use Rattle.world_letters.specs.epochs.Epochs.{Epochs, IsIssued, is_making, makes}
-use Rattle.world_standing.specs.external.Behind.{FirstIsKnown, Issued}
-use Rattle.world_standing.specs.external.Kept.{IsServedBehind}
+use Rattle.world_legal.specs.world_standing.external.Behind.{FirstIsKnown, Issued}
+use Rattle.world_legal.specs.world_standing.external.Kept.{IsServedBehind}
 use Rattle.world_upheld.specs.order.Guards.{accesses-lie-behind, reads-are-above}
 use Rattle.world_upheld.specs.order.Storing.{KnowsTold}
-use Rattle.world_contents.specs.reads.Adds.{served_at}
-use Rattle.world_contents.specs.reads.Versions.{VersionsStand}
+use Rattle.world_legal.specs.world_contents.reads.Adds.{served_at}
+use Rattle.world_legal.specs.world_contents.reads.Versions.{VersionsStand}
 use Rattle.world_letters.specs.snapshots.Makings.{IsSnapIn}
 
 -- ---- a read

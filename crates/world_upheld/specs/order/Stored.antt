@@ -17,9 +17,9 @@ use Rattle.daos_model.specs.Forms.{AreWritesInForm}
 use Rattle.daos_model.specs.Opening.{Opening}
 use Rattle.dtx_base.specs.Members.{is_written_at}
 use Rattle.model_laws.specs.Members.{Has, contains-from_has, has-from_contains}
-use Rattle.world_commit.specs.attempts.Attempts.{writes_of}
-use Rattle.world_commit.specs.attempts.Counting.{has-taken}
-use Rattle.world_commit.specs.attempts.History.{History}
+use Rattle.world_legal.specs.world_commit.attempts.Attempts.{writes_of}
+use Rattle.world_legal.specs.world_commit.attempts.Counting.{has-taken}
+use Rattle.world_legal.specs.world_commit.attempts.History.{History}
 use Rattle.world_base.specs.declared.did.Did.{Did}
 use Rattle.world_base.specs.declared.letter.Letter.{Letter}
 use Rattle.world_base.specs.declared.target.Life.TheVariants.{Running}
@@ -36,26 +36,26 @@ use Rattle.world_base.specs.Roles.{is_prepared}
 use Rattle.world_base.specs.Stops.{AtWork, CutOf, Draws, Fails, Further, GivenUp, Happening, Hearing, IdleWork, IsCut, IsInHand, Opens, Plainly}
 use Rattle.world_base.specs.TargetTurns.{Hears, commit_request, prepare_request}
 use Rattle.world_letters.specs.epochs.Sayings.{AreKnown, known-all, known-each}
-use Rattle.world_standing.specs.external.Behind.{Issued}
-use Rattle.world_standing.specs.external.Kept.{IsStoredBehind}
-use Rattle.world_causes.specs.hearing.Going.{Before}
-use Rattle.world_causes.specs.hearing.PlainTurns.{knows}
-use Rattle.world_causes.specs.hearing.Storing.{further-kept, hearing-cut-kept, hears-kept, idle-cut-kept, idle-kept}
-use Rattle.world_making.specs.making.Kinds.{of-attempts}
-use Rattle.world_making.specs.making.Making.{making_issues, tells_of_snapshots}
-use Rattle.world_making.specs.making.Turns.{cuts-leave, hearings-leave}
+use Rattle.world_legal.specs.world_standing.external.Behind.{Issued}
+use Rattle.world_legal.specs.world_standing.external.Kept.{IsStoredBehind}
+use Rattle.world_legal.specs.world_causes.hearing.Going.{Before}
+use Rattle.world_legal.specs.world_causes.hearing.PlainTurns.{knows}
+use Rattle.world_legal.specs.world_causes.hearing.Storing.{further-kept, hearing-cut-kept, hears-kept, idle-cut-kept, idle-kept}
+use Rattle.world_owners.specs.world_making.making.Kinds.{of-attempts}
+use Rattle.world_owners.specs.world_making.making.Making.{making_issues, tells_of_snapshots}
+use Rattle.world_owners.specs.world_making.making.Turns.{cuts-leave, hearings-leave}
 use Rattle.world_upheld.specs.order.Known.{BearsOfWriter, WritersBearFirsts}
 use Rattle.world_upheld.specs.order.Storing.{KnowsTold, commit-cut-lies, commit-lies, prepare-cut-lies, prepare-lies}
 use Rattle.world_upheld.specs.order.Turns.{EachIs, cut-each, turn-each}
-use Rattle.world_making.specs.questions.Events.{without-snapshots}
-use Rattle.world_contents.specs.reads.Beginning.{TurnBegins}
-use Rattle.world_contents.specs.reads.CommitLaws.{HearsCommit, prepare-own}
-use Rattle.world_contents.specs.reads.EventLaws.{at-or-there, commit-heard, may-be-stored, told-so, turn-begins}
-use Rattle.world_contents.specs.reads.Standing.{IsPrepareSo, Knows}
-use Rattle.world_contents.specs.reads.StoreLaws.{AreItsOwn}
-use Rattle.world_causes.specs.restarts.CutLaws.{commit-is-cut}
-use Rattle.world_commit.specs.statuses.Heard.{is_of_attempts}
-use Rattle.world_commit.specs.stops.CutEvents.{is_without_snapshots}
+use Rattle.world_owners.specs.world_making.questions.Events.{without-snapshots}
+use Rattle.world_legal.specs.world_contents.reads.Beginning.{TurnBegins}
+use Rattle.world_legal.specs.world_contents.reads.CommitLaws.{HearsCommit, prepare-own}
+use Rattle.world_legal.specs.world_contents.reads.EventLaws.{at-or-there, commit-heard, may-be-stored, told-so, turn-begins}
+use Rattle.world_legal.specs.world_contents.reads.Standing.{IsPrepareSo, Knows}
+use Rattle.world_legal.specs.world_contents.reads.StoreLaws.{AreItsOwn}
+use Rattle.world_legal.specs.world_causes.restarts.CutLaws.{commit-is-cut}
+use Rattle.world_legal.specs.world_commit.statuses.Heard.{is_of_attempts}
+use Rattle.world_legal.specs.world_commit.stops.CutEvents.{is_without_snapshots}
 
 -- the entries of each target lie so, by these lines and these epochs
 abbrev pub StoredLieBehind : Rules → List Attempt → Issued → World → Type 0

@@ -18,8 +18,8 @@ use Rattle.daos_model.specs.Ordered.{put}
 use Rattle.daos_model.specs.Versions.{version_of}
 use Rattle.model_laws.specs.EntryLaws.{has-put, put-has}
 use Rattle.model_laws.specs.Members.{Has, contains-from_has, has-from_contains}
-use Rattle.world_commit.specs.attempts.Attempts.{writes_of}
-use Rattle.world_commit.specs.attempts.History.{Decided, History, Served}
+use Rattle.world_legal.specs.world_commit.attempts.Attempts.{writes_of}
+use Rattle.world_legal.specs.world_commit.attempts.History.{Decided, History, Served}
 use Rattle.world_base.specs.declared.request.CommitRequest.{CommitRequest}
 use Rattle.world_base.specs.declared.request.PrepareRequest.{PrepareRequest}
 use Rattle.world_base.specs.declared.target.TargetState.{TargetState}
@@ -34,16 +34,16 @@ use Rattle.world_base.specs.Prepares as prepare
 use Rattle.world_base.specs.TurnLaws.{commit-plain, prepare-plain}
 use Rattle.world_base.specs.Turns.{Reached}
 use Rattle.world_letters.specs.epochs.Sayings.{AreKnown, Known, known-all, known-each}
-use Rattle.world_standing.specs.external.Behind.{FirstIsKnown, IsBehind, Issued, WasAnswered, WritesAt}
-use Rattle.world_standing.specs.external.Checks.{each-unrefused}
-use Rattle.world_standing.specs.external.Kept.{IsStoredBehind, ReadsAt}
+use Rattle.world_legal.specs.world_standing.external.Behind.{FirstIsKnown, IsBehind, Issued, WasAnswered, WritesAt}
+use Rattle.world_legal.specs.world_standing.external.Checks.{each-unrefused}
+use Rattle.world_legal.specs.world_standing.external.Kept.{IsStoredBehind, ReadsAt}
 use Rattle.world_upheld.specs.order.Guards.{accesses-lie-behind, writes-are-above}
-use Rattle.world_contents.specs.reads.Beginning.{TurnBegins}
-use Rattle.world_contents.specs.reads.CommitLaws.{CommitMid, HearsCommit, MayBeStored, PrepareMid, commit-step, prepare-step}
-use Rattle.world_contents.specs.reads.Midway.{Sound}
-use Rattle.world_contents.specs.reads.StoreLaws.{AreItsOwn}
-use Rattle.world_contents.specs.reads.Versions.{IsWriteAt, VersionsStand}
-use Rattle.world_causes.specs.restarts.Cuts.{cut-keeps}
+use Rattle.world_legal.specs.world_contents.reads.Beginning.{TurnBegins}
+use Rattle.world_legal.specs.world_contents.reads.CommitLaws.{CommitMid, HearsCommit, MayBeStored, PrepareMid, commit-step, prepare-step}
+use Rattle.world_legal.specs.world_contents.reads.Midway.{Sound}
+use Rattle.world_legal.specs.world_contents.reads.StoreLaws.{AreItsOwn}
+use Rattle.world_legal.specs.world_contents.reads.Versions.{IsWriteAt, VersionsStand}
+use Rattle.world_legal.specs.world_causes.restarts.Cuts.{cut-keeps}
 
 -- what is known of attempts of which lines tell that they are committed: those that write are decided, and their reads were served
 pub record KnowsTold (r : Rules) (h : History) (attempts : List Attempt) : Type 0 where

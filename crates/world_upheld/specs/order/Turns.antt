@@ -18,9 +18,9 @@ use Rattle.world_base.specs.Changes.{After, Before, Change, InPart, Kept, Steps}
 use Rattle.world_base.specs.CutTurns.{CutHere, CutTurn, Cutting, InChange, InQuestion}
 use Rattle.world_base.specs.PathLaws.{path-keeps}
 use Rattle.world_base.specs.Turns.{Path}
-use Rattle.world_making.specs.fates.Steps.{partly-entries}
-use Rattle.world_making.specs.making.Making.{MakingLeaves, MakingNext, MakingStage, making_begins}
-use Rattle.world_making.specs.questions.Entries.{step-entries}
+use Rattle.world_owners.specs.world_making.fates.Steps.{partly-entries}
+use Rattle.world_owners.specs.world_making.making.Making.{MakingLeaves, MakingNext, MakingStage, making_begins}
+use Rattle.world_owners.specs.world_making.questions.Entries.{step-entries}
 
 -- what holds of each entry's attempt and epoch
 abbrev pub EachIs : (AttemptId → Epoch → Type 0) → Durable → Type 0

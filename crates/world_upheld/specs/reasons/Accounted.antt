@@ -2,19 +2,19 @@
 -- timestamps there are.
 use Rattle.std.specs.Prelude.{◌++◌, []}
 use Rattle.daos_model.specs.Opening.{Opening, top}
-use Rattle.world_commit.specs.attempts.History.{GrowsBy, History}
-use Rattle.world_commit.specs.statuses.Events.{told_by}
+use Rattle.world_legal.specs.world_commit.attempts.History.{GrowsBy, History}
+use Rattle.world_legal.specs.world_commit.statuses.Events.{told_by}
 use Rattle.world_base.specs.declared.world.World.{World}
 use Rattle.world_base.specs.Events.{Rules}
 use Rattle.world_base.specs.Stops.{WorldEvent, WorldRun}
-use Rattle.world_causes.specs.causes.Causes.{Stored}
+use Rattle.world_legal.specs.world_causes.causes.Causes.{Stored}
 use Rattle.world_legal.specs.reasons.Accounted.{stored_over}
 use Rattle.world_legal.specs.reasons.Downs.{DownsAreTold}
 use Rattle.world_legal.specs.reasons.Knowing.{DownsAreKnown}
-use Rattle.world_causes.specs.losses.Losses.{Losses}
-use Rattle.world_making.specs.losses.Refusals.{FreezesAreRefusedSo}
-use Rattle.world_causes.specs.showing.Happening.{stored_in}
-use Rattle.world_causes.specs.stored.Over.{StoringOver}
+use Rattle.world_legal.specs.world_causes.losses.Losses.{Losses}
+use Rattle.world_owners.specs.world_making.losses.Refusals.{FreezesAreRefusedSo}
+use Rattle.world_legal.specs.world_causes.showing.Happening.{stored_in}
+use Rattle.world_legal.specs.world_causes.stored.Over.{StoringOver}
 use Rattle.world_upheld.specs.stored.Writing.{StoredWrite}
 use Rattle.world_owners.specs.Owners.{AllKeepOwn}
 use Rattle.world_readers.specs.stamps.Stamps.{StampsAreOwn}

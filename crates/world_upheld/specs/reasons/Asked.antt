@@ -18,11 +18,11 @@ use Rattle.dtx_base.specs.Leading.{undecided_attempt}
 use Rattle.dtx_base.specs.Members as members
 use Rattle.dtx_base.specs.Members.{all_targets, has_target, is_other_member, other_members}
 use Rattle.dtx_base.specs.Rows.{is_row_of, row_of}
-use Rattle.world_contents.specs.posts.Members.{bit-of}
-use Rattle.world_commit.specs.attempts.Attempts.{IsOther, first_entry, leader_of, members_of, writes_of}
+use Rattle.world_legal.specs.world_contents.posts.Members.{bit-of}
+use Rattle.world_legal.specs.world_commit.attempts.Attempts.{IsOther, first_entry, leader_of, members_of, writes_of}
 use Rattle.world_base.specs.Events.{Rules, target_plan}
 use Rattle.world_base.specs.Commits as commit
-use Rattle.world_causes.specs.causes.CommitTurns.{blocks-some, own-is}
+use Rattle.world_legal.specs.world_causes.causes.CommitTurns.{blocks-some, own-is}
 
 -- ---- attempts that aren't decided
 

@@ -5,8 +5,8 @@ use Rattle.base_types.specs.declared.id.AttemptId.{AttemptId}
 use Rattle.base_types.specs.declared.report.Line.{Line}
 use Rattle.world_base.specs.declared.world.World.{World}
 use Rattle.world_base.specs.Events.{Rules}
-use Rattle.world_causes.specs.causes.Causes.{Dated}
-use Rattle.world_causes.specs.causes.Shown.{IsFirstOf}
+use Rattle.world_legal.specs.world_causes.causes.Causes.{Dated}
+use Rattle.world_legal.specs.world_causes.causes.Shown.{IsFirstOf}
 use Rattle.world_letters.specs.clients.Snapshots.{is_at_snapshot}
 
 -- these are the epochs that were issued, and perhaps some of attempts that read at snapshots

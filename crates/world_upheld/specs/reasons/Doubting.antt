@@ -10,10 +10,10 @@ use Rattle.base_messages.specs.declared.message.Message.TheVariants as message
 use Rattle.base_messages.specs.declared.message.Post.{Post}
 use Rattle.dtx_base.specs.Leading.{to_target}
 use Rattle.model_laws.specs.Members.{Has, contains-from_has, has-cases, has-from_map}
-use Rattle.world_commit.specs.attempts.Attempts.{IsBorn, entry_at, entry_in, is_known_at, is_known_in, leader_of, row_at, row_in}
-use Rattle.world_commit.specs.attempts.Counting.{has-left_over, has-taken}
-use Rattle.world_commit.specs.attempts.History.{GrowsBy, History}
-use Rattle.world_commit.specs.attempts.Turning.{one-or_another}
+use Rattle.world_legal.specs.world_commit.attempts.Attempts.{IsBorn, entry_at, entry_in, is_known_at, is_known_in, leader_of, row_at, row_in}
+use Rattle.world_legal.specs.world_commit.attempts.Counting.{has-left_over, has-taken}
+use Rattle.world_legal.specs.world_commit.attempts.History.{GrowsBy, History}
+use Rattle.world_legal.specs.world_commit.attempts.Turning.{one-or_another}
 use Rattle.world_base.specs.declared.did.Did.{Did}
 use Rattle.world_base.specs.declared.letter.Letter.{Letter}
 use Rattle.world_base.specs.declared.target.TargetState.{TargetState}
@@ -26,7 +26,7 @@ use Rattle.world_base.specs.StepLaws.{set-here, set-there}
 use Rattle.world_base.specs.Stops.{Draws, Fails, Further, GivenUp, Happening, HearsMore, IsCut, Opens, Plainly, WorldEvent, swept}
 use Rattle.world_letters.specs.endings.Posts.{further-sent}
 use Rattle.world_letters.specs.endings.Telling.{AsksAgain, AsksFreezes, AsksPrunes, IsSent, Quietly}
-use Rattle.world_commit.specs.fates.Facts.{IsRow}
+use Rattle.world_legal.specs.world_commit.fates.Facts.{IsRow}
 use Rattle.world_legal.specs.doubts.Doubts.{Doubts, IsInDoubt, RestsAt}
 use Rattle.world_legal.specs.doubts.Events.{happening-keeps}
 use Rattle.world_legal.specs.doubts.Laws.{IsBeside}
@@ -37,16 +37,16 @@ use Rattle.world_legal.specs.doubts.Targets.{TellNoLoss, after-lossless, collect
 use Rattle.world_legal.specs.doubts.Turns.{further-own}
 use Rattle.world_letters.specs.lines.FilledLaws.{tries-filled}
 use Rattle.world_letters.specs.lines.Lines.{filled}
-use Rattle.world_causes.specs.losses.ClientHears.{TellsLoss}
-use Rattle.world_making.specs.making.Kinds.{of-attempts}
-use Rattle.world_making.specs.losses.Tells.{turn-lines-untried}
-use Rattle.world_making.specs.makers.Makers.{MakersTell}
-use Rattle.world_making.specs.making.Making.{IsOfMaking, MakingLeaves, tells_of_snapshots}
-use Rattle.world_making.specs.making.Turns.{hearings-leave}
+use Rattle.world_legal.specs.world_causes.losses.ClientHears.{TellsLoss}
+use Rattle.world_owners.specs.world_making.making.Kinds.{of-attempts}
+use Rattle.world_owners.specs.world_making.losses.Tells.{turn-lines-untried}
+use Rattle.world_owners.specs.world_making.makers.Makers.{MakersTell}
+use Rattle.world_owners.specs.world_making.making.Making.{IsOfMaking, MakingLeaves, tells_of_snapshots}
+use Rattle.world_owners.specs.world_making.making.Turns.{hearings-leave}
 use Rattle.world_letters.specs.snapshots.Makings.{Makings}
-use Rattle.world_commit.specs.statuses.Events.{told_by}
-use Rattle.world_commit.specs.statuses.Fates.{told_further}
-use Rattle.world_commit.specs.stops.Stops.{sweeping-keeps}
+use Rattle.world_legal.specs.world_commit.statuses.Events.{told_by}
+use Rattle.world_legal.specs.world_commit.statuses.Fates.{told_further}
+use Rattle.world_legal.specs.world_commit.stops.Stops.{sweeping-keeps}
 use Rattle.world_upheld.specs.stored.Events.{making-ends-makers-alone}
 use Rattle.world_upheld.specs.stored.Makers.{EndsMaker, maker-writes-none}
 

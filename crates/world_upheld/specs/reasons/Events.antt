@@ -1,8 +1,8 @@
 -- Each event of any run keeps what tells of a stop, and what was stored once, beside all that is upheld.
-use Rattle.world_commit.specs.attempts.Attempts.{entry_in}
-use Rattle.world_commit.specs.fates.Asked.{AskedRight}
-use Rattle.world_commit.specs.statuses.Events.{told_by}
-use Rattle.world_contents.specs.reads.Given.{Given}
+use Rattle.world_legal.specs.world_commit.attempts.Attempts.{entry_in}
+use Rattle.world_legal.specs.world_commit.fates.Asked.{AskedRight}
+use Rattle.world_legal.specs.world_commit.statuses.Events.{told_by}
+use Rattle.world_legal.specs.world_contents.reads.Given.{Given}
 use Rattle.world_upheld.specs.upheld.Events.{nothing_held}
 use Rattle.world_owners.specs.Owners.{AllKeepOwn, all-events-keep_own}
 use Rattle.world_readers.specs.stamps.Stamps.{StampsAreOwn}
@@ -12,37 +12,37 @@ use Rattle.std.proofs.Common.{◌∙◌, ap}
 use Rattle.daos_model.specs.BoolLaws.{clash}
 use Rattle.daos_model.specs.Opening.{Opening, top}
 use Rattle.model_laws.specs.Members.{has-from_contains}
-use Rattle.world_commit.specs.attempts.History.{GrowsBy, History}
+use Rattle.world_legal.specs.world_commit.attempts.History.{GrowsBy, History}
 use Rattle.world_base.specs.declared.world.World.{World}
 use Rattle.world_base.specs.ClientTurns.{attempt_id}
 use Rattle.world_base.specs.Events.{Rules, client_plan}
 use Rattle.world_base.specs.Stops.{WorldEvent}
-use Rattle.world_causes.specs.causes.Causes.{Stored}
+use Rattle.world_legal.specs.world_causes.causes.Causes.{Stored}
 use Rattle.world_letters.specs.clients.Snapshots.{is_at_snapshot}
 use Rattle.world_letters.specs.epochs.Epochs.{IsEpochOf, IsIssued, IsOwn, IsSeen}
-use Rattle.world_causes.specs.handing.Begun.{leaders-targets, losses-asked, readers-new}
-use Rattle.world_causes.specs.handing.Handing.{commits-of_clients, hands-over}
-use Rattle.world_causes.specs.losses.Readers.{OpenAreHeld}
-use Rattle.world_causes.specs.handing.Places.{places-right}
-use Rattle.world_causes.specs.handing.Targets.{PlacesAreRight, asks-its_targets}
-use Rattle.world_causes.specs.handing.Tellers.{are-begun, ends-told}
+use Rattle.world_legal.specs.world_causes.handing.Begun.{leaders-targets, losses-asked, readers-new}
+use Rattle.world_legal.specs.world_causes.handing.Handing.{commits-of_clients, hands-over}
+use Rattle.world_legal.specs.world_causes.losses.Readers.{OpenAreHeld}
+use Rattle.world_legal.specs.world_causes.handing.Places.{places-right}
+use Rattle.world_legal.specs.world_causes.handing.Targets.{PlacesAreRight, asks-its_targets}
+use Rattle.world_legal.specs.world_causes.handing.Tellers.{are-begun, ends-told}
 use Rattle.world_legal.specs.reasons.Downs.{DownsAreTold, events-keep-downs}
 use Rattle.world_legal.specs.reasons.Knowing.{DownsAreKnown}
-use Rattle.world_causes.specs.losses.Keeping.{AllBeside}
-use Rattle.world_causes.specs.losses.Losses.{Losses}
-use Rattle.world_making.specs.losses.Events.{all-events-keep-losses}
-use Rattle.world_making.specs.losses.RefusalEvents.{freeze-refusals-keep}
-use Rattle.world_commit.specs.requests.Rows.{commits-find}
-use Rattle.world_causes.specs.showing.Happening.{stored_in}
-use Rattle.world_standing.specs.standing.Events.{decided-issued}
-use Rattle.world_causes.specs.stored.Over.{IsStoringKnown, StoringOver}
+use Rattle.world_legal.specs.world_causes.losses.Keeping.{AllBeside}
+use Rattle.world_legal.specs.world_causes.losses.Losses.{Losses}
+use Rattle.world_owners.specs.world_making.losses.Events.{all-events-keep-losses}
+use Rattle.world_owners.specs.world_making.losses.RefusalEvents.{freeze-refusals-keep}
+use Rattle.world_legal.specs.world_commit.requests.Rows.{commits-find}
+use Rattle.world_legal.specs.world_causes.showing.Happening.{stored_in}
+use Rattle.world_legal.specs.world_standing.standing.Events.{decided-issued}
+use Rattle.world_legal.specs.world_causes.stored.Over.{IsStoringKnown, StoringOver}
 use Rattle.world_upheld.specs.stored.Clients.{IsTalkKnown}
 use Rattle.world_upheld.specs.stored.Events.{all-events-keep-stored, stored-writes-stay}
 use Rattle.world_upheld.specs.stored.Writing.{StoredWrite}
 use Rattle.world_upheld.specs.upheld.Begins.{AreRulesInForm}
 use Rattle.world_upheld.specs.upheld.Events as stands
 use Rattle.world_upheld.specs.upheld.Upheld.{Grounds}
-use Rattle.world_causes.specs.outcomes.Outcomes.{Agrees}
+use Rattle.world_legal.specs.world_causes.outcomes.Outcomes.{Agrees}
 use Rattle.world_upheld.specs.reasons.Accounted.{AccountedFor, AllEventsKeepAccounts}
 use Rattle.world_upheld.specs.reasons.Knowing.{all-events-keep_known}
 

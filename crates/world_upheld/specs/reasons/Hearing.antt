@@ -10,24 +10,24 @@ use Rattle.daos_model.specs.Accesses.{attempt_targets}
 use Rattle.daos_model.specs.Opening.{Opening}
 use Rattle.dtx_base.specs.LeaderLaws.{same-is}
 use Rattle.model_laws.specs.Members.{Has, contains-from_has}
-use Rattle.world_commit.specs.attempts.Attempts.{IsOther}
-use Rattle.world_commit.specs.attempts.History.{History}
+use Rattle.world_legal.specs.world_commit.attempts.Attempts.{IsOther}
+use Rattle.world_legal.specs.world_commit.attempts.History.{History}
 use Rattle.world_base.specs.declared.letter.Letter.{Letter}
 use Rattle.world_base.specs.declared.world.World.{World}
 use Rattle.world_base.specs.ClientTurns.{attempt_id, request_of}
 use Rattle.world_base.specs.Events.{ClientHears, Rules, client_plan}
 use Rattle.world_base.specs.Letters.{Takes, client, reset_message, target}
-use Rattle.world_causes.specs.causes.Causes.{Stored}
-use Rattle.world_causes.specs.causes.HearingLaws.{LossesStand}
-use Rattle.world_commit.specs.fates.Facts.{IsAskedSo, IsSaidSo}
-use Rattle.world_causes.specs.handing.Begun.{loss-reset, losses-asked}
-use Rattle.world_causes.specs.handing.Fitting.{answers-no_reset}
-use Rattle.world_causes.specs.handing.Handing.{IsToldTo, told-to}
-use Rattle.world_causes.specs.handing.Losing.{GivenUpAreTold, IsLossAt, losses-stand}
-use Rattle.world_causes.specs.handing.Targets.{other-is_target, question-target}
-use Rattle.world_causes.specs.losses.ClientHears.{TellsLoss}
-use Rattle.world_causes.specs.losses.Losses.{is_asked_of}
-use Rattle.world_commit.specs.statuses.Senders.{IsSentRightly}
+use Rattle.world_legal.specs.world_causes.causes.Causes.{Stored}
+use Rattle.world_legal.specs.world_causes.causes.HearingLaws.{LossesStand}
+use Rattle.world_legal.specs.world_commit.fates.Facts.{IsAskedSo, IsSaidSo}
+use Rattle.world_legal.specs.world_causes.handing.Begun.{loss-reset, losses-asked}
+use Rattle.world_legal.specs.world_causes.handing.Fitting.{answers-no_reset}
+use Rattle.world_legal.specs.world_causes.handing.Handing.{IsToldTo, told-to}
+use Rattle.world_legal.specs.world_causes.handing.Losing.{GivenUpAreTold, IsLossAt, losses-stand}
+use Rattle.world_legal.specs.world_causes.handing.Targets.{other-is_target, question-target}
+use Rattle.world_legal.specs.world_causes.losses.ClientHears.{TellsLoss}
+use Rattle.world_legal.specs.world_causes.losses.Losses.{is_asked_of}
+use Rattle.world_legal.specs.world_commit.statuses.Senders.{IsSentRightly}
 use Rattle.world_letters.specs.talks.TalkLaws.{taken-from}
 use Rattle.world_letters.specs.waits.ClientLaws.{present-of, question-about}
 use Rattle.world_letters.specs.waits.Requests.{is_lost_request, is_request}

@@ -4,21 +4,21 @@ use Rattle.std.proofs.Common.{inl, inr, sym, ◌∙◌, ap, subst}
 use Rattle.base_messages.specs.declared.message.Message.{Message, more_of-Message}
 use Rattle.base_messages.specs.declared.message.Message.TheVariants as message
 use Rattle.dtx_base.specs.Members.{has_target}
-use Rattle.world_commit.specs.attempts.Counting.{has-taken}
-use Rattle.world_commit.specs.attempts.History.{History}
-use Rattle.world_commit.specs.attempts.MemberBits.{has-with_other}
-use Rattle.world_commit.specs.attempts.Turning.{one-or_another}
+use Rattle.world_legal.specs.world_commit.attempts.Counting.{has-taken}
+use Rattle.world_legal.specs.world_commit.attempts.History.{History}
+use Rattle.world_legal.specs.world_commit.attempts.MemberBits.{has-with_other}
+use Rattle.world_legal.specs.world_commit.attempts.Turning.{one-or_another}
 use Rattle.world_base.specs.declared.world.World.{World}
 use Rattle.world_base.specs.Events.{Rules, kept, target_after, target_plan}
 use Rattle.world_base.specs.Stops.{Draws, Fails, Further, GivenUp, Happening, HearsMore, IsCut, Opens, Plainly, WorldEvent}
-use Rattle.world_commit.specs.fates.Facts.{Attempts}
+use Rattle.world_legal.specs.world_commit.fates.Facts.{Attempts}
 use Rattle.world_legal.specs.reasons.Downs.{DownsAreTold, TellsDown}
 use Rattle.world_legal.specs.reasons.Knowing.{DownsAreKnown, happening-known, one-changed}
-use Rattle.world_making.specs.making.Kinds.{of-attempts}
-use Rattle.world_making.specs.making.Making.{IsOfMaking, MakingLeaves, down_then, tells_of_snapshots}
-use Rattle.world_making.specs.making.Turns.{hearings-leave}
-use Rattle.world_commit.specs.requests.Rows.{CommitsFindNoRow}
-use Rattle.world_standing.specs.standing.Events.{no-collections}
+use Rattle.world_owners.specs.world_making.making.Kinds.{of-attempts}
+use Rattle.world_owners.specs.world_making.making.Making.{IsOfMaking, MakingLeaves, down_then, tells_of_snapshots}
+use Rattle.world_owners.specs.world_making.making.Turns.{hearings-leave}
+use Rattle.world_legal.specs.world_commit.requests.Rows.{CommitsFindNoRow}
+use Rattle.world_legal.specs.world_standing.standing.Events.{no-collections}
 
 -- ---- the statement
 

@@ -23,11 +23,11 @@ use Rattle.dtx_base.specs.declared.leading.Undecided.{Undecided}
 use Rattle.dtx_base.specs.Leading.{LeaderOf, entry_led, first_down, undecided_of}
 use Rattle.dtx_base.specs.Members.{has_target}
 use Rattle.model_laws.specs.Members.{Has, contains-from_has}
-use Rattle.world_contents.specs.posts.Members.{bit-of}
-use Rattle.world_commit.specs.attempts.Attempts.{IsOther, entry_in, row_in}
-use Rattle.world_commit.specs.attempts.Asked.{IsCommitNew}
-use Rattle.world_commit.specs.attempts.History.{History}
-use Rattle.world_commit.specs.attempts.Stored.{led-found}
+use Rattle.world_legal.specs.world_contents.posts.Members.{bit-of}
+use Rattle.world_legal.specs.world_commit.attempts.Attempts.{IsOther, entry_in, row_in}
+use Rattle.world_legal.specs.world_commit.attempts.Asked.{IsCommitNew}
+use Rattle.world_legal.specs.world_commit.attempts.History.{History}
+use Rattle.world_legal.specs.world_commit.attempts.Stored.{led-found}
 use Rattle.world_base.specs.declared.letter.Letter.{Letter}
 use Rattle.world_base.specs.declared.request.CommitRequest.{CommitRequest}
 use Rattle.world_base.specs.declared.target.TargetState.{TargetState}
@@ -38,23 +38,23 @@ use Rattle.world_base.specs.Letters.{client, target}
 use Rattle.world_base.specs.Roles.{leader_at}
 use Rattle.world_base.specs.Statuses.{down_of, status_refusal}
 use Rattle.world_upheld.specs.reasons.Counting.{CountAsDates}
-use Rattle.world_causes.specs.causes.Causes.{Dated, Stored, epochs_told}
-use Rattle.world_causes.specs.causes.Lasting.{refusal-shows}
-use Rattle.world_causes.specs.causes.MemberTurns.{IsAck}
-use Rattle.world_causes.specs.causes.ReadTurns.{none-told}
+use Rattle.world_legal.specs.world_causes.causes.Causes.{Dated, Stored, epochs_told}
+use Rattle.world_legal.specs.world_causes.causes.Lasting.{refusal-shows}
+use Rattle.world_legal.specs.world_causes.causes.MemberTurns.{IsAck}
+use Rattle.world_legal.specs.world_causes.causes.ReadTurns.{none-told}
 use Rattle.world_upheld.specs.reasons.Asked.{found-row}
-use Rattle.world_causes.specs.causes.Shown.{Causes, MeetsUnresolved, MessageStands, OutcomeStands, limit_over}
+use Rattle.world_legal.specs.world_causes.causes.Shown.{Causes, MeetsUnresolved, MessageStands, OutcomeStands, limit_over}
 use Rattle.world_letters.specs.epochs.Epochs.{IsPresent}
-use Rattle.world_commit.specs.fates.Facts.{IsAskedSo, IsSaidSo}
-use Rattle.world_causes.specs.handing.Dates.{epochs-of_commits}
-use Rattle.world_causes.specs.handing.Handing.{asked-right, hands-over}
-use Rattle.world_causes.specs.handing.Places.{snapshots-read}
-use Rattle.world_causes.specs.handing.Targets.{member-is_target, other-is_target}
-use Rattle.world_causes.specs.losses.Losses.{tells_stop}
-use Rattle.world_causes.specs.outcomes.Premises.{hands}
-use Rattle.world_causes.specs.showing.Further.{AsksAfter, IsAskKnown, IsGone, TellsReset}
+use Rattle.world_legal.specs.world_commit.fates.Facts.{IsAskedSo, IsSaidSo}
+use Rattle.world_legal.specs.world_causes.handing.Dates.{epochs-of_commits}
+use Rattle.world_legal.specs.world_causes.handing.Handing.{asked-right, hands-over}
+use Rattle.world_legal.specs.world_causes.handing.Places.{snapshots-read}
+use Rattle.world_legal.specs.world_causes.handing.Targets.{member-is_target, other-is_target}
+use Rattle.world_legal.specs.world_causes.losses.Losses.{tells_stop}
+use Rattle.world_legal.specs.world_causes.outcomes.Premises.{hands}
+use Rattle.world_legal.specs.world_causes.showing.Further.{AsksAfter, IsAskKnown, IsGone, TellsReset}
 use Rattle.world_upheld.specs.upheld.Heard.{HeardGrounds}
-use Rattle.world_commit.specs.statuses.Senders.{IsSentRightly}
+use Rattle.world_legal.specs.world_commit.statuses.Senders.{IsSentRightly}
 use Rattle.world_letters.specs.talks.Asked.{commit_of}
 use Rattle.world_upheld.specs.upheld.Begins.{AreRulesInForm}
 use Rattle.world_upheld.specs.reasons.Accounted.{AccountedFor}

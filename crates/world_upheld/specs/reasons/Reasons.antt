@@ -1,21 +1,21 @@
 -- All that is accounted for in any run, and beside it where leaders' stops show.
-use Rattle.world_commit.specs.statuses.Events.{told_by}
+use Rattle.world_legal.specs.world_commit.statuses.Events.{told_by}
 use Rattle.world_upheld.specs.upheld.Events.{grows-with, later-with}
 use Rattle.std.specs.Prelude.{◌++◌, [], slice_get}
 use Rattle.std.proofs.Common.{◌∙◌, ap}
 use Rattle.daos_model.specs.Opening.{Opening}
-use Rattle.world_commit.specs.attempts.History.{GrowsBy, History}
+use Rattle.world_legal.specs.world_commit.attempts.History.{GrowsBy, History}
 use Rattle.world_base.specs.declared.world.World.{World}
 use Rattle.world_base.specs.Events.{Rules}
 use Rattle.world_base.specs.Stops.{Begins, Goes, WorldEvent, WorldRun}
-use Rattle.world_causes.specs.causes.Causes.{Stored}
-use Rattle.world_causes.specs.handing.Begun.{losses-asked}
-use Rattle.world_causes.specs.handing.Handing.{asks-right}
+use Rattle.world_legal.specs.world_causes.causes.Causes.{Stored}
+use Rattle.world_legal.specs.world_causes.handing.Begun.{losses-asked}
+use Rattle.world_legal.specs.world_causes.handing.Handing.{asks-right}
 use Rattle.world_legal.specs.doubts.Doubts.{Doubts}
 use Rattle.world_legal.specs.doubts.Events.{doubts-begin}
 use Rattle.world_legal.specs.doubts.Laws.{IsBeside}
 use Rattle.world_legal.specs.reasons.Accounted.{stored_over}
-use Rattle.world_causes.specs.showing.Happening.{stored_in}
+use Rattle.world_legal.specs.world_causes.showing.Happening.{stored_in}
 use Rattle.world_upheld.specs.upheld.Begins.{AreRulesInForm, RunBeginsWell, no_history}
 use Rattle.world_upheld.specs.upheld.Events as stands
 use Rattle.world_upheld.specs.reasons.Accounted.{AccountedFor}

@@ -17,9 +17,9 @@ use Rattle.daos_model.specs.Transactions.{attempt_ops, ops_or_none}
 use Rattle.dtx_base.specs.Members as members
 use Rattle.model_laws.specs.Lists.{has-at}
 use Rattle.model_laws.specs.Members.{Has, contains-from_has, has-from_filter, has-map}
-use Rattle.world_commit.specs.attempts.Asked.{IsCommitNew}
-use Rattle.world_commit.specs.attempts.Attempts.{IsOther, entry_at, entry_in, leader_of, writes_of}
-use Rattle.world_commit.specs.attempts.History.{History}
+use Rattle.world_legal.specs.world_commit.attempts.Asked.{IsCommitNew}
+use Rattle.world_legal.specs.world_commit.attempts.Attempts.{IsOther, entry_at, entry_in, leader_of, writes_of}
+use Rattle.world_legal.specs.world_commit.attempts.History.{History}
 use Rattle.world_base.specs.declared.letter.Letter.{Letter}
 use Rattle.world_base.specs.declared.request.CommitRequest.{CommitRequest}
 use Rattle.world_base.specs.declared.request.FetchRequest.{FetchRequest}
@@ -31,28 +31,28 @@ use Rattle.world_base.specs.Commits as commit
 use Rattle.world_base.specs.Events.{Rules, client_plan, kept, target_plan}
 use Rattle.world_base.specs.Letters.{Takes, client, target}
 use Rattle.world_base.specs.Requests.{fetch_message}
-use Rattle.world_causes.specs.causes.AtFloors.{HasTarget}
-use Rattle.world_causes.specs.causes.Causes.{Dated, Stored}
-use Rattle.world_causes.specs.causes.CommitTurns.{IsCommit}
-use Rattle.world_causes.specs.causes.Growth.{question-asks}
-use Rattle.world_causes.specs.causes.Premises.{IsRequest}
-use Rattle.world_causes.specs.causes.PrepareTurns.{IsPrepare}
-use Rattle.world_causes.specs.causes.ReadTurns.{IsFetch}
+use Rattle.world_legal.specs.world_causes.causes.AtFloors.{HasTarget}
+use Rattle.world_legal.specs.world_causes.causes.Causes.{Dated, Stored}
+use Rattle.world_legal.specs.world_causes.causes.CommitTurns.{IsCommit}
+use Rattle.world_legal.specs.world_causes.causes.Growth.{question-asks}
+use Rattle.world_legal.specs.world_causes.causes.Premises.{IsRequest}
+use Rattle.world_legal.specs.world_causes.causes.PrepareTurns.{IsPrepare}
+use Rattle.world_legal.specs.world_causes.causes.ReadTurns.{IsFetch}
 use Rattle.world_upheld.specs.reasons.Asked.{leader-holds, prepared-blocks}
-use Rattle.world_commit.specs.attempts.Turning.{prepare-to}
-use Rattle.world_causes.specs.causes.Shown.{Causes, IsFirstOf, limit_over}
+use Rattle.world_legal.specs.world_commit.attempts.Turning.{prepare-to}
+use Rattle.world_legal.specs.world_causes.causes.Shown.{Causes, IsFirstOf, limit_over}
 use Rattle.world_letters.specs.clients.Snapshots.{is_at_snapshot}
 use Rattle.world_letters.specs.epochs.Asking.{ops-at}
 use Rattle.world_letters.specs.epochs.Epochs.{AsksEpoch, Epochs, GoesWith, IsEpochOf, IsIssued, IsOwn, IsReadOf, IsSeen, IsPresent}
-use Rattle.world_commit.specs.fates.Facts.{IsPrepareRight, IsSaidSo}
-use Rattle.world_causes.specs.firsts.Firsts.{MessageTells}
-use Rattle.world_making.specs.freezings.Fetching.{AsksOp}
-use Rattle.world_making.specs.freezings.Seeing.{SeesFrozen, fetches-ask}
-use Rattle.world_causes.specs.handing.Dates.{epochs-of_commits}
-use Rattle.world_causes.specs.handing.Handing as handing
-use Rattle.world_causes.specs.handing.Handing.{EpochsOfCommits, IsAskedBy, IsCommitAsked, asked-right}
-use Rattle.world_causes.specs.handing.Places.{snapshots-read}
-use Rattle.world_causes.specs.handing.Targets.{other-is_target, question-target}
+use Rattle.world_legal.specs.world_commit.fates.Facts.{IsPrepareRight, IsSaidSo}
+use Rattle.world_legal.specs.world_causes.firsts.Firsts.{MessageTells}
+use Rattle.world_owners.specs.world_making.freezings.Fetching.{AsksOp}
+use Rattle.world_owners.specs.world_making.freezings.Seeing.{SeesFrozen, fetches-ask}
+use Rattle.world_legal.specs.world_causes.handing.Dates.{epochs-of_commits}
+use Rattle.world_legal.specs.world_causes.handing.Handing as handing
+use Rattle.world_legal.specs.world_causes.handing.Handing.{EpochsOfCommits, IsAskedBy, IsCommitAsked, asked-right}
+use Rattle.world_legal.specs.world_causes.handing.Places.{snapshots-read}
+use Rattle.world_legal.specs.world_causes.handing.Targets.{other-is_target, question-target}
 use Rattle.world_upheld.specs.reasons.Counting.{CountAsDates, first-counts}
 use Rattle.world_legal.specs.reasons.Requests.{request-asked}
 use Rattle.world_letters.specs.talks.AskLaws.{asked-commit, asked-read}

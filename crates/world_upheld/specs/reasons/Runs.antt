@@ -1,5 +1,5 @@
 -- A run begins with what tells of no stop, and nothing stored; so at each moment what tells of a stop has one, and all is stored once.
-use Rattle.world_commit.specs.statuses.Events.{told_by}
+use Rattle.world_legal.specs.world_commit.statuses.Events.{told_by}
 use Rattle.world_owners.specs.Owners.{AllKeepOwn, keeping-own-begins}
 use Rattle.model_laws.specs.Members.{contains-from_has}
 use Rattle.world_readers.specs.stamps.Events.{own-begins}
@@ -10,13 +10,13 @@ use Rattle.daos_model.specs.Opening.{Opening, top}
 use Rattle.world_base.specs.declared.world.World.{World}
 use Rattle.world_base.specs.Events.{Rules}
 use Rattle.world_base.specs.Stops.{Begins, Goes}
-use Rattle.world_commit.specs.fates.Keeping.{HasNoneYet}
+use Rattle.world_legal.specs.world_commit.fates.Keeping.{HasNoneYet}
 use Rattle.world_legal.specs.reasons.Accounted.{stored_over}
 use Rattle.world_legal.specs.reasons.Downs.{downs-begin}
 use Rattle.world_legal.specs.reasons.Knowing.{known-begin}
-use Rattle.world_causes.specs.losses.Beginning.{losses-begin}
-use Rattle.world_making.specs.losses.RefusalEvents.{freeze-refusals-begin}
-use Rattle.world_causes.specs.stored.Happening.{storing-begins}
+use Rattle.world_legal.specs.world_causes.losses.Beginning.{losses-begin}
+use Rattle.world_owners.specs.world_making.losses.RefusalEvents.{freeze-refusals-begin}
+use Rattle.world_legal.specs.world_causes.stored.Happening.{storing-begins}
 use Rattle.world_upheld.specs.stored.Events.{stored-writes-began}
 use Rattle.world_upheld.specs.upheld.Begins.{AreRulesInForm, RunBeginsWell, no_history}
 use Rattle.world_upheld.specs.upheld.Events.{grows-with, later-with}

@@ -12,8 +12,8 @@ use Rattle.daos_model.specs.BoolLaws.{and_right}
 use Rattle.daos_model.specs.EntryLaws.{same_attempt-itself}
 use Rattle.dtx_base.specs.LeaderLaws.{same-is}
 use Rattle.model_laws.specs.Members.{Has, contains-from_has, has-from_contains}
-use Rattle.world_commit.specs.attempts.Attempts.{IsBorn}
-use Rattle.world_commit.specs.attempts.History.{History}
+use Rattle.world_legal.specs.world_commit.attempts.Attempts.{IsBorn}
+use Rattle.world_legal.specs.world_commit.attempts.History.{History}
 use Rattle.world_base.specs.declared.client.ClientPlan.{ClientPlan}
 use Rattle.world_base.specs.declared.client.ClientState.{ClientState}
 use Rattle.world_base.specs.declared.client.Present.{Present}
@@ -24,22 +24,22 @@ use Rattle.world_base.specs.Events.{ClientGoes, ClientHears, Rules, after_turn, 
 use Rattle.world_base.specs.Letters.{client}
 use Rattle.world_base.specs.StepLaws.{after-both, by-going, by-next, set-here}
 use Rattle.world_base.specs.Steps.{KeptByCounting, KeptByMoves, after_move, without}
-use Rattle.world_causes.specs.causes.Causes.{Stored}
-use Rattle.world_causes.specs.causes.ClientLaws.{answer-mild}
-use Rattle.world_causes.specs.causes.Storing.{IsRefusedAt, IsTold, RefusesAt, StoredOnce}
-use Rattle.world_causes.specs.causes.StoringClients.{IsClients, TellsOnly, client-did, move-clients, quiet-only, stored-by-counting}
-use Rattle.world_causes.specs.causes.StoreTurns.{IsCommitOf}
+use Rattle.world_legal.specs.world_causes.causes.Causes.{Stored}
+use Rattle.world_legal.specs.world_causes.causes.ClientLaws.{answer-mild}
+use Rattle.world_legal.specs.world_causes.causes.Storing.{IsRefusedAt, IsTold, RefusesAt, StoredOnce}
+use Rattle.world_legal.specs.world_causes.causes.StoringClients.{IsClients, TellsOnly, client-did, move-clients, quiet-only, stored-by-counting}
+use Rattle.world_legal.specs.world_causes.causes.StoreTurns.{IsCommitOf}
 use Rattle.world_letters.specs.endings.Clients.{IsQuestion, heard-asks}
-use Rattle.world_causes.specs.handing.Fitting.{hears-fitly}
+use Rattle.world_legal.specs.world_causes.handing.Fitting.{hears-fitly}
 use Rattle.world_letters.specs.lines.LineLaws.{lines-by-counting, lines-by-moves}
 use Rattle.world_letters.specs.lines.Lines.{Endings, Lines}
-use Rattle.world_causes.specs.outcomes.ClientLaws as outcomes
-use Rattle.world_causes.specs.outcomes.HearLaws as heard_outcomes
-use Rattle.world_causes.specs.outcomes.Outcomes.{IsEndTrue, IsHandedOver, Outcomes, commits, Agrees}
-use Rattle.world_standing.specs.standing.Clients.{lines-heard}
-use Rattle.world_causes.specs.stored.Over.{StoringOver}
+use Rattle.world_legal.specs.world_causes.outcomes.ClientLaws as outcomes
+use Rattle.world_legal.specs.world_causes.outcomes.HearLaws as heard_outcomes
+use Rattle.world_legal.specs.world_causes.outcomes.Outcomes.{IsEndTrue, IsHandedOver, Outcomes, commits, Agrees}
+use Rattle.world_legal.specs.world_standing.standing.Clients.{lines-heard}
+use Rattle.world_legal.specs.world_causes.stored.Over.{StoringOver}
 use Rattle.world_letters.specs.talks.TalkLaws.{left-is-among, taken-is-among}
-use Rattle.world_causes.specs.outcomes.TellLaws.{AllRead, MoveTells, NoSnap, Nothing, moved-tells}
+use Rattle.world_legal.specs.world_causes.outcomes.TellLaws.{AllRead, MoveTells, NoSnap, Nothing, moved-tells}
 use Rattle.world_letters.specs.waits.Waits.{Conversation}
 
 -- What is known before a client does something: what goes about for clients, what ends attempts, what lines tell, what is told of how attempts

@@ -1,21 +1,21 @@
 -- Whatever happens keeps what is stored once.
 use Rattle.std.specs.Prelude.{◌≡◌, ◌++◌, Bool, true, false, refl}
 use Rattle.std.proofs.Common.{sym, subst, inl, inr}
-use Rattle.world_commit.specs.attempts.Counting.{has-taken}
-use Rattle.world_commit.specs.attempts.History.{History}
+use Rattle.world_legal.specs.world_commit.attempts.Counting.{has-taken}
+use Rattle.world_legal.specs.world_commit.attempts.History.{History}
 use Rattle.world_base.specs.declared.world.World.{World}
 use Rattle.world_base.specs.Events.{ByClient, ByTarget, Rules, ToClient, ToTarget, rightly}
 use Rattle.world_base.specs.Stops.{Draws, Fails, Further, GivenUp, Happening, HearsMore, IsCut, Opens, Plainly}
-use Rattle.world_causes.specs.causes.Causes.{Stored, stored_by}
-use Rattle.world_commit.specs.fates.Rightly.{letters-tell}
-use Rattle.world_making.specs.making.Kinds.{of-attempts}
-use Rattle.world_making.specs.making.Making.{tells_of_snapshots}
-use Rattle.world_causes.specs.showing.Happening.{stored_in}
-use Rattle.world_causes.specs.stored.Cutting.{cut-over}
-use Rattle.world_causes.specs.stored.Further.{further-over}
-use Rattle.world_causes.specs.stored.Over.{IsStoringKnown, StoringOver}
-use Rattle.world_causes.specs.stored.Stopping.{failure-keeps, giving-up_keeps, numbers-keep, opening-keeps, sweep-keeps}
-use Rattle.world_causes.specs.stored.Targets.{idling-over, rightly-over}
+use Rattle.world_legal.specs.world_causes.causes.Causes.{Stored, stored_by}
+use Rattle.world_legal.specs.world_commit.fates.Rightly.{letters-tell}
+use Rattle.world_owners.specs.world_making.making.Kinds.{of-attempts}
+use Rattle.world_owners.specs.world_making.making.Making.{tells_of_snapshots}
+use Rattle.world_legal.specs.world_causes.showing.Happening.{stored_in}
+use Rattle.world_legal.specs.world_causes.stored.Cutting.{cut-over}
+use Rattle.world_legal.specs.world_causes.stored.Further.{further-over}
+use Rattle.world_legal.specs.world_causes.stored.Over.{IsStoringKnown, StoringOver}
+use Rattle.world_legal.specs.world_causes.stored.Stopping.{failure-keeps, giving-up_keeps, numbers-keep, opening-keeps, sweep-keeps}
+use Rattle.world_legal.specs.world_causes.stored.Targets.{idling-over, rightly-over}
 use Rattle.world_upheld.specs.stored.Clients.{IsTalkKnown, goes-over, hearing-goes-over}
 use Rattle.world_upheld.specs.stored.Laws.{AllClientsKeepStored, AllEventsKeepStored, AllHappeningsKeepStored, HappeningsKeepStoredWrites, IsMakingKnown, MakingEndsMakers, MakingKeepsStored, MakingStoresNothing, StoredWritesBegin}
 use Rattle.world_upheld.specs.stored.Turns as turn

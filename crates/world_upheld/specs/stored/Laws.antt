@@ -1,18 +1,18 @@
 -- The laws of what is stored once where snapshots are made and containers aggregated, as statements.
 use Rattle.std.specs.Prelude.{◌≡◌, ◌⊎◌, ◌++◌, []}
-use Rattle.world_commit.specs.attempts.History.{History}
+use Rattle.world_legal.specs.world_commit.attempts.History.{History}
 use Rattle.world_base.specs.declared.world.World.{World}
 use Rattle.world_base.specs.Events.{ClientGoes, ClientHears, Rules}
 use Rattle.world_base.specs.Stops.{Happening, HearsMore, WorldEvent}
-use Rattle.world_causes.specs.causes.Causes.{Stored, stored_by}
+use Rattle.world_legal.specs.world_causes.causes.Causes.{Stored, stored_by}
 use Rattle.world_letters.specs.epochs.Epochs.{ClientsStand}
-use Rattle.world_commit.specs.fates.Facts.{Attempts}
-use Rattle.world_making.specs.makers.Makers.{MakersTell}
-use Rattle.world_making.specs.making.Making.{IsOfMaking}
-use Rattle.world_causes.specs.outcomes.Premises.{HandsOver}
-use Rattle.world_causes.specs.showing.Happening.{stored_in}
+use Rattle.world_legal.specs.world_commit.fates.Facts.{Attempts}
+use Rattle.world_owners.specs.world_making.makers.Makers.{MakersTell}
+use Rattle.world_owners.specs.world_making.making.Making.{IsOfMaking}
+use Rattle.world_legal.specs.world_causes.outcomes.Premises.{HandsOver}
+use Rattle.world_legal.specs.world_causes.showing.Happening.{stored_in}
 use Rattle.world_letters.specs.snapshots.Makings.{Makings}
-use Rattle.world_causes.specs.stored.Over.{IsStoringKnown, StoringOver}
+use Rattle.world_legal.specs.world_causes.stored.Over.{IsStoringKnown, StoringOver}
 use Rattle.world_upheld.specs.stored.Clients.{IsTalkKnown}
 use Rattle.world_upheld.specs.stored.Makers.{EndMakers}
 use Rattle.world_upheld.specs.stored.Writing.{IsWritingKnown, StoredWrite}

@@ -18,12 +18,12 @@ use Rattle.world_base.specs.declared.target.TargetMemory.{TargetMemory}
 use Rattle.world_base.specs.declared.target.TargetPlan.{TargetPlan}
 use Rattle.world_base.specs.Events.{Rules}
 use Rattle.world_base.specs.Snapshots.{freeze_to, others, prune_to}
-use Rattle.world_causes.specs.causes.Storing.{RefusesAt}
-use Rattle.world_making.specs.fates.Sends.{is_sent_in_making}
-use Rattle.world_making.specs.makers.Makers.{IsMaker, IsToldByMaker}
-use Rattle.world_making.specs.making.Making.{AsksAgain, AsksFreezes, AsksPrunes, EndsCollected, EndsIt, MakingSends, SaysFrozen, SaysNothing, SaysPruned, SaysRefused, is_asked_for, is_lost_at, is_told_of}
+use Rattle.world_legal.specs.world_causes.causes.Storing.{RefusesAt}
+use Rattle.world_owners.specs.world_making.fates.Sends.{is_sent_in_making}
+use Rattle.world_owners.specs.world_making.makers.Makers.{IsMaker, IsToldByMaker}
+use Rattle.world_owners.specs.world_making.making.Making.{AsksAgain, AsksFreezes, AsksPrunes, EndsCollected, EndsIt, MakingSends, SaysFrozen, SaysNothing, SaysPruned, SaysRefused, is_asked_for, is_lost_at, is_told_of}
 use Rattle.world_letters.specs.snapshots.Makings.{IsSo}
-use Rattle.world_causes.specs.outcomes.Outcomes.{HasWrites}
+use Rattle.world_legal.specs.world_causes.outcomes.Outcomes.{HasWrites}
 
 -- such an attempt has no operations
 pub maker-writes-none : (r : Rules) (x : AttemptId) → IsMaker r x → HasWrites r x → ⊥

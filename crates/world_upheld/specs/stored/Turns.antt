@@ -12,31 +12,31 @@ use Rattle.daos_model.specs.Durables.{entry_of, is_entry_of}
 use Rattle.daos_model.specs.EntryLaws.{same_attempt-itself}
 use Rattle.daos_model.specs.declared.durable.Durable.{Durable}
 use Rattle.model_laws.specs.Members.{Has, contains-from_has, has-cases, has-from_contains, has-from_map}
-use Rattle.world_commit.specs.attempts.Counting.{has-left_over, has-taken}
-use Rattle.world_commit.specs.attempts.History.{History}
+use Rattle.world_legal.specs.world_commit.attempts.Counting.{has-left_over, has-taken}
+use Rattle.world_legal.specs.world_commit.attempts.History.{History}
 use Rattle.world_base.specs.declared.letter.Letter.{Letter}
 use Rattle.world_base.specs.declared.world.World.{World}
 use Rattle.world_base.specs.Events.{Rules, TargetHearsBy, kept, listed, target_plan, with_epoch}
 use Rattle.world_base.specs.Further.{HearsFurther}
 use Rattle.world_base.specs.Letters.{letter_of, letters_of, target}
-use Rattle.world_causes.specs.causes.Causes.{Stored, is_new_to, stored_as, stored_by}
-use Rattle.world_causes.specs.causes.StoreTurns.{IsCommitOf}
-use Rattle.world_causes.specs.causes.Storing.{HasItsLine, IsAskedAt, IsPrepareOf, IsRefusedAt, IsTold, RefusesAt}
+use Rattle.world_legal.specs.world_causes.causes.Causes.{Stored, is_new_to, stored_as, stored_by}
+use Rattle.world_legal.specs.world_causes.causes.StoreTurns.{IsCommitOf}
+use Rattle.world_legal.specs.world_causes.causes.Storing.{HasItsLine, IsAskedAt, IsPrepareOf, IsRefusedAt, IsTold, RefusesAt}
 use Rattle.world_letters.specs.epochs.Epochs.{ClientsStand}
-use Rattle.world_commit.specs.fates.Facts.{Attempts}
-use Rattle.world_making.specs.fates.Sends.{is_sent_in_making, making-sent}
+use Rattle.world_legal.specs.world_commit.fates.Facts.{Attempts}
+use Rattle.world_owners.specs.world_making.fates.Sends.{is_sent_in_making, making-sent}
 use Rattle.world_letters.specs.lines.FilledLaws.{tries-filled}
 use Rattle.world_letters.specs.lines.Lines.{filled}
-use Rattle.world_making.specs.losses.Tells.{turn-lines-untried}
-use Rattle.world_making.specs.makers.Makers.{IsMaker, MakersTell}
-use Rattle.world_making.specs.making.Making.{IsOfMaking, MakingLeaves}
-use Rattle.world_making.specs.making.Turns.{hearings-leave}
-use Rattle.world_causes.specs.outcomes.Outcomes.{IsHandedOver}
-use Rattle.world_causes.specs.outcomes.Premises.{HandsOver}
-use Rattle.world_causes.specs.outcomes.Untried.{untried-back}
-use Rattle.world_making.specs.questions.Entries.{turn-leaves-entry}
+use Rattle.world_owners.specs.world_making.losses.Tells.{turn-lines-untried}
+use Rattle.world_owners.specs.world_making.makers.Makers.{IsMaker, MakersTell}
+use Rattle.world_owners.specs.world_making.making.Making.{IsOfMaking, MakingLeaves}
+use Rattle.world_owners.specs.world_making.making.Turns.{hearings-leave}
+use Rattle.world_legal.specs.world_causes.outcomes.Outcomes.{IsHandedOver}
+use Rattle.world_legal.specs.world_causes.outcomes.Premises.{HandsOver}
+use Rattle.world_legal.specs.world_causes.outcomes.Untried.{untried-back}
+use Rattle.world_owners.specs.world_making.questions.Entries.{turn-leaves-entry}
 use Rattle.world_letters.specs.snapshots.Makings.{Makings}
-use Rattle.world_causes.specs.stored.Over.{StoringOver}
+use Rattle.world_legal.specs.world_causes.stored.Over.{StoringOver}
 use Rattle.world_upheld.specs.stored.Makers.{EndMakers, maker-writes-none, making-ends-makers, refused-makes}
 use Rattle.world_upheld.specs.stored.Writing.{StoredWrite, prepare-writes}
 

@@ -11,8 +11,8 @@ use Rattle.daos_model.specs.EntryLaws.{same_attempt-itself}
 use Rattle.daos_model.specs.Transactions.{attempt_ops}
 use Rattle.daos_model.specs.declared.durable.Durable.{Durable}
 use Rattle.model_laws.specs.Members.{Has, contains-from_has, has-cases, has-from_contains, has-from_filter, has-from_map}
-use Rattle.world_commit.specs.attempts.Counting.{has-taken}
-use Rattle.world_commit.specs.attempts.History.{History}
+use Rattle.world_legal.specs.world_commit.attempts.Counting.{has-taken}
+use Rattle.world_legal.specs.world_commit.attempts.History.{History}
 use Rattle.world_base.specs.declared.letter.Letter.{Letter}
 use Rattle.world_base.specs.declared.target.TargetState.{TargetState}
 use Rattle.world_base.specs.declared.world.World.{World}
@@ -22,19 +22,19 @@ use Rattle.world_base.specs.Roles.{is_prepared}
 use Rattle.world_base.specs.StepLaws.{set-here}
 use Rattle.world_base.specs.Stops.{AtWork, CutOf, Draws, Fails, Further, GivenUp, Happening, Hearing, IdleWork, IsCut, IsInHand, Opens, Plainly, TargetCut}
 use Rattle.world_base.specs.TargetTurns.{commit_request}
-use Rattle.world_causes.specs.causes.Causes.{Stored, is_new_to, stored_as, stored_by}
+use Rattle.world_legal.specs.world_causes.causes.Causes.{Stored, is_new_to, stored_as, stored_by}
 use Rattle.world_letters.specs.epochs.Asking.{ops-at}
 use Rattle.world_letters.specs.epochs.Epochs.{ClientsStand}
-use Rattle.world_commit.specs.fates.Facts.{Attempts, IsSaidSo}
-use Rattle.world_causes.specs.hearing.Going.{EntriesWrite}
-use Rattle.world_causes.specs.hearing.PlainTurns.{others-write}
-use Rattle.world_causes.specs.outcomes.Premises.{HandsOver, hands}
-use Rattle.world_causes.specs.showing.Cutting.{commit_stored, hearing_stored, work_stored}
-use Rattle.world_causes.specs.showing.CutTurns.{stored_if}
-use Rattle.world_causes.specs.showing.Happening.{stored_in}
-use Rattle.world_causes.specs.causes.StoreTurns.{IsCommitOf}
-use Rattle.world_causes.specs.causes.Storing.{IsPrepareOf}
-use Rattle.world_causes.specs.outcomes.Outcomes.{HasWrites}
+use Rattle.world_legal.specs.world_commit.fates.Facts.{Attempts, IsSaidSo}
+use Rattle.world_legal.specs.world_causes.hearing.Going.{EntriesWrite}
+use Rattle.world_legal.specs.world_causes.hearing.PlainTurns.{others-write}
+use Rattle.world_legal.specs.world_causes.outcomes.Premises.{HandsOver, hands}
+use Rattle.world_legal.specs.world_causes.showing.Cutting.{commit_stored, hearing_stored, work_stored}
+use Rattle.world_legal.specs.world_causes.showing.CutTurns.{stored_if}
+use Rattle.world_legal.specs.world_causes.showing.Happening.{stored_in}
+use Rattle.world_legal.specs.world_causes.causes.StoreTurns.{IsCommitOf}
+use Rattle.world_legal.specs.world_causes.causes.Storing.{IsPrepareOf}
+use Rattle.world_legal.specs.world_causes.outcomes.Outcomes.{HasWrites}
 
 -- it is so of each that is stored somewhere
 abbrev pub StoredWrite : Rules → Stored → Type 0

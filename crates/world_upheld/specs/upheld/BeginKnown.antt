@@ -15,9 +15,9 @@ use Rattle.world_base.specs.declared.target.TargetState.{TargetState}
 use Rattle.world_base.specs.declared.world.World.{World}
 use Rattle.world_base.specs.ClientTurns.{is_created_old, known_of}
 use Rattle.world_base.specs.Events.{Rules}
-use Rattle.world_making.specs.freezings.Freezings.{IsFromBefore, IsKnownSo}
-use Rattle.world_making.specs.freezings.Snapping.{created-frozen}
-use Rattle.world_making.specs.making.Snapshots.{holds_created}
+use Rattle.world_owners.specs.world_making.freezings.Freezings.{IsFromBefore, IsKnownSo}
+use Rattle.world_owners.specs.world_making.freezings.Snapping.{created-frozen}
+use Rattle.world_owners.specs.world_making.making.Snapshots.{holds_created}
 use Rattle.world_upheld.specs.upheld.Begins.{AreRulesInForm, RunBeginsWell, snaps_held}
 use Rattle.world_upheld.specs.upheld.BeginVersions.{frozen-before}
 use Rattle.world_upheld.specs.upheld.Named.{first-alone, name_of_snap}

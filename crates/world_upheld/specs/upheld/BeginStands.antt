@@ -21,9 +21,9 @@ use Rattle.daos_model.specs.Effect.{effects}
 use Rattle.daos_model.specs.Opening.{Opening, top}
 use Rattle.daos_model.specs.Versions.{writes_in}
 use Rattle.world_base.specs.Events.{Rules}
-use Rattle.world_commit.specs.attempts.History.{is_decided}
-use Rattle.world_contents.specs.reads.Transactions.{counts_by, transactions}
-use Rattle.world_contents.specs.reads.Versions.{VersionsStand, is_own_in, mark_of}
+use Rattle.world_legal.specs.world_commit.attempts.History.{is_decided}
+use Rattle.world_legal.specs.world_contents.reads.Transactions.{counts_by, transactions}
+use Rattle.world_legal.specs.world_contents.reads.Versions.{VersionsStand, is_own_in, mark_of}
 use Rattle.world_upheld.specs.upheld.Begins.{OpensWith, no_history}
 
 -- ---- what the target keeps

@@ -21,9 +21,9 @@ use Rattle.model_laws.specs.Matches.{Matches, counts_under}
 use Rattle.model_laws.specs.Members.{contains-from_has, has-any}
 use Rattle.world_base.specs.declared.world.World.{World}
 use Rattle.world_base.specs.Events.{Rules}
-use Rattle.world_commit.specs.attempts.History.{is_decided}
-use Rattle.world_contents.specs.reads.Transactions.{counts_by, transactions}
-use Rattle.world_contents.specs.reads.Versions.{VersionsStand, is_own_in}
+use Rattle.world_legal.specs.world_commit.attempts.History.{is_decided}
+use Rattle.world_legal.specs.world_contents.reads.Transactions.{counts_by, transactions}
+use Rattle.world_legal.specs.world_contents.reads.Versions.{VersionsStand, is_own_in}
 use Rattle.world_upheld.specs.upheld.BeginStands.{stand-begins}
 use Rattle.world_upheld.specs.upheld.Begins.{KeepsSnapshots, KeepsWell, RunBeginsWell, RunBeginsWith, is_settled_version, OpensWith, no_history}
 

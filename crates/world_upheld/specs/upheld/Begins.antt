@@ -16,17 +16,17 @@ use Rattle.world_base.specs.declared.target.TargetState.{TargetState}
 use Rattle.world_base.specs.declared.world.World.{World}
 use Rattle.world_base.specs.ClientTurns.{at_first}
 use Rattle.world_base.specs.Events.{Rules}
-use Rattle.world_making.specs.freezings.Freezings.{KeepsFrozen}
-use Rattle.world_making.specs.making.Snapshots.{holds_created}
-use Rattle.world_contents.specs.reads.Versions.{HoldsMap, is_own_in}
+use Rattle.world_owners.specs.world_making.freezings.Freezings.{KeepsFrozen}
+use Rattle.world_owners.specs.world_making.making.Snapshots.{holds_created}
+use Rattle.world_legal.specs.world_contents.reads.Versions.{HoldsMap, is_own_in}
 use Rattle.model_laws.specs.Targets.{ArePlaced, is_own}
 use Rattle.model_laws.specs.Dated.{AreSingleInOrder}
 use Rattle.daos_model.specs.declared.cell.Cell.{Cell}
-use Rattle.world_commit.specs.attempts.History.{History}
+use Rattle.world_legal.specs.world_commit.attempts.History.{History}
 use Rattle.dtx_base.specs.declared.leading.LeaderMemory.{LeaderMemory}
 use Rattle.dtx_base.specs.declared.member.MemberMemory.{MemberMemory}
 use Rattle.base_types.specs.declared.script.Script.{Script}
-use Rattle.world_standing.specs.hearable.Hearable.{declared_conts}
+use Rattle.world_legal.specs.world_standing.hearable.Hearable.{declared_conts}
 use Rattle.daos_model.specs.Effect.{effects}
 use Rattle.daos_model.specs.Cells.{value_at}
 use Rattle.daos_model.specs.Versions.{writes_in}

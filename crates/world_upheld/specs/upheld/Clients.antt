@@ -3,31 +3,31 @@
 use Rattle.std.specs.Prelude.{ℕ, ◌≡◌, ◌<◌, is_some, refl}
 use Rattle.std.proofs.Common.{ap, arith}
 use Rattle.daos_model.specs.BoolLaws.{clash}
-use Rattle.world_commit.specs.attempts.History.{History}
+use Rattle.world_legal.specs.world_commit.attempts.History.{History}
 use Rattle.world_base.specs.declared.world.World.{World}
 use Rattle.world_base.specs.ClientTurns.{attempt_id}
 use Rattle.world_base.specs.Events.{ClientGoes, ClientHears, Rules, client_plan}
 use Rattle.world_base.specs.StepLaws.{by-hearing, by-next}
 use Rattle.world_base.specs.Steps.{KeptByCounting, KeptByHearing, KeptByMoves}
 use Rattle.world_letters.specs.clients.Snapshots.{is_at_snapshot}
-use Rattle.world_making.specs.dates.Answering.{quiet-client}
-use Rattle.world_making.specs.dates.Going.{moved-dates}
-use Rattle.world_making.specs.dates.Heard.{heard-dates}
-use Rattle.world_making.specs.dates.Moves.{quiet-same}
+use Rattle.world_owners.specs.world_making.dates.Answering.{quiet-client}
+use Rattle.world_owners.specs.world_making.dates.Going.{moved-dates}
+use Rattle.world_owners.specs.world_making.dates.Heard.{heard-dates}
+use Rattle.world_owners.specs.world_making.dates.Moves.{quiet-same}
 use Rattle.world_letters.specs.endings.Events as ending
 use Rattle.world_letters.specs.epochs.Epochs.{IsEpochOf, IsIssued, IsOwn, IsSeen, ClientsStand}
 use Rattle.world_letters.specs.epochs.Talking.{silent-unless}
-use Rattle.world_causes.specs.handing.Fitting.{hears-fitly}
-use Rattle.world_causes.specs.hearing.HappeningEpochs.{talks-once}
+use Rattle.world_legal.specs.world_causes.handing.Fitting.{hears-fitly}
+use Rattle.world_legal.specs.world_causes.hearing.HappeningEpochs.{talks-once}
 use Rattle.world_letters.specs.lines.EndingLaws.{endings-by-counting, endings-by-moves}
 use Rattle.world_letters.specs.lines.LineLaws.{lines-by-counting, lines-by-moves}
-use Rattle.world_causes.specs.outcomes.ClientLaws as outcome
-use Rattle.world_causes.specs.outcomes.HearLaws as outcome_heard
-use Rattle.world_standing.specs.standing.Clients.{ClientsSpeak, lines-heard}
-use Rattle.world_causes.specs.outcomes.Outcomes.{Agrees}
+use Rattle.world_legal.specs.world_causes.outcomes.ClientLaws as outcome
+use Rattle.world_legal.specs.world_causes.outcomes.HearLaws as outcome_heard
+use Rattle.world_legal.specs.world_standing.standing.Clients.{ClientsSpeak, lines-heard}
+use Rattle.world_legal.specs.world_causes.outcomes.Outcomes.{Agrees}
 use Rattle.world_letters.specs.waits.ClientLaws as wait
 use Rattle.world_letters.specs.lines.Lines.{Lines}
-use Rattle.world_causes.specs.outcomes.TurnLaws.{told-of}
+use Rattle.world_legal.specs.world_causes.outcomes.TurnLaws.{told-of}
 
 -- each client is at the command of its number
 pub lines-stand : (r : Rules) (w : World) → Lines r w → ClientsStand r w

@@ -19,8 +19,8 @@ use Rattle.world_base.specs.declared.world.World.{World}
 use Rattle.world_base.specs.Changes.{Change, Creates, Extends, Freezes, IsPartly, Prepares, Prunes, Settles, made}
 use Rattle.world_base.specs.Events.{Rules}
 use Rattle.world_base.specs.Stops.{Begins, Goes, WorldEvent, WorldRun}
-use Rattle.world_contents.specs.frozen.Rows.{of-marked_at, of-raised_at}
-use Rattle.world_making.specs.making.Leaving.{IsThereStill, event-left}
+use Rattle.world_legal.specs.world_contents.frozen.Rows.{of-marked_at, of-raised_at}
+use Rattle.world_owners.specs.world_making.making.Leaving.{IsThereStill, event-left}
 use Rattle.world_upheld.specs.upheld.Begins.{RunBeginsWell, AreEnlisted}
 use Rattle.world_upheld.specs.upheld.Events.{event-many}
 

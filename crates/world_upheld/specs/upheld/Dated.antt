@@ -12,7 +12,7 @@ use Rattle.world_base.specs.Events.{Rules, target_plan}
 use Rattle.world_base.specs.Requests.{request_epoch}
 use Rattle.world_letters.specs.epochs.Epochs.{Epochs, IsIssued}
 use Rattle.world_letters.specs.epochs.TargetEvents.{issued-ticks}
-use Rattle.world_contents.specs.reads.Given.{HasItsEpoch, IsItsEpoch}
+use Rattle.world_legal.specs.world_contents.reads.Given.{HasItsEpoch, IsItsEpoch}
 
 epoch_of : ℕ → Epoch
 epoch_of n = record { 0 = n }

@@ -5,57 +5,57 @@ use Rattle.std.proofs.Common.{inl, inr, sym, ◌∙◌, ap, subst}
 use Rattle.daos_model.specs.declared.durable.Version.{Version}
 use Rattle.daos_model.specs.Opening.{Opening, top}
 use Rattle.model_laws.specs.Members.{contains-from_has, has-from_contains}
-use Rattle.world_commit.specs.attempts.History.{Grew, GrowsBy, History}
+use Rattle.world_legal.specs.world_commit.attempts.History.{Grew, GrowsBy, History}
 use Rattle.world_base.specs.declared.world.World.{World}
 use Rattle.world_base.specs.Events.{ByClient, ByTarget, Rules, ToClient, ToTarget}
 use Rattle.world_base.specs.Stops.{Draws, Fails, Further, GivenUp, Happening, IsCut, Opens, Plainly, WorldEvent, swept}
-use Rattle.world_making.specs.dates.Events.{events-dates}
+use Rattle.world_owners.specs.world_making.dates.Events.{events-dates}
 use Rattle.world_letters.specs.endings.Events as ending
 use Rattle.world_letters.specs.epochs.Epochs.{Epochs}
-use Rattle.world_commit.specs.fates.Asked.{AskedRight}
-use Rattle.world_commit.specs.fates.Facts.{Attempts}
-use Rattle.world_making.specs.fates.Events as fate
-use Rattle.world_making.specs.fates.Laws.{MakingsAreRight}
-use Rattle.world_causes.specs.firsts.Events as first
-use Rattle.world_making.specs.freezings.Freezings.{HaveOneEpoch}
-use Rattle.world_making.specs.freezings.Laws as freezing
-use Rattle.world_causes.specs.handing.Dates.{SnapshotsAreRead, epochs-of_commits}
-use Rattle.world_causes.specs.handing.Handing.{asked-right, asks-right, commits-of_clients, hands-over}
-use Rattle.world_causes.specs.handing.Places.{snapshots-read}
-use Rattle.world_causes.specs.hearing.Going.{AnswersAreServed, Before, GoesOn}
-use Rattle.world_causes.specs.handing.Groups.{groups-stay}
-use Rattle.world_causes.specs.hearing.HappeningEpochs.{events-keep-clients}
-use Rattle.world_causes.specs.hearing.Writing.{EntriesKnown}
+use Rattle.world_legal.specs.world_commit.fates.Asked.{AskedRight}
+use Rattle.world_legal.specs.world_commit.fates.Facts.{Attempts}
+use Rattle.world_owners.specs.world_making.fates.Events as fate
+use Rattle.world_owners.specs.world_making.fates.Laws.{MakingsAreRight}
+use Rattle.world_legal.specs.world_causes.firsts.Events as first
+use Rattle.world_owners.specs.world_making.freezings.Freezings.{HaveOneEpoch}
+use Rattle.world_owners.specs.world_making.freezings.Laws as freezing
+use Rattle.world_legal.specs.world_causes.handing.Dates.{SnapshotsAreRead, epochs-of_commits}
+use Rattle.world_legal.specs.world_causes.handing.Handing.{asked-right, asks-right, commits-of_clients, hands-over}
+use Rattle.world_legal.specs.world_causes.handing.Places.{snapshots-read}
+use Rattle.world_legal.specs.world_causes.hearing.Going.{AnswersAreServed, Before, GoesOn}
+use Rattle.world_legal.specs.world_causes.handing.Groups.{groups-stay}
+use Rattle.world_legal.specs.world_causes.hearing.HappeningEpochs.{events-keep-clients}
+use Rattle.world_legal.specs.world_causes.hearing.Writing.{EntriesKnown}
 use Rattle.world_letters.specs.lines.Lines.{Lines}
 use Rattle.world_letters.specs.lives.Events as life
-use Rattle.world_making.specs.makers.Events as maker
-use Rattle.world_causes.specs.outcomes.Keeping.{IsOfTarget, IsUsual}
-use Rattle.world_causes.specs.outcomes.Laws as outcome
-use Rattle.world_causes.specs.outcomes.Outcomes.{Outcomes}
-use Rattle.world_causes.specs.outcomes.Premises.{LinesArePast}
-use Rattle.world_making.specs.prunings.Containers.{all-events-keep_makers}
-use Rattle.world_making.specs.prunings.Floors.{all-events-keep_floors}
-use Rattle.world_making.specs.prunings.MakingGots.{all-events-keep_gots}
-use Rattle.world_making.specs.prunings.MakingReads.{all-events-keep_reads}
-use Rattle.world_making.specs.prunings.Writing.{all-events-keep_entries}
-use Rattle.world_making.specs.questions.Events as question
-use Rattle.world_commit.specs.requests.Rows.{commits-find, leaders-know, rows-stay}
-use Rattle.world_commit.specs.requests.Staying.{requests-happen, requests-stay}
+use Rattle.world_owners.specs.world_making.makers.Events as maker
+use Rattle.world_legal.specs.world_causes.outcomes.Keeping.{IsOfTarget, IsUsual}
+use Rattle.world_legal.specs.world_causes.outcomes.Laws as outcome
+use Rattle.world_legal.specs.world_causes.outcomes.Outcomes.{Outcomes}
+use Rattle.world_legal.specs.world_causes.outcomes.Premises.{LinesArePast}
+use Rattle.world_owners.specs.world_making.prunings.Containers.{all-events-keep_makers}
+use Rattle.world_owners.specs.world_making.prunings.Floors.{all-events-keep_floors}
+use Rattle.world_owners.specs.world_making.prunings.MakingGots.{all-events-keep_gots}
+use Rattle.world_owners.specs.world_making.prunings.MakingReads.{all-events-keep_reads}
+use Rattle.world_owners.specs.world_making.prunings.Writing.{all-events-keep_entries}
+use Rattle.world_owners.specs.world_making.questions.Events as question
+use Rattle.world_legal.specs.world_commit.requests.Rows.{commits-find, leaders-know, rows-stay}
+use Rattle.world_legal.specs.world_commit.requests.Staying.{requests-happen, requests-stay}
 use Rattle.world_letters.specs.snapshots.Events as making
-use Rattle.world_standing.specs.standing.Clients.{ClientsSpeak}
-use Rattle.world_standing.specs.standing.Events.{TellsOn, aborts-grow, decided-issued, outcomes-on}
-use Rattle.world_standing.specs.standing.Telling.{lines-on, sweeping-tells}
-use Rattle.world_commit.specs.statuses.Events.{told_by}
-use Rattle.world_commit.specs.statuses.SenderLaws.{senders-stay}
+use Rattle.world_legal.specs.world_standing.standing.Clients.{ClientsSpeak}
+use Rattle.world_legal.specs.world_standing.standing.Events.{TellsOn, aborts-grow, decided-issued, outcomes-on}
+use Rattle.world_legal.specs.world_standing.standing.Telling.{lines-on, sweeping-tells}
+use Rattle.world_legal.specs.world_commit.statuses.Events.{told_by}
+use Rattle.world_legal.specs.world_commit.statuses.SenderLaws.{senders-stay}
 use Rattle.world_letters.specs.waits.Happenings as wait
 use Rattle.world_letters.specs.waits.Premises.{LeadersKnow, RequestsAreOfClients}
 use Rattle.world_letters.specs.waits.Waits.{Conversation}
 use Rattle.world_upheld.specs.upheld.Clients.{client-goes, client-hears}
 use Rattle.world_upheld.specs.upheld.Heard.{HeardGrounds, all-heard_right}
 use Rattle.world_upheld.specs.upheld.Telling.{all-targets_tell}
-use Rattle.world_contents.specs.reads.Given.{Given}
-use Rattle.world_contents.specs.reads.Growing.{committed_in, grown}
-use Rattle.world_contents.specs.reads.GrowLaws.{grown-grows}
+use Rattle.world_legal.specs.world_contents.reads.Given.{Given}
+use Rattle.world_legal.specs.world_contents.reads.Growing.{committed_in, grown}
+use Rattle.world_legal.specs.world_contents.reads.GrowLaws.{grown-grows}
 use Rattle.world_upheld.specs.upheld.Upheld.{AllEventsKeepGrounds, AllEventsUphold, Contents, Grounds, GroundsGoOn, IsUpheldStill}
 use Rattle.world_upheld.specs.upheld.Begins.{AreBefore}
 

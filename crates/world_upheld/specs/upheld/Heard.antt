@@ -25,7 +25,7 @@ use Rattle.dtx_base.specs.declared.member.Parked.{Parked}
 use Rattle.dtx_base.specs.Joining.{asker}
 use Rattle.model_laws.specs.Members.{Has, contains-from_has, has-from_contains, has-left, has-right}
 use Rattle.model_laws.specs.TargetLaws.{same_number}
-use Rattle.world_commit.specs.attempts.History.{History}
+use Rattle.world_legal.specs.world_commit.attempts.History.{History}
 use Rattle.world_base.specs.declared.letter.Letter.{Letter}
 use Rattle.world_base.specs.declared.request.CommitRequest.{CommitRequest}
 use Rattle.world_base.specs.declared.request.FetchRequest.{FetchRequest}
@@ -38,19 +38,19 @@ use Rattle.world_base.specs.Letters.{Takes, target}
 use Rattle.world_base.specs.Requests.{fetch_message, request_epoch}
 use Rattle.world_letters.specs.clients.Snapshots.{is_at_snapshot}
 use Rattle.world_letters.specs.epochs.Epochs.{AsksEpoch, ClientsStand, Epochs, GoesWith, HasItsEpoch, IsEpochOf, IsIssued, IsOwn, IsReadOf, IsSeen}
-use Rattle.world_commit.specs.fates.Facts.{Attempts, IsAckRight, IsSaidSo}
-use Rattle.world_making.specs.freezings.Freezings.{Freezings}
-use Rattle.world_making.specs.freezings.Seeing.{ANew, AnOld, NamesSnapshot, SeesFrozen, fetches-ask, waiting-see}
-use Rattle.world_causes.specs.handing.Groups.{ClientsAskWithin}
-use Rattle.world_contents.specs.gots.FormLaws.{ops-form}
-use Rattle.world_causes.specs.handing.Dates.{epochs-of_commits}
-use Rattle.world_causes.specs.handing.Places.{snapshots-read}
-use Rattle.world_causes.specs.handing.Handing.{IsAskedBy, IsHandedRight, asked-by, commit-goes}
-use Rattle.world_commit.specs.questions.Facts.{Questions}
-use Rattle.world_contents.specs.reads.Given.{Given, HasReadEpoch, IsCommitRight, IsFetchRight, IsItsSnapshot, IsKept, IsMade, IsMessageRight, IsParkedRight, IsReadEpoch, IsRefusalRight}
-use Rattle.world_contents.specs.reads.Reads.{IsOfAttempt}
+use Rattle.world_legal.specs.world_commit.fates.Facts.{Attempts, IsAckRight, IsSaidSo}
+use Rattle.world_owners.specs.world_making.freezings.Freezings.{Freezings}
+use Rattle.world_owners.specs.world_making.freezings.Seeing.{ANew, AnOld, NamesSnapshot, SeesFrozen, fetches-ask, waiting-see}
+use Rattle.world_legal.specs.world_causes.handing.Groups.{ClientsAskWithin}
+use Rattle.world_legal.specs.world_contents.gots.FormLaws.{ops-form}
+use Rattle.world_legal.specs.world_causes.handing.Dates.{epochs-of_commits}
+use Rattle.world_legal.specs.world_causes.handing.Places.{snapshots-read}
+use Rattle.world_legal.specs.world_causes.handing.Handing.{IsAskedBy, IsHandedRight, asked-by, commit-goes}
+use Rattle.world_legal.specs.world_commit.questions.Facts.{Questions}
+use Rattle.world_legal.specs.world_contents.reads.Given.{Given, HasReadEpoch, IsCommitRight, IsFetchRight, IsItsSnapshot, IsKept, IsMade, IsMessageRight, IsParkedRight, IsReadEpoch, IsRefusalRight}
+use Rattle.world_legal.specs.world_contents.reads.Reads.{IsOfAttempt}
 use Rattle.world_letters.specs.snapshots.Makings.{IsSnapOf, Makings}
-use Rattle.world_standing.specs.standing.Requests.{IsParkedBy, parked-by, read-asked, writes-asked}
+use Rattle.world_legal.specs.world_standing.standing.Requests.{IsParkedBy, parked-by, read-asked, writes-asked}
 use Rattle.world_letters.specs.talks.AskLaws.{asked-commit}
 use Rattle.world_letters.specs.talks.Asked.{Asked, commit_of}
 use Rattle.world_letters.specs.talks.Conversation.{is_fetch_of}
@@ -58,7 +58,7 @@ use Rattle.world_letters.specs.waits.Premises.{RequestsAreOfClients}
 use Rattle.world_letters.specs.waits.Requests.{is_request}
 use Rattle.world_letters.specs.waits.Waits.{ARead, Conversation, HoldsIt, ParkedAt}
 use Rattle.world_upheld.specs.upheld.Begins.{AreBefore}
-use Rattle.world_contents.specs.posts.ScriptForm.{ops-few, writes-in-form, writes-fit}
+use Rattle.world_legal.specs.world_contents.posts.ScriptForm.{ops-few, writes-in-form, writes-fit}
 use Rattle.world_upheld.specs.upheld.Dated.{issued-its, request-its, same-epoch}
 use Rattle.world_upheld.specs.upheld.Named.{made-named, script_snaps, old-named, one-cont, never-both, read-named}
 use Rattle.world_upheld.specs.upheld.Reading.{read-right}

@@ -27,14 +27,14 @@ use Rattle.world_base.specs.Letters.{target}
 use Rattle.world_base.specs.Requests.{fetch_message}
 use Rattle.world_letters.specs.clients.Snapshots.{is_at_snapshot}
 use Rattle.world_letters.specs.epochs.Epochs.{ClientsStand}
-use Rattle.world_contents.specs.gots.FormLaws.{fit-object, ops-form, read-declared}
-use Rattle.world_contents.specs.gots.HearGots.{question-path}
-use Rattle.world_causes.specs.handing.Groups.{ClientsAskWithin, IsWithin}
-use Rattle.world_contents.specs.reads.Given.{IsFetchRight}
+use Rattle.world_legal.specs.world_contents.gots.FormLaws.{fit-object, ops-form, read-declared}
+use Rattle.world_legal.specs.world_contents.gots.HearGots.{question-path}
+use Rattle.world_legal.specs.world_causes.handing.Groups.{ClientsAskWithin, IsWithin}
+use Rattle.world_legal.specs.world_contents.reads.Given.{IsFetchRight}
 use Rattle.world_letters.specs.talks.AskLaws.{asked-read}
 use Rattle.world_letters.specs.talks.Asked.{ARead, ASnapshot, AnAggregation, Asked, AsksRead, ItsWrites, group_of_read}
-use Rattle.world_causes.specs.outcomes.TurnLaws.{attempt-ops-here}
-use Rattle.world_contents.specs.posts.ScriptForm.{read-in-form, question-form}
+use Rattle.world_legal.specs.world_causes.outcomes.TurnLaws.{attempt-ops-here}
+use Rattle.world_legal.specs.world_contents.posts.ScriptForm.{read-in-form, question-form}
 
 -- what a present attempt of a client that waits has asked of a target
 pub record ReadIsAsked (r : Rules) (w : World) (t : ℕ) (f : FetchRequest) : Type 0 where

@@ -10,8 +10,8 @@ use Rattle.dtx_base.specs.Leading.{undecided_attempt}
 use Rattle.dtx_base.specs.Rows.{row_key}
 use Rattle.model_laws.specs.Lists.{none-in}
 use Rattle.model_laws.specs.Members.{Has, has-from_contains}
-use Rattle.world_commit.specs.asks.Entries.{mapped}
-use Rattle.world_commit.specs.attempts.History.{History}
+use Rattle.world_legal.specs.world_commit.asks.Entries.{mapped}
+use Rattle.world_legal.specs.world_commit.attempts.History.{History}
 use Rattle.world_base.specs.declared.client.ClientState.{ClientState}
 use Rattle.world_base.specs.declared.client.Present.{Present}
 use Rattle.world_base.specs.declared.target.TargetState.{TargetState}
@@ -19,7 +19,7 @@ use Rattle.world_base.specs.declared.world.World.{World}
 use Rattle.world_base.specs.ClientTurns.{is_waiting}
 use Rattle.world_base.specs.Events.{Rules, client_plan}
 use Rattle.world_base.specs.Stops.{Begins, Goes, WorldRun}
-use Rattle.world_causes.specs.causes.Shown.{FloorsShown, IsOfBefore}
+use Rattle.world_legal.specs.world_causes.causes.Shown.{FloorsShown, IsOfBefore}
 use Rattle.world_letters.specs.clients.Answered.{EndsAsAnswered, IsAnsweredHere, ops_here}
 use Rattle.world_letters.specs.clients.MoveLaws.{clients-begin}
 use Rattle.base_types.specs.declared.epoch.Epoch.{Epoch}
@@ -27,24 +27,24 @@ use Rattle.base_types.specs.declared.id.AttemptId.{AttemptId}
 use Rattle.world_letters.specs.clients.Snapshots.{is_at_snapshot}
 use Rattle.world_letters.specs.epochs.Epochs.{IsEpochOf}
 use Rattle.world_letters.specs.epochs.EventLaws.{epochs-begin}
-use Rattle.world_making.specs.freezings.Seeing.{SeesFrozen, readers-see}
-use Rattle.world_commit.specs.fates.Keeping.{HasNoneYet}
-use Rattle.world_commit.specs.fates.KeepingLaws.{attempts-begin}
-use Rattle.world_causes.specs.firsts.Events.{firsts-begin}
-use Rattle.world_making.specs.freezings.Events.{freezings-begin}
-use Rattle.world_contents.specs.gots.Gots.{Gots, IsLineServed}
-use Rattle.world_causes.specs.handing.Groups.{ClientsAskWithin, IsWithin}
-use Rattle.world_causes.specs.hearing.Writing.{entries-begin}
+use Rattle.world_owners.specs.world_making.freezings.Seeing.{SeesFrozen, readers-see}
+use Rattle.world_legal.specs.world_commit.fates.Keeping.{HasNoneYet}
+use Rattle.world_legal.specs.world_commit.fates.KeepingLaws.{attempts-begin}
+use Rattle.world_legal.specs.world_causes.firsts.Events.{firsts-begin}
+use Rattle.world_owners.specs.world_making.freezings.Events.{freezings-begin}
+use Rattle.world_legal.specs.world_contents.gots.Gots.{Gots, IsLineServed}
+use Rattle.world_legal.specs.world_causes.handing.Groups.{ClientsAskWithin, IsWithin}
+use Rattle.world_legal.specs.world_causes.hearing.Writing.{entries-begin}
 use Rattle.world_letters.specs.lines.Lines.{AreTheSame, HasLines, Lines}
 use Rattle.world_letters.specs.lives.Events.{lives-begin}
-use Rattle.world_making.specs.makers.Events.{makers-begin}
-use Rattle.world_causes.specs.outcomes.Laws.{outcomes-begin}
-use Rattle.world_making.specs.prunings.Containers.{declared-known}
-use Rattle.world_commit.specs.questions.Happening.{questions-begin}
-use Rattle.world_contents.specs.reads.Given.{Given}
-use Rattle.world_contents.specs.reads.Reads.{Reads}
-use Rattle.world_contents.specs.reads.Versions.{Versions, VersionsStand}
-use Rattle.world_commit.specs.requests.Staying.{requests-begin}
+use Rattle.world_owners.specs.world_making.makers.Events.{makers-begin}
+use Rattle.world_legal.specs.world_causes.outcomes.Laws.{outcomes-begin}
+use Rattle.world_owners.specs.world_making.prunings.Containers.{declared-known}
+use Rattle.world_legal.specs.world_commit.questions.Happening.{questions-begin}
+use Rattle.world_legal.specs.world_contents.reads.Given.{Given}
+use Rattle.world_legal.specs.world_contents.reads.Reads.{Reads}
+use Rattle.world_legal.specs.world_contents.reads.Versions.{Versions, VersionsStand}
+use Rattle.world_legal.specs.world_commit.requests.Staying.{requests-begin}
 use Rattle.world_letters.specs.snapshots.Events.{makings-begin}
 use Rattle.world_letters.specs.waits.Events.{conversations-begin}
 use Rattle.world_letters.specs.waits.Premises.{WaitersAreClients}

@@ -20,11 +20,11 @@ use Rattle.world_base.specs.declared.target.TargetState.{TargetState}
 use Rattle.world_base.specs.declared.world.World.{World}
 use Rattle.world_base.specs.Events.{Rules}
 use Rattle.world_base.specs.Stops.{WorldRun}
-use Rattle.world_commit.specs.attempts.Attempts.{Entries, IsHeld, IsMember, entry_at, entry_in, is_known_at, is_known_in, leader_of}
-use Rattle.world_commit.specs.attempts.History.{Aborted, Decided, History}
-use Rattle.world_commit.specs.attempts.Stored.{among-has, row-found}
-use Rattle.world_commit.specs.fates.Facts.{Attempts, IsSaidSo}
-use Rattle.world_causes.specs.outcomes.Outcomes.{HasWrites, is_failed}
+use Rattle.world_legal.specs.world_commit.attempts.Attempts.{Entries, IsHeld, IsMember, entry_at, entry_in, is_known_at, is_known_in, leader_of}
+use Rattle.world_legal.specs.world_commit.attempts.History.{Aborted, Decided, History}
+use Rattle.world_legal.specs.world_commit.attempts.Stored.{among-has, row-found}
+use Rattle.world_legal.specs.world_commit.fates.Facts.{Attempts, IsSaidSo}
+use Rattle.world_legal.specs.world_causes.outcomes.Outcomes.{HasWrites, is_failed}
 use Rattle.world_upheld.specs.upheld.Begins.{AreRulesInForm, RunBeginsWell}
 use Rattle.world_upheld.specs.upheld.Runs.{runs-have_grounds}
 use Rattle.world_upheld.specs.upheld.Upheld.{Grounds}

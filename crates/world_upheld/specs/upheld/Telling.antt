@@ -8,20 +8,20 @@ use Rattle.base_types.specs.declared.report.Line.TheVariants as line
 use Rattle.base_messages.specs.declared.message.Message.{Message}
 use Rattle.base_messages.specs.declared.message.Message.TheVariants as message
 use Rattle.model_laws.specs.Members.{Has, has-from_map}
-use Rattle.world_commit.specs.attempts.History.{History}
+use Rattle.world_legal.specs.world_commit.attempts.History.{History}
 use Rattle.world_base.specs.declared.world.World.{World}
 use Rattle.world_base.specs.Events.{Rules, kept, target_plan, with_epoch}
 use Rattle.world_base.specs.Roles.{is_prepared}
 use Rattle.world_base.specs.Stops.{AtWork, CutOf, Draws, Fails, Further, GivenUp, Happening, Hearing, HearsMore, IdleWork, IsCut, Opens, Plainly}
-use Rattle.world_commit.specs.fates.Facts.{Attempts}
-use Rattle.world_causes.specs.hearing.Cutting.{turn-silent}
-use Rattle.world_making.specs.making.Making.{IsOfMaking}
-use Rattle.world_making.specs.making.Turns.{cuts-leave}
-use Rattle.world_causes.specs.outcomes.Keeping.{IsOfTarget}
-use Rattle.world_making.specs.prunings.Saying.{AreUntried, says-quietly}
-use Rattle.world_standing.specs.standing.Telling.{TellsNone, cut-tells, silent-tells, targets-tell}
-use Rattle.world_commit.specs.statuses.Heard.{is_of_attempts}
-use Rattle.world_commit.specs.stops.CutEvents.{IsWithoutSnapshots, is_without_snapshots}
+use Rattle.world_legal.specs.world_commit.fates.Facts.{Attempts}
+use Rattle.world_legal.specs.world_causes.hearing.Cutting.{turn-silent}
+use Rattle.world_owners.specs.world_making.making.Making.{IsOfMaking}
+use Rattle.world_owners.specs.world_making.making.Turns.{cuts-leave}
+use Rattle.world_legal.specs.world_causes.outcomes.Keeping.{IsOfTarget}
+use Rattle.world_owners.specs.world_making.prunings.Saying.{AreUntried, says-quietly}
+use Rattle.world_legal.specs.world_standing.standing.Telling.{TellsNone, cut-tells, silent-tells, targets-tell}
+use Rattle.world_legal.specs.world_commit.statuses.Heard.{is_of_attempts}
+use Rattle.world_legal.specs.world_commit.stops.CutEvents.{IsWithoutSnapshots, is_without_snapshots}
 
 -- a line that tells of no attempt tells of none with its epoch
 dated-untried : (issued : List (AttemptId × Epoch)) (ls : List Line) → AreUntried ls → AreUntried (map (with_epoch issued) ls)

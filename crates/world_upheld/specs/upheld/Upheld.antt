@@ -4,24 +4,24 @@ use Rattle.std.specs.Prelude.{ℕ, ◌<◌, List}
 use Rattle.base_messages.specs.declared.message.Post.{Post}
 use Rattle.daos_model.specs.declared.durable.Version.{Version}
 use Rattle.daos_model.specs.Opening.{Opening}
-use Rattle.world_commit.specs.attempts.History.{Grew, GrowsBy, History}
+use Rattle.world_legal.specs.world_commit.attempts.History.{Grew, GrowsBy, History}
 use Rattle.world_base.specs.declared.world.World.{World}
 use Rattle.world_base.specs.Events.{Rules}
 use Rattle.world_base.specs.Stops.{WorldEvent}
-use Rattle.world_causes.specs.causes.Shown.{FloorsShown}
-use Rattle.world_causes.specs.firsts.Firsts.{Firsts}
-use Rattle.world_causes.specs.hearing.Going.{EntriesWrite}
-use Rattle.world_contents.specs.gots.Gots.{Gots}
+use Rattle.world_legal.specs.world_causes.causes.Shown.{FloorsShown}
+use Rattle.world_legal.specs.world_causes.firsts.Firsts.{Firsts}
+use Rattle.world_legal.specs.world_causes.hearing.Going.{EntriesWrite}
+use Rattle.world_legal.specs.world_contents.gots.Gots.{Gots}
 use Rattle.world_letters.specs.lines.Lines.{Endings, Lines}
 use Rattle.world_letters.specs.lives.Lives.{Lives}
-use Rattle.world_making.specs.makers.Makers.{MakersTell}
-use Rattle.world_causes.specs.outcomes.Outcomes.{Outcomes}
-use Rattle.world_making.specs.prunings.Premises.{MakersAreKnown}
-use Rattle.world_contents.specs.reads.Reads.{Reads}
-use Rattle.world_contents.specs.reads.Versions.{Versions}
-use Rattle.world_commit.specs.requests.Rows.{RowsStandOnce}
-use Rattle.world_commit.specs.statuses.Events.{told_by}
-use Rattle.world_commit.specs.statuses.Senders.{SendersAreRight}
+use Rattle.world_owners.specs.world_making.makers.Makers.{MakersTell}
+use Rattle.world_legal.specs.world_causes.outcomes.Outcomes.{Outcomes}
+use Rattle.world_owners.specs.world_making.prunings.Premises.{MakersAreKnown}
+use Rattle.world_legal.specs.world_contents.reads.Reads.{Reads}
+use Rattle.world_legal.specs.world_contents.reads.Versions.{Versions}
+use Rattle.world_legal.specs.world_commit.requests.Rows.{RowsStandOnce}
+use Rattle.world_legal.specs.world_commit.statuses.Events.{told_by}
+use Rattle.world_legal.specs.world_commit.statuses.Senders.{SendersAreRight}
 use Rattle.world_upheld.specs.upheld.Heard.{HeardGrounds}
 use Rattle.world_upheld.specs.upheld.Begins.{AreBefore}
 

@@ -2,7 +2,7 @@ use Rattle.std.specs.Prelude.{◌≡◌, length}
 use Rattle.std.proofs.Common.{◌∙◌, ap, arith, subst, sym}
 use Rattle.daos_run.specs.Slots.{AreApart, AreSetBack}
 use Rattle.daos_run.proofs.Opened.{are-new, are-stores, called-err, called-ok, each-runs, may-stop, none-again, none-left, take-first}
-use Rattle.run_opening.specs.All.{AreKept, MayBeFound}
+use Rattle.run_starts.specs.run_opening.All.{AreKept, MayBeFound}
 use Rattle.run_starts.specs.Starts.{AreOpened}
 use Rattle.run_targets.specs.Ends.{declared_conts}
 use Rattle.daos_run.proofs.opening.open_parts.Goals as goal

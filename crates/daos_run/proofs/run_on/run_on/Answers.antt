@@ -15,7 +15,7 @@ use Rattle.daos_run.proofs.Started.{all-set, run-clocks, run-gone, run-read, run
 use Rattle.daos_run.proofs.Whole.{all-tell, break-off, can-start, come-by_clocks, come-from, may-start, started, told-first}
 use Rattle.report_round_trip.specs.Values.{AllTellBytes}
 use Rattle.run_targets.specs.Below.{AllTellInOrder}
-use Rattle.run_opening.specs.All.{MayBeFound}
+use Rattle.run_starts.specs.run_opening.All.{MayBeFound}
 use Rattle.run_targets.specs.Ends.{BreaksOffSo, ComesByClocks, ComesTo, stores_of, declared_conts}
 use Rattle.world_letters.specs.kinds.Fitting.{AllAnswersFit}
 use Rattle.daos_run.proofs.run_on.run_on.Goals as goal

@@ -1,6 +1,6 @@
 use Rattle.std.proofs.Common.{◌∙◌, ap, subst, sym}
 use Rattle.daos_model.specs.Forms.{AreWritesInForm}
-use Rattle.world_contents.specs.reads.ListLaws.{some-in_form}
+use Rattle.target_writes.specs.world_contents.reads.ListLaws.{some-in_form}
 use Rattle.world_base.specs.Commits.{is_own, own_writes}
 use Rattle.replay_base.proofs.Starts.{if_ok}
 use Rattle.replay_writes.proofs.Instances.{commit_decides}

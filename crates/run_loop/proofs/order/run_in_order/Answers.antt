@@ -2,8 +2,8 @@ use Rattle.std.proofs.Common.{arith, subst, sym}
 use Rattle.run_loop.proofs.Turns.{few-targets}
 use Rattle.run_stage.specs.Below.{AllBeginInTurn, AllTellInOrder, AreAccounted, HasRunWith, all-begin, can-reopen, has-run, left-accounted, left_of}
 use Rattle.run_stage.specs.Now.{stage_now}
-use Rattle.world_ended.specs.Clients.{AllEndWell}
-use Rattle.world_letters.specs.kinds.Fitting.{AllAnswersFit}
+use Rattle.run_stage.specs.world_ended.Clients.{AllEndWell}
+use Rattle.run_stage.specs.world_letters.kinds.Fitting.{AllAnswersFit}
 use Rattle.run_loop.proofs.order.run_in_order.Goals as goal
 
 pub go-went-requires-clause-few_targets : goal.go-went-requires-clause-few_targets

@@ -8,8 +8,8 @@ use Rattle.run_laws.specs.shows.KindsLaws.{heard-once, idle-once}
 use Rattle.run_laws.specs.shows.Turned.{ByHearing, ByIdling}
 use Rattle.run_laws.specs.turns.Readings.{gives-none, heard-gives}
 use Rattle.run_stage.proofs.Working.{only-messages}
-use Rattle.target_core.specs.HeardLaws.{held-of_target}
-use Rattle.target_parts.specs.Readings.{IsReadOn, not-read_on}
+use Rattle.run_laws.specs.target_core.HeardLaws.{held-of_target}
+use Rattle.run_laws.specs.target_parts.Readings.{IsReadOn, not-read_on}
 use Rattle.run_stage.proofs.work.hear_or_idle.Goals as goal
 
 pub hear-requires-clause-form : goal.hear-requires-clause-form

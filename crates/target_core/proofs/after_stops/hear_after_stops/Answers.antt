@@ -1,5 +1,5 @@
-use Rattle.world_ended.specs.Asking.{GoesWith}
-use Rattle.world_ended.specs.TurnLaws.{posts-end}
+use Rattle.target_reads.specs.world_ended.Asking.{GoesWith}
+use Rattle.target_reads.specs.world_ended.TurnLaws.{posts-end}
 use Rattle.std.proofs.Common.{◌≡◌, ◌∙◌, ap, false, subst, sym, [], refl}
 use Rattle.base_messages.specs.declared.message.Message.{Reset}
 use Rattle.target_parts.specs.Knowing.{memory_of}
@@ -8,7 +8,7 @@ use Rattle.snap_core.specs.Snaps.{remembered}
 use Rattle.world_base.specs.Statuses.{ask_left, reset_left, status_left, status_refusal}
 use Rattle.target_core.proofs.Beside.{ack-beside, looked-beside}
 use Rattle.target_core.proofs.Heard.{hears-ask, hears-reset, hears-status, hears-status_is, reset-form}
-use Rattle.world_letters.specs.kinds.TurnLaws.{turn-carries}
+use Rattle.target_reads.specs.world_letters.kinds.TurnLaws.{turn-carries}
 use Rattle.target_core.proofs.after_stops.hear_after_stops.Goals as goal
 
 pub hear_reset-requires-clause-one : goal.hear_reset-requires-clause-one

@@ -1,4 +1,4 @@
-use Rattle.world_ended.specs.Asking.{GoesWith}
+use Rattle.target_reads.specs.world_ended.Asking.{GoesWith}
 use Rattle.std.proofs.Common.{is_some, subst, sym, ◌∷◌, []}
 use Rattle.target_parts.specs.Readings.{IsReadBy, read-by}
 use Rattle.target_parts.specs.Knowing.{memory_of}
@@ -7,9 +7,9 @@ use Rattle.snap_core.specs.Snaps.{remembered}
 use Rattle.world_base.specs.TargetTurns.{fetch_request}
 use Rattle.target_core.proofs.Beside.{fetch-beside}
 use Rattle.target_core.proofs.Heard.{hears-fetch}
-use Rattle.world_letters.specs.kinds.TurnLaws.{turn-heard}
+use Rattle.target_reads.specs.world_letters.kinds.TurnLaws.{turn-heard}
 use Rattle.std.specs.Prelude.{IfOk}
-use Rattle.world_letters.specs.kinds.Loads.{AnswersOnce}
+use Rattle.target_reads.specs.world_letters.kinds.Loads.{AnswersOnce}
 use Rattle.target_core.proofs.hearing.hear_client.Goals as goal
 
 pub hear_fetch-requires-clause-enlisted : goal.hear_fetch-requires-clause-enlisted

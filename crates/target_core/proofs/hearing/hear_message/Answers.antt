@@ -1,7 +1,7 @@
 use Rattle.std.proofs.Common.{◌∙◌, sym}
 use Rattle.target_parts.specs.Knowing.{memory_of}
 use Rattle.target_core.proofs.Posting.{form-making, leads-end, leads-post, turn-tells}
-use Rattle.world_letters.specs.kinds.TurnLaws.{turn-heard}
+use Rattle.target_reads.specs.world_letters.kinds.TurnLaws.{turn-heard}
 use Rattle.target_core.proofs.hearing.hear_message.Goals as goal
 
 pub hear_making-requires-clause-form : goal.hear_making-requires-clause-form

@@ -1,6 +1,6 @@
 use Rattle.std.proofs.Common.{◌∙◌, sym}
 use Rattle.target_core.proofs.Posting.{form-after_stops}
-use Rattle.world_letters.specs.kinds.TurnLaws.{turn-heard}
+use Rattle.target_reads.specs.world_letters.kinds.TurnLaws.{turn-heard}
 use Rattle.target_core.proofs.hearing.hear_other.Goals as goal
 
 pub returns-then-is_after_stops-clause-reads : goal.returns-then-is_after_stops-clause-reads

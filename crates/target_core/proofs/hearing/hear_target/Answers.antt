@@ -1,5 +1,5 @@
-use Rattle.world_ended.specs.Asking.{GoesWith}
-use Rattle.world_ended.specs.TurnLaws.{posts-end}
+use Rattle.target_reads.specs.world_ended.Asking.{GoesWith}
+use Rattle.target_reads.specs.world_ended.TurnLaws.{posts-end}
 use Rattle.std.proofs.Common.{◌∙◌, ap, subst, sym, refl, ◌∷◌, []}
 use Rattle.base_messages.specs.declared.message.Message.TheVariants.{Mark, Marked}
 use Rattle.target_parts.specs.Knowing.{memory_of}
@@ -8,7 +8,7 @@ use Rattle.snap_core.specs.Snaps.{remembered}
 use Rattle.world_base.specs.TargetTurns.{prepare_request}
 use Rattle.target_core.proofs.Beside.{ack-beside, mark-beside, marked-beside, prepare-beside, query-beside, verdict-beside}
 use Rattle.target_core.proofs.Heard.{hears-ack, hears-mark, hears-marked, hears-prepare, hears-query, hears-verdict}
-use Rattle.world_letters.specs.kinds.TurnLaws.{turn-carries, turn-heard}
+use Rattle.target_reads.specs.world_letters.kinds.TurnLaws.{turn-carries, turn-heard}
 use Rattle.target_core.proofs.hearing.hear_target.Goals as goal
 
 pub hear_prepare-requires-clause-here : goal.hear_prepare-requires-clause-here

@@ -1,13 +1,13 @@
 use Rattle.std.proofs.Common.{[], ◌∙◌, ap, false, refl, subst, sym}
 use Rattle.base_messages.specs.declared.message.Message.{Reset}
 use Rattle.snap_core.specs.Snaps.{remembered}
-use Rattle.world_contents.specs.posts.Forms.{IsCollecting}
-use Rattle.world_ended.specs.Asking.{AsksSo, GoesWith}
+use Rattle.target_parts.specs.world_contents.posts.Forms.{IsCollecting}
+use Rattle.target_reads.specs.world_ended.Asking.{AsksSo, GoesWith}
 use Rattle.target_parts.specs.Ending.{some_reading}
 use Rattle.target_parts.specs.Knowing.{memory_of}
 use Rattle.target_parts.specs.Readings.{IsReadBy, not-read-by, read-by}
 use Rattle.target_snaps.specs.HeldTurns.{HeldTurn}
-use Rattle.world_letters.specs.kinds.TurnLaws.{turn-carries}
+use Rattle.target_reads.specs.world_letters.kinds.TurnLaws.{turn-carries}
 use Rattle.target_core.specs.Targets.{CanHear, HasFormOfMaking, HearsOrStops, has_epoch, is_collecting, is_of_client}
 use Rattle.target_core.proofs.Heard.{collects-so, hears-freeze, hears-held, hears-loss, hears-snap, making-form, reset-goes_with}
 use Rattle.target_core.proofs.Posting.{always, answers-end, answers-post, makes-end, makes-post, waits-still}

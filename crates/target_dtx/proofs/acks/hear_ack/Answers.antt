@@ -15,10 +15,10 @@ use Rattle.target_parts.specs.Standing.{target-beside}
 use Rattle.target_dtx.proofs.Acking.{ack-cut, ack-done, leads-acked, refused-apart, refused-can, step, stepped}
 use Rattle.dtx_base.specs.Leading.{ack_heard}
 use Rattle.dtx_table.specs.Seats.{leader_of}
-use Rattle.world_contents.specs.posts.Posting.{acks-post-in-form, posted-by}
+use Rattle.target_parts.specs.world_contents.posts.Posting.{acks-post-in-form, posted-by}
 use Rattle.vos_store.specs.Refusals.{always_stop}
-use Rattle.world_letters.specs.kinds.TurnLaws.{sent-by, unread-answers}
-use Rattle.world_letters.specs.kinds.PostLaws.{acks-carry}
+use Rattle.world_ended.specs.world_letters.kinds.TurnLaws.{sent-by, unread-answers}
+use Rattle.world_ended.specs.world_letters.kinds.PostLaws.{acks-carry}
 use Rattle.target_dtx.proofs.acks.hear_ack.Goals as goal
 
 pub returns-in_err-posts-clause-turn : goal.returns-in_err-posts-clause-turn

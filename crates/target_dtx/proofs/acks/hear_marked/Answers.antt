@@ -13,11 +13,11 @@ use Rattle.target_parts.specs.Stops.{never, stop_memory}
 use Rattle.target_parts.specs.Turning.{now_partway}
 use Rattle.target_parts.specs.Standing.{target-beside}
 use Rattle.target_dtx.proofs.Confirming.{confirms-done, leads-marked}
-use Rattle.world_contents.specs.posts.Forms.{TargetPosts}
-use Rattle.world_contents.specs.posts.Posting.{none-posted, waits-on}
+use Rattle.target_parts.specs.world_contents.posts.Forms.{TargetPosts}
+use Rattle.target_parts.specs.world_contents.posts.Posting.{none-posted, waits-on}
 use Rattle.vos_store.specs.Refusals.{always_stop}
-use Rattle.world_letters.specs.kinds.TurnLaws.{unread-answers}
-use Rattle.world_letters.specs.kinds.PostLaws.{CarryNone, none-carried}
+use Rattle.world_ended.specs.world_letters.kinds.TurnLaws.{unread-answers}
+use Rattle.world_ended.specs.world_letters.kinds.PostLaws.{CarryNone, none-carried}
 use Rattle.target_dtx.proofs.acks.hear_marked.Goals as goal
 
 pub returns-in_err-hear_marked-clause-turn : goal.returns-in_err-hear_marked-clause-turn

@@ -8,7 +8,7 @@ use Rattle.target_parts.specs.Standing.{target-kept}
 use Rattle.target_dtx.proofs.Idling.{idles-told}
 use Rattle.target_dtx.proofs.Posting.{settled-posts}
 use Rattle.vos_store.specs.Refusals.{always_stop}
-use Rattle.world_letters.specs.kinds.TurnLaws.{turn-on}
+use Rattle.world_ended.specs.world_letters.kinds.TurnLaws.{turn-on}
 use Rattle.target_dtx.proofs.idle.idle_work.Goals as goal
 
 pub returns-in-Err-clause-target : goal.returns-in-Err-clause-target

@@ -5,11 +5,11 @@ use Rattle.std.proofs.Common.{◌∙◌, ap, refl, subst, sym, []}
 use Rattle.dtx_base.specs.Leading.{batched}
 use Rattle.dtx_table.specs.Seats.{leader_of}
 use Rattle.target_dtx.proofs.Telling.{asks-leave, batch-named, leads-told, nothing-asked, own-told}
-use Rattle.world_contents.specs.posts.Forms.{PostsInForm}
-use Rattle.world_contents.specs.posts.Posting.{and-more, batches-post-in-form, posted-by}
+use Rattle.target_parts.specs.world_contents.posts.Forms.{PostsInForm}
+use Rattle.target_parts.specs.world_contents.posts.Posting.{and-more, batches-post-in-form, posted-by}
 use Rattle.target_parts.specs.Standing.{target-known}
-use Rattle.world_letters.specs.kinds.TurnLaws.{sent-by, unread-answers}
-use Rattle.world_letters.specs.kinds.PostLaws.{CarryNone, batches-carry, both-carry}
+use Rattle.world_ended.specs.world_letters.kinds.TurnLaws.{sent-by, unread-answers}
+use Rattle.world_ended.specs.world_letters.kinds.PostLaws.{CarryNone, batches-carry, both-carry}
 use Rattle.target_dtx.proofs.Posting.{asks-carry-none}
 use Rattle.target_dtx.proofs.idle.tell.Goals as goal
 

@@ -16,10 +16,10 @@ use Rattle.target_parts.specs.Stops.{never, stop_memory}
 use Rattle.target_parts.specs.Turning.{now_partway}
 use Rattle.target_parts.specs.Standing.{target-kept}
 use Rattle.target_dtx.proofs.Marking.{marks-done}
-use Rattle.world_contents.specs.posts.Forms.{TargetPosts}
-use Rattle.world_contents.specs.posts.Posting.{one-posted, to-other}
+use Rattle.target_parts.specs.world_contents.posts.Forms.{TargetPosts}
+use Rattle.target_parts.specs.world_contents.posts.Posting.{one-posted, to-other}
 use Rattle.vos_store.specs.Refusals.{always_stop}
-use Rattle.world_letters.specs.kinds.TurnLaws.{says-none, unread-answers}
+use Rattle.world_ended.specs.world_letters.kinds.TurnLaws.{says-none, unread-answers}
 use Rattle.target_parts.specs.declared.stop.TargetStop.{TargetStop}
 use Rattle.target_dtx.proofs.marks.hear_mark.Goals as goal
 

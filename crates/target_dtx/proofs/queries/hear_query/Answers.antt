@@ -10,7 +10,7 @@ use Rattle.world_base.specs.Verdicts.{verdict_message}
 use Rattle.target_parts.specs.Knowing.{memory_of}
 use Rattle.target_parts.specs.KnowsLaws.{leader-known}
 use Rattle.target_dtx.proofs.Answering.{answers-so}
-use Rattle.world_letters.specs.kinds.TurnLaws.{says-none}
+use Rattle.world_ended.specs.world_letters.kinds.TurnLaws.{says-none}
 use Rattle.target_dtx.proofs.queries.hear_query.Goals as goal
 
 pub returns-clause-turn : goal.returns-clause-turn

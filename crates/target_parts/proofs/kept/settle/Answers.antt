@@ -1,7 +1,7 @@
 use Rattle.std.proofs.Common.{◌≡◌, ◌∙◌, Err, ap, refl, rules, subst, sym}
 use Rattle.std.specs.Option.{option_map}
 use Rattle.daos_model.specs.Changes.{settled}
-use Rattle.world_base.specs.Changes.{Settles}
+use Rattle.world_contents.specs.world_base.Changes.{Settles}
 use Rattle.target_parts.specs.Cover.{was_cut}
 use Rattle.target_parts.specs.Keeping.{MadeOrCut}
 use Rattle.target_parts.proofs.Prepared.{step-of_table}

@@ -1,6 +1,6 @@
 use Rattle.std.proofs.Common.{refl, rules}
-use Rattle.world_base.specs.Changes.{Settles}
-use Rattle.world_base.specs.Roles.{is_prepared}
+use Rattle.world_contents.specs.world_base.Changes.{Settles}
+use Rattle.world_contents.specs.world_base.Roles.{is_prepared}
 use Rattle.target_parts.specs.KeepingLaws.{forgotten-apart, leads-forgotten}
 use Rattle.target_parts.specs.Knowing.{memory_of}
 use Rattle.target_parts.specs.MadeLaws.{leads-after_step, made-did, made-not}

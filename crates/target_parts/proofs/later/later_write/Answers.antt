@@ -1,5 +1,5 @@
 use Rattle.std.proofs.Common.{◌≡◌, ◌∙◌, refl}
-use Rattle.world_base.specs.Reads.{uncertain_to}
+use Rattle.world_contents.specs.world_base.Reads.{uncertain_to}
 use Rattle.vos_store.specs.Answers.{later_write}
 use Rattle.target_parts.specs.Later.{later_capped, later_none_capped}
 use Rattle.target_parts.proofs.later.later_write.Goals as goal

@@ -13,8 +13,8 @@ use Rattle.target_parts.specs.Running.{for_some_on, runs_first, runs_on, still_r
 use Rattle.target_parts.specs.Stops.{Turn, never, stop_memory, stop_store}
 use Rattle.target_reads.specs.Again.{AreHere, AreParkable}
 use Rattle.target_reads.proofs.Verdicts.{first-removed, partway-from, tried-all, tried-here, tried-stops, tried-whole}
-use Rattle.world_contents.specs.posts.Forms.{PostsInForm}
-use Rattle.world_contents.specs.posts.Posting.{then-posts, waits-on}
+use Rattle.target_parts.specs.world_contents.posts.Forms.{PostsInForm}
+use Rattle.target_parts.specs.world_contents.posts.Posting.{then-posts, waits-on}
 use Rattle.target_reads.proofs.Carrying.{tried-each, tried-none, tried-one}
 use Rattle.target_reads.proofs.again.try_again.Goals as goal
 use Rattle.world_base.specs.PathLaws.{reached-here}

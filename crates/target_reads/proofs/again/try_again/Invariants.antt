@@ -11,7 +11,7 @@ use Rattle.world_base.specs.Verdicts.{Freed, VerdictNext}
 use Rattle.target_parts.specs.Knowing.{memory_of}
 use Rattle.target_parts.specs.Parts.{Now, StillRuns, kept}
 use Rattle.target_parts.specs.Standing.{IsTarget}
-use Rattle.world_contents.specs.posts.Forms.{PostsInForm}
+use Rattle.target_parts.specs.world_contents.posts.Forms.{PostsInForm}
 use Rattle.target_reads.specs.Again.{AreHere, AreParkable}
 use Rattle.target_reads.proofs.Carrying.{TriedSoFar}
 use Rattle.target_reads.proofs.again.try_again.Given as goal

@@ -6,7 +6,7 @@ use Rattle.daos_model.specs.Changes.{leased}
 use Rattle.daos_model.specs.Durables.{is_enlisted}
 use Rattle.world_base.specs.Requests as asked
 use Rattle.world_base.specs.Reads.{Reading}
-use Rattle.world_contents.specs.posts.Forms.{is_told}
+use Rattle.target_parts.specs.world_contents.posts.Forms.{is_told}
 use Rattle.target_parts.specs.Covers.{heard_of}
 use Rattle.target_parts.specs.KeepingLaws.{enlisted-leased}
 use Rattle.target_parts.specs.Knowing.{memory_of}

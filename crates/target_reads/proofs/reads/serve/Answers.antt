@@ -17,7 +17,7 @@ use Rattle.target_parts.specs.Knowing.{LeadsWell, memory_of}
 use Rattle.target_parts.specs.Parts.{Now, StillRuns, kept, left_by}
 use Rattle.target_parts.specs.Running.{for_some_on, runs_as, runs_first, runs_on, still_runs}
 use Rattle.target_parts.specs.Turning.{part_asked, part_cut}
-use Rattle.dtx_table.specs.Tables.{entry_in}
+use Rattle.target_parts.specs.dtx_table.Tables.{entry_in}
 use Rattle.target_parts.specs.KnowsLaws.{decided-on}
 use Rattle.world_base.specs.Roles.{other_leader_of}
 use Rattle.target_reads.specs.Meets.{Meets, beside_of}

@@ -1,12 +1,12 @@
-use Rattle.world_ended.specs.PostLaws.{asks-end}
-use Rattle.world_ended.specs.TurnLaws.{sent-by as ends-by}
+use Rattle.target_dtx.specs.world_ended.PostLaws.{asks-end}
+use Rattle.target_dtx.specs.world_ended.TurnLaws.{sent-by as ends-by}
 use Rattle.std.proofs.Common.{◌≡◌, ◌∙◌, Err, ap, refl, rules, []}
 use Rattle.dtx_base.specs.Asking.{ask_heard}
-use Rattle.dtx_table.specs.Seats.{leader_of}
+use Rattle.dtx_resync.specs.dtx_table.Seats.{leader_of}
 use Rattle.world_base.specs.declared.did.Did.{Did}
 use Rattle.world_base.specs.declared.target.TargetMemory.{TargetMemory}
 use Rattle.world_base.specs.Statuses.{ask_left}
-use Rattle.world_contents.specs.posts.Posting.{posted-by}
+use Rattle.target_parts.specs.world_contents.posts.Posting.{posted-by}
 use Rattle.target_parts.specs.Knowing.{memory_of}
 use Rattle.target_parts.specs.KnowsLaws.{leader-known}
 use Rattle.target_parts.specs.Parts.{kept}
@@ -14,8 +14,8 @@ use Rattle.target_parts.specs.Standing.{target-known}
 use Rattle.target_parts.specs.Stops.{stop_memory}
 use Rattle.target_resync.proofs.Asking.{ask-left, ask-posts, asked-rows}
 use Rattle.target_resync.proofs.Silent.{silent-done, silent-wanting}
-use Rattle.world_letters.specs.kinds.TurnLaws.{sent-by, unread-answers}
-use Rattle.world_letters.specs.kinds.PostLaws.{asks-carry}
+use Rattle.target_dtx.specs.world_letters.kinds.TurnLaws.{sent-by, unread-answers}
+use Rattle.target_dtx.specs.world_letters.kinds.PostLaws.{asks-carry}
 use Rattle.target_resync.proofs.asks.hear_ask.Goals as goal
 
 pub returns-in_err-posts-clause-turn : goal.returns-in_err-posts-clause-turn

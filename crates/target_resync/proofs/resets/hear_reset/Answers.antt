@@ -1,6 +1,6 @@
 use Rattle.target_resync.proofs.Resetting.{reset-ends}
 use Rattle.std.proofs.Common.{◌≡◌, ◌∙◌, Err, ap, refl, rules}
-use Rattle.dtx_table.specs.Seats.{leader_of}
+use Rattle.dtx_resync.specs.dtx_table.Seats.{leader_of}
 use Rattle.world_base.specs.declared.did.Did.{Did}
 use Rattle.world_base.specs.declared.target.TargetMemory.{TargetMemory}
 use Rattle.world_base.specs.Statuses.{reset_left}
@@ -11,8 +11,8 @@ use Rattle.target_parts.specs.Standing.{target-known}
 use Rattle.target_parts.specs.Stops.{stop_memory}
 use Rattle.target_resync.proofs.Resetting.{freed-by, leads-reset, member-known, nothing-freed, own-reset, reset-left_so, reset-posts, rows-by}
 use Rattle.target_resync.proofs.Silent.{silent-done, silent-wanting}
-use Rattle.world_letters.specs.kinds.TurnLaws.{reset-answers, sent-by}
-use Rattle.world_letters.specs.kinds.PostLaws.{resets-carry}
+use Rattle.target_dtx.specs.world_letters.kinds.TurnLaws.{reset-answers, sent-by}
+use Rattle.target_dtx.specs.world_letters.kinds.PostLaws.{resets-carry}
 use Rattle.dtx_base.specs.Leading.{reset_heard}
 use Rattle.target_resync.proofs.resets.hear_reset.Goals as goal
 

@@ -1,15 +1,15 @@
-use Rattle.world_ended.specs.Asking.{LeavesWith}
-use Rattle.world_ended.specs.PostLaws.{openings-end}
+use Rattle.target_dtx.specs.world_ended.Asking.{LeavesWith}
+use Rattle.target_dtx.specs.world_ended.PostLaws.{openings-end}
 use Rattle.std.proofs.Common.{◌≡◌, ◌<◌, ◌^◌, ◌-◌, ◌∙◌, ap, filter, min, subst, sym, Some, []}
 use Rattle.base_types.specs.Epochs.{restart_floor}
 use Rattle.daos_model.specs.declared.durable.Durable.{Durable}
 use Rattle.dtx_base.specs.Leading.{first_memory, is_led, is_open}
 use Rattle.world_base.specs.Statuses.{opening_memory}
-use Rattle.world_contents.specs.posts.AfterStops.{openings-post-in-form}
-use Rattle.world_contents.specs.posts.Forms.{Follows}
+use Rattle.target_parts.specs.world_contents.posts.AfterStops.{openings-post-in-form}
+use Rattle.target_parts.specs.world_contents.posts.Forms.{Follows}
 use Rattle.target_parts.specs.Running.{told-before}
 use Rattle.target_resync.proofs.Opened.{did-first, heard-raised, leads-first, memory-first, opening-is, own-first, target-first}
-use Rattle.world_letters.specs.kinds.PostLaws.{CarryNone, statuses-carry}
+use Rattle.target_dtx.specs.world_letters.kinds.PostLaws.{CarryNone, statuses-carry}
 use Rattle.target_resync.proofs.restarts.restart.Goals as goal
 
 pub returns-clause-opened : goal.returns-clause-opened

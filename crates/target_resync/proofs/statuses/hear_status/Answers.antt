@@ -1,17 +1,17 @@
-use Rattle.world_ended.specs.TurnLaws.{says-posts}
+use Rattle.target_dtx.specs.world_ended.TurnLaws.{says-posts}
 use Rattle.std.proofs.Common.{◌≡◌, ◌∙◌, List, None, ap, refl}
 use Rattle.base_types.specs.declared.entry.Entry.{Entry}
 use Rattle.base_types.specs.declared.entry.EntryState.{EntryState}
 use Rattle.base_messages.specs.declared.message.Message.TheVariants.{StatusIs}
 use Rattle.daos_model.specs.Durables.{entry_of}
-use Rattle.dtx_table.specs.Tables.{entry_in}
+use Rattle.dtx_resync.specs.dtx_table.Tables.{entry_in}
 use Rattle.world_base.specs.declared.did.Did.{Did}
 use Rattle.world_base.specs.declared.target.TargetMemory.{TargetMemory}
 use Rattle.world_base.specs.Requests.{says}
 use Rattle.world_base.specs.Statuses.{state_of, status_left}
 use Rattle.target_parts.specs.Knowing.{memory_of}
 use Rattle.target_resync.proofs.Silent.{silent-said}
-use Rattle.world_letters.specs.kinds.TurnLaws.{says-none}
+use Rattle.target_dtx.specs.world_letters.kinds.TurnLaws.{says-none}
 use Rattle.target_resync.proofs.statuses.hear_status.Goals as goal
 
 pub returns-clause-turn : goal.returns-clause-turn

@@ -1,6 +1,6 @@
 use Rattle.std.proofs.Common.{subst, sym}
-use Rattle.world_ended.specs.Asking.{AreRefusals}
-use Rattle.world_ended.specs.PostLaws.{statuses-refuse}
+use Rattle.target_dtx.specs.world_ended.Asking.{AreRefusals}
+use Rattle.target_dtx.specs.world_ended.PostLaws.{statuses-refuse}
 use Rattle.target_resync.proofs.statuses.hear_status_is.Goals as goal
 
 pub returns-clause-ends : goal.returns-clause-ends

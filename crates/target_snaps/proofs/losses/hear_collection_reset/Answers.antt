@@ -9,7 +9,7 @@ use Rattle.target_snaps.proofs.Begun.{on-any}
 use Rattle.target_snaps.proofs.HeldFollowing.{lost-within, reset-goes, reset-in_form, reset-reads}
 use Rattle.daos_model.specs.Attempts.{tries}
 use Rattle.world_base.specs.declared.did.Did.{Did}
-use Rattle.world_letters.specs.kinds.PostLaws.{CarryNone}
+use Rattle.world_ended.specs.world_letters.kinds.PostLaws.{CarryNone}
 use Rattle.target_snaps.specs.Following.{MakesAsked, MakesInForm}
 use Rattle.target_snaps.proofs.losses.hear_collection_reset.Goals as goal
 

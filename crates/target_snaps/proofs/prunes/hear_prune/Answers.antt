@@ -7,9 +7,9 @@ use Rattle.target_snaps.proofs.PruneTurns.{known-settled, prune-halted, prune-se
 use Rattle.target_snaps.proofs.Following.{answer-form, answer-goes, holds-then, none-answered, one-carries, told-follows, told-stop}
 use Rattle.target_snaps.proofs.Begun.{told-prune}
 use Rattle.world_base.specs.Snapshots.{to_actor}
-use Rattle.world_letters.specs.kinds.PostLaws.{CarryNone}
+use Rattle.world_ended.specs.world_letters.kinds.PostLaws.{CarryNone}
 use Rattle.target_parts.specs.declared.knows.Knows.{Knows}
-use Rattle.world_contents.specs.posts.Forms.{TargetPosts}
+use Rattle.target_parts.specs.world_contents.posts.Forms.{TargetPosts}
 use Rattle.world_ended.specs.Asking.{PostsGoWith}
 use Rattle.target_parts.specs.declared.halt.Halt.TheVariants as halt
 use Rattle.base_messages.specs.declared.message.Message.TheVariants as message

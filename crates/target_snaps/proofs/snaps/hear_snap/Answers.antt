@@ -15,7 +15,7 @@ use Rattle.std.proofs.lemmas.Result.{IfOk-weaker}
 use Rattle.daos_model.specs.Attempts.{tries}
 use Rattle.base_types.specs.declared.outcome.Outcome.TheVariants.{EpochsSpent}
 use Rattle.world_base.specs.Snapshots.{to_actor}
-use Rattle.world_letters.specs.kinds.PostLaws.{CarryNone}
+use Rattle.world_ended.specs.world_letters.kinds.PostLaws.{CarryNone}
 use Rattle.target_parts.specs.declared.knows.Knows.{Knows}
 use Rattle.target_parts.specs.declared.halt.Halt.TheVariants as halt
 use Rattle.base_messages.specs.declared.message.Message.TheVariants as message

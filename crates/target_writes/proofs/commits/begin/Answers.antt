@@ -3,14 +3,14 @@ use Rattle.world_ended.specs.TurnLaws.{sent-by as ends-by}
 use Rattle.base_types.specs.declared.entry.Entry.{Entry}
 use Rattle.std.proofs.Common.{◌≡◌, ◌∙◌, [], ap, refl, subst, sym, true}
 use Rattle.dtx_base.specs.Leading.{begun}
-use Rattle.dtx_table.specs.Seats.{came, leader_of}
+use Rattle.target_members.specs.dtx_table.Seats.{came, leader_of}
 use Rattle.world_base.specs.Requests.{sends}
 use Rattle.target_parts.specs.Knowing.{AreRowsOpen, IsApart, IsOpenHere, memory_of}
 use Rattle.target_parts.specs.Standing.{target-on}
 use Rattle.target_writes.proofs.Beginning.{begun-here, begun-rows, begun-told}
 use Rattle.target_writes.proofs.Posting.{begun-posts}
-use Rattle.world_letters.specs.kinds.TurnLaws.{sent-by, unread-answers}
-use Rattle.world_letters.specs.kinds.PostLaws.{beginnings-carry}
+use Rattle.world_ended.specs.world_letters.kinds.TurnLaws.{sent-by, unread-answers}
+use Rattle.world_ended.specs.world_letters.kinds.PostLaws.{beginnings-carry}
 use Rattle.target_writes.proofs.commits.begin.Goals as goal
 
 pub returns-clause-begun : goal.returns-clause-begun

@@ -25,8 +25,8 @@ use Rattle.target_writes.specs.Turns.{begun_of}
 use Rattle.target_writes.proofs.Beginning.{writes-own}
 use Rattle.target_writes.proofs.CommitTurns.{commit-goes, commit-halted, commit-told, prepares-as}
 use Rattle.target_writes.proofs.Owning.{led-preparable}
-use Rattle.world_contents.specs.posts.Forms.{is_told}
-use Rattle.world_letters.specs.kinds.TurnLaws.{is_of_read, says-none, turn-carries, turn-on}
+use Rattle.target_parts.specs.world_contents.posts.Forms.{is_told}
+use Rattle.world_ended.specs.world_letters.kinds.TurnLaws.{is_of_read, says-none, turn-carries, turn-on}
 use Rattle.target_writes.proofs.commits.commit_at.Goals as goal
 
 pub returns-in_err-entry-clause-turn : goal.returns-in_err-entry-clause-turn

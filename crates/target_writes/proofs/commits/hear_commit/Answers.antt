@@ -4,7 +4,7 @@ use Rattle.std.proofs.Common.{inl, subst, ◌≡◌, ◌∙◌, ◌/◌, ◌<◌
 use Rattle.daos_model.specs.Changes.{leased}
 use Rattle.world_base.specs.Commits.{led_entry, own_writes}
 use Rattle.world_base.specs.Requests as asked
-use Rattle.world_contents.specs.posts.Forms.{is_told}
+use Rattle.target_parts.specs.world_contents.posts.Forms.{is_told}
 use Rattle.target_parts.specs.Covers.{heard_of}
 use Rattle.target_parts.specs.EpochLaws.{epoch-known}
 use Rattle.target_parts.specs.Knowing.{memory_of}
@@ -15,7 +15,7 @@ use Rattle.target_parts.specs.Running.{for_some_on}
 use Rattle.target_writes.specs.Checks.{CanStore}
 use Rattle.target_writes.proofs.CommitTurns.{can-leased, commit-cut, commit-on, commit-spent, readied, request-new}
 use Rattle.target_writes.proofs.Owning.{own-enlisted}
-use Rattle.world_letters.specs.kinds.TurnLaws.{is_of_read, says-none, turn-carries, turn-on}
+use Rattle.world_ended.specs.world_letters.kinds.TurnLaws.{is_of_read, says-none, turn-carries, turn-on}
 use Rattle.target_writes.proofs.commits.hear_commit.Goals as goal
 
 pub commit_at-requires-clause-can : goal.commit_at-requires-clause-can

@@ -4,7 +4,7 @@ use Rattle.std.proofs.Common.{inl, subst, sym, ◌≡◌, ◌∙◌, None, Some,
 use Rattle.base_messages.specs.declared.message.Message.TheVariants as message
 use Rattle.base_types.specs.declared.outcome.Outcome.TheVariants.{Unknown}
 use Rattle.world_base.specs.Requests as asked
-use Rattle.world_contents.specs.posts.Forms.{is_told}
+use Rattle.target_parts.specs.world_contents.posts.Forms.{is_told}
 use Rattle.target_parts.specs.Covers.{heard_of}
 use Rattle.target_parts.specs.EpochLaws.{epoch-known}
 use Rattle.target_parts.specs.Knowing.{memory_of}
@@ -12,7 +12,7 @@ use Rattle.target_parts.specs.KnowsLaws.{with_clock}
 use Rattle.target_parts.specs.Posting.{client-posts}
 use Rattle.target_writes.proofs.CommitTurns.{readied}
 use Rattle.target_writes.proofs.DownTurns.{down-cut, down-spent, down-told}
-use Rattle.world_letters.specs.kinds.TurnLaws.{is_of_read, says-none, turn-carries}
+use Rattle.world_ended.specs.world_letters.kinds.TurnLaws.{is_of_read, says-none, turn-carries}
 use Rattle.target_writes.proofs.downs.hear_commit_down.Goals as goal
 
 pub returns-in-Ok-Some-clause-turn : goal.returns-in-Ok-Some-clause-turn

@@ -8,7 +8,7 @@ use Rattle.target_parts.specs.Running.{for_some_on}
 use Rattle.target_writes.specs.Checks.{CanStore}
 use Rattle.target_writes.proofs.CommitTurns.{can-leased}
 use Rattle.target_writes.proofs.PrepareTurns.{prepare-cut, prepare-on}
-use Rattle.world_letters.specs.kinds.TurnLaws.{turn-on}
+use Rattle.world_ended.specs.world_letters.kinds.TurnLaws.{turn-on}
 use Rattle.target_writes.proofs.prepares.hear_prepare.Goals as goal
 
 pub prepare_at-requires-clause-can : goal.prepare_at-requires-clause-can

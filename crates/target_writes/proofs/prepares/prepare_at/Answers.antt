@@ -10,7 +10,7 @@ use Rattle.target_writes.specs.Checks.{CanStore}
 use Rattle.target_writes.proofs.CommitTurns.{prepares-as}
 use Rattle.target_writes.proofs.PrepareTurns.{asked-preparable, prepare-halted, prepare-told}
 use Rattle.target_writes.proofs.Posting.{ack-posts}
-use Rattle.world_letters.specs.kinds.TurnLaws.{says-none, turn-carries}
+use Rattle.world_ended.specs.world_letters.kinds.TurnLaws.{says-none, turn-carries}
 use Rattle.base_messages.specs.declared.message.Message.TheVariants.{Ack}
 use Rattle.target_writes.proofs.prepares.prepare_at.Goals as goal
 

@@ -1,5 +1,5 @@
 use Rattle.std.proofs.Common.{◌≡◌, ◌-◌, ◌∙◌, min, sym, ap, subst, arith}
-use Rattle.vos_values.specs.Links.{link_bytes}
+use Rattle.vos_levels.specs.vos_values.Links.{link_bytes}
 use Rattle.vos_chain.proofs.Reading.{Rest, rest_first}
 use Rattle.vos_levels.proofs.Calls.{goes_then}
 use Rattle.vos_chain.proofs.chain.read_chain.Goals as goal

@@ -1,5 +1,5 @@
 use Rattle.std.proofs.Common.{◌≡◌, ◌+◌, IsTrue}
-use Rattle.pmem_tree_base.specs.Calls.{Goes}
+use Rattle.vos_levels.specs.pmem_tree_base.Calls.{Goes}
 use Rattle.vos_chain.specs.Chains.{Chain}
 use Rattle.vos_chain.specs.Made.{IsChainAt, chain_blocks}
 use Rattle.vos_chain.proofs.Reading.{Rest}

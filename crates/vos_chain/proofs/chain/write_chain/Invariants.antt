@@ -1,5 +1,5 @@
 use Rattle.std.proofs.Common.{◌≡◌, ◌+◌, ◌*◌, ◌≤◌, ◌⊎◌, ℕ, IsTrue, drop, length}
-use Rattle.pmem_tree_base.specs.Calls.{Rests}
+use Rattle.vos_levels.specs.pmem_tree_base.Calls.{Rests}
 use Rattle.vos_chain.specs.Made.{chain_blocks}
 use Rattle.vos_chain.proofs.Links.{MadeSo}
 use Rattle.vos_chain.proofs.chain.write_chain.Given as goal

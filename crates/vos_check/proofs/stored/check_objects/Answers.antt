@@ -1,7 +1,7 @@
 use Rattle.std.proofs.Common.{◌++◌, ap, ◌∙◌}
 use Rattle.std.specs.Prelude.{map}
 use Rattle.std.proofs.lemmas.Result.{err_from_is_err_and}
-use Rattle.vos_path.specs.Objects.{together}
+use Rattle.vos_image.specs.vos_path.Objects.{together}
 use Rattle.vos_image.specs.Nodes.{nodes_in, object_nodes}
 use Rattle.vos_check.specs.Rows.{row_of}
 use Rattle.vos_check.proofs.Gathering.{gathered_things}

@@ -7,9 +7,9 @@ use Rattle.vos_image.specs.Kinds.{entries, objects}
 use Rattle.vos_image.specs.Laws.{root_blocks}
 use Rattle.vos_image.specs.Nodes.{Node, nodes_in}
 use Rattle.vos_image.specs.Trees.{read_tree}
-use Rattle.vos_places.proofs.Header.{roots_read}
-use Rattle.vos_places.specs.Tables.{AreRoots, places_of}
-use Rattle.vos_check.specs.Rows.{row_of}
+use Rattle.vos_check_places.proofs.vos_places.Header.{roots_read}
+use Rattle.vos_check_places.specs.vos_places.Tables.{AreRoots, places_of}
+use Rattle.vos_check_entries.specs.vos_check.Rows.{row_of}
 use Rattle.vos_check_base.proofs.Looking.{read_then}
 use Rattle.vos_check_base.specs.Answers.{IsFault}
 use Rattle.vos_check_entries.specs.Nodes.{node_in}

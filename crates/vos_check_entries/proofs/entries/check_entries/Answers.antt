@@ -1,11 +1,11 @@
 use Rattle.std.proofs.Common.{List, subst}
 use Rattle.std.proofs.lemmas.Result.{err_from_is_err_and}
-use Rattle.vos_image.specs.Kinds.{entries}
-use Rattle.vos_image.specs.Nodes.{Node}
-use Rattle.vos_image.specs.Trees.{read_tree}
+use Rattle.vos_check.specs.vos_image.Kinds.{entries}
+use Rattle.vos_check.specs.vos_image.Nodes.{Node}
+use Rattle.vos_check.specs.vos_image.Trees.{read_tree}
 use Rattle.vos_check_base.specs.Answers.{IsFault, Reads, content}
 use Rattle.vos_check_base.specs.Sets.{open_of}
-use Rattle.vos_check_trees.specs.Found.{Gathers}
+use Rattle.vos_check.specs.vos_check_trees.Found.{Gathers}
 use Rattle.vos_check_entries.proofs.Gathering.{gathered_entries, one_row}
 use Rattle.vos_check_entries.proofs.entries.check_entries.Goals as goal
 

@@ -1,7 +1,7 @@
 use Rattle.std.proofs.Common.{◌*◌, refl, sym, ap, ◌∙◌}
 use Rattle.std.proofs.lemmas.Result.{err_from_is_err_and}
 use Rattle.base_outside.specs.Images.{bytes_at}
-use Rattle.vos_image.specs.Content.{block}
+use Rattle.vos_check.specs.vos_image.Content.{block}
 use Rattle.vos_check_base.specs.Answers.{content}
 use Rattle.vos_check_base.proofs.Faults.{blamed}
 use Rattle.vos_check_base.proofs.Looking.{read_then}

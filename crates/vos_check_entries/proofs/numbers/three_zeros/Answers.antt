@@ -1,5 +1,5 @@
 use Rattle.std.proofs.Common.{ℕ, ◌+◌, ◌*◌, take, drop, subst}
-use Rattle.vos_image.specs.Steps.{zeros}
+use Rattle.vos_check.specs.vos_image.Steps.{zeros}
 use Rattle.vos_check_base.specs.Answers.{Plain, nothing}
 use Rattle.vos_check_entries.proofs.numbers.three_zeros.Goals as goal
 

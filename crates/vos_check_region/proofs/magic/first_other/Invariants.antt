@@ -1,5 +1,5 @@
 use Rattle.std.proofs.Common.{◌≡◌, ℕ, ◌<◌, get_or}
-use Rattle.vos_image.specs.Places.{magic}
+use Rattle.vos_check_base.specs.vos_image.Places.{magic}
 use Rattle.vos_check_region.proofs.magic.first_other.Given as goal
 
 -- the bytes so far are a pool's

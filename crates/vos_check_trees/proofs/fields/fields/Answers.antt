@@ -2,7 +2,7 @@ use Rattle.std.proofs.Common.{◌==◌, ◌&&◌, drop, refl, ◌∙◌}
 use Rattle.std.specs.Prelude.{slice_index}
 use Rattle.std.proofs.lemmas.Result.{err_from_is_err_and}
 use Rattle.byteorder.specs.Endian.{big_number}
-use Rattle.vos_image.specs.Trees.{is_above, is_below}
+use Rattle.vos_check_base.specs.vos_image.Trees.{is_above, is_below}
 use Rattle.vos_check_base.specs.Answers.{content}
 use Rattle.vos_check_base.proofs.Steps.{off, on}
 use Rattle.vos_check_trees.proofs.NodeFields.{by_tests, found_there}

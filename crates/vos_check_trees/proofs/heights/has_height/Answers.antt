@@ -1,6 +1,6 @@
 use Rattle.std.proofs.Common.{ap, ◌∙◌}
 use Rattle.base_outside.specs.Images.{Image}
-use Rattle.vos_image.specs.Trees.{stored_height}
+use Rattle.vos_check_base.specs.vos_image.Trees.{stored_height}
 use Rattle.std.proofs.lemmas.Result.{err_from_is_err_and}
 use Rattle.vos_check_base.specs.Answers.{content}
 use Rattle.vos_check_trees.proofs.NodeHeights.{heights_are}

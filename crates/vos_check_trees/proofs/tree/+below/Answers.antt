@@ -1,6 +1,6 @@
 use Rattle.std.proofs.Common.{◌≡◌, ◌-◌, ◌++◌, Some, Ok, Err, ◌∙◌}
 use Rattle.std.proofs.lemmas.Result.{err_from_is_err_and}
-use Rattle.vos_image.specs.Trees.{read_below}
+use Rattle.vos_check_base.specs.vos_image.Trees.{read_below}
 use Rattle.vos_check_base.specs.Answers.{content}
 use Rattle.vos_check_base.specs.Sets.{open_of}
 use Rattle.vos_check_base.proofs.Faults.{moved}

@@ -1,7 +1,7 @@
 use Rattle.std.proofs.Common.{◌*◌, refl, sym, ap, ◌∙◌}
 use Rattle.base_outside.specs.Images.{bytes_at}
 use Rattle.pmem_pages.specs.Node.{node_of}
-use Rattle.vos_image.specs.Content.{block}
+use Rattle.vos_check_base.specs.vos_image.Content.{block}
 use Rattle.vos_check_base.specs.Answers.{content}
 use Rattle.vos_check_base.proofs.Faults.{blamed}
 use Rattle.vos_check_trees.specs.Found.{fields_of}

@@ -1,5 +1,5 @@
 use Rattle.std.proofs.Common.{ℕ, None, subst}
-use Rattle.vos_image.specs.Trees.{read_below, read_tree}
+use Rattle.vos_check_base.specs.vos_image.Trees.{read_below, read_tree}
 use Rattle.vos_check_base.specs.Answers.{Answers, content}
 use Rattle.vos_check_base.specs.Sets.{open_of}
 use Rattle.vos_check_base.proofs.Faults.{moved}

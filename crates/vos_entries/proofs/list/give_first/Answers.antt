@@ -1,7 +1,7 @@
 use Rattle.std.proofs.Common.{◌∙◌, ap}
 use Rattle.std.specs.Option.{unwrap_or}
 use Rattle.vos_values.specs.Links.{next_in}
-use Rattle.vos_chain.proofs.Reading.{link_of}
+use Rattle.vos_versions.proofs.vos_chain.Reading.{link_of}
 use Rattle.vos_entries.proofs.Lists.{next_there}
 use Rattle.vos_entries.proofs.list.give_first.Goals as goal
 

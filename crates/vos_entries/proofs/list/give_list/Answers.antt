@@ -1,7 +1,7 @@
 use Rattle.std.proofs.Common.{rules, ◌≡◌, ◌∙◌, refl, subst, arith, inl, inr, Err, IsErrOf}
-use Rattle.pmem_tree_base.specs.declared.refusal.TreeNo.TheVariants.{TooMuch}
+use Rattle.vos_versions.specs.pmem_tree_base.declared.refusal.TreeNo.TheVariants.{TooMuch}
 use Rattle.vos_versions.proofs.Marks.{err_other}
-use Rattle.vos_levels.proofs.Calls.{goes_same, goes_then}
+use Rattle.vos_versions.proofs.vos_levels.Calls.{goes_same, goes_then}
 use Rattle.vos_entries.proofs.Lists.{all_counted, first_there, more_to_go, never_so_many, so_far_more, so_far_whole}
 use Rattle.vos_values.specs.Links.{link_bytes}
 use Rattle.vos_entries.proofs.list.give_list.Goals as goal

@@ -1,6 +1,6 @@
 use Rattle.std.proofs.Common.{◌≡◌, ◌+◌, ◌≤◌, IsTrue}
-use Rattle.pmem_tree_base.specs.Calls.{Goes}
-use Rattle.vos_chain.specs.Chains.{Chain}
+use Rattle.vos_versions.specs.pmem_tree_base.Calls.{Goes}
+use Rattle.vos_versions.specs.vos_chain.Chains.{Chain}
 use Rattle.vos_entries.specs.Lists.{IsListAt}
 use Rattle.vos_entries.proofs.Lists.{SoFar}
 use Rattle.vos_entries.proofs.list.give_list.Given as goal

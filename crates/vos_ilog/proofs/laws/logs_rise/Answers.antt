@@ -1,6 +1,6 @@
 use Rattle.std.proofs.Common.{refl}
 use Rattle.pmem_pages.specs.Shape.{entries}
-use Rattle.vos_levels.proofs.Moments.{things_rise}
+use Rattle.vos_moments.proofs.vos_levels.Moments.{things_rise}
 use Rattle.vos_ilog.specs.Logs.{log_level, moment_of}
 use Rattle.vos_ilog.proofs.laws.logs_rise.Goals as goal
 

@@ -1,7 +1,7 @@
 use Rattle.std.proofs.Common.{◌∙◌, ap, refl, subst}
 use Rattle.std.specs.Option.{option_and_then}
 use Rattle.vos_values.specs.Keys.{IsMoment, moment_key}
-use Rattle.vos_single.specs.Singles.{single_level}
+use Rattle.vos_path.specs.vos_single.Singles.{single_level}
 use Rattle.vos_path.proofs.Putting.{tree_of}
 use Rattle.vos_lists.specs.Entries.{moment_in_pair}
 use Rattle.vos_lists.proofs.Reading.{newest_found}

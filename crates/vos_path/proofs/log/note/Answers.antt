@@ -1,6 +1,6 @@
 use Rattle.std.proofs.Common.{rules, ◌≡◌, Err, IsErrOf, refl, subst}
 use Rattle.pmem_tree_base.specs.declared.refusal.TreeNo.TheVariants.{TooMuch}
-use Rattle.vos_versions.proofs.Marks.{err_other}
+use Rattle.vos_extent.proofs.vos_versions.Marks.{err_other}
 use Rattle.vos_path.proofs.Noting.{log_noted, log_tree}
 use Rattle.vos_path.proofs.log.note.Goals as goal
 

@@ -1,7 +1,7 @@
 use Rattle.std.proofs.Common.{◌∙◌, Bool, false, subst, sym}
-use Rattle.vos_levels.specs.Calls.{Becomes}
-use Rattle.vos_levels.specs.Levels.{hung_root, things}
-use Rattle.vos_levels.proofs.Calls.{if_ok_then}
+use Rattle.vos_extent.specs.vos_levels.Calls.{Becomes}
+use Rattle.vos_extent.specs.vos_levels.Levels.{hung_root, things}
+use Rattle.vos_extent.proofs.vos_levels.Calls.{if_ok_then}
 use Rattle.vos_ilog.specs.Logs.{log_owner}
 use Rattle.vos_path.specs.Writes.{IsNotedIf, fresh_entry}
 use Rattle.vos_path.proofs.log.note_update.Goals as goal

@@ -1,8 +1,8 @@
 use Rattle.std.proofs.Common.{rules, ◌≡◌, Err, IsErrOf, ap, refl, subst}
 use Rattle.pmem_tree_base.specs.declared.refusal.TreeNo.TheVariants.{TooMuch}
-use Rattle.vos_versions.proofs.Marks.{err_other}
+use Rattle.vos_extent.proofs.vos_versions.Marks.{err_other}
 use Rattle.vos_ilog.specs.Logs.{log_owner}
-use Rattle.vos_levels.specs.Levels.{hung}
+use Rattle.vos_extent.specs.vos_levels.Levels.{hung}
 use Rattle.vos_path.specs.Objects.{dkey_level, dkeys_versions, object_path}
 use Rattle.base_types.specs.declared.operation.Write.TheVariants.{PunchObject}
 use Rattle.vos_path.proofs.BranchWrites.{below_punched}

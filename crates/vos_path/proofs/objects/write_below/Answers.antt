@@ -1,8 +1,8 @@
 use Rattle.std.proofs.Common.{rules, ◌≡◌, Err, IsErrOf, ap, subst, sym}
 use Rattle.pmem_tree_base.specs.declared.refusal.TreeNo.TheVariants.{TooMuch}
-use Rattle.vos_versions.proofs.Marks.{err_other}
+use Rattle.vos_extent.proofs.vos_versions.Marks.{err_other}
 use Rattle.vos_ilog.specs.Logs.{log_owner}
-use Rattle.vos_levels.specs.Levels.{HasMore, hung}
+use Rattle.vos_extent.specs.vos_levels.Levels.{HasMore, hung}
 use Rattle.base_types.specs.Operations.{write_path}
 use Rattle.vos_path.specs.Calls.{Turns, for_pair}
 use Rattle.vos_path.specs.Nodes.{DkeysNoted, ObjectNoted}

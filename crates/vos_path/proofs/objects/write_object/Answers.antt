@@ -1,6 +1,6 @@
 use Rattle.std.proofs.Common.{◌∙◌, subst, sym}
-use Rattle.vos_levels.specs.Levels.{HasMore}
-use Rattle.vos_levels.proofs.Calls.{if_ok_then, on_ok_then}
+use Rattle.vos_extent.specs.vos_levels.Levels.{HasMore}
+use Rattle.vos_extent.proofs.vos_levels.Calls.{if_ok_then, on_ok_then}
 use Rattle.vos_path.specs.Calls.{LacksFor, SpendsAtMost, Turns, for_pair}
 use Rattle.base_types.specs.Operations.{write_path}
 use Rattle.vos_path.specs.Nodes.{ObjectNoted}

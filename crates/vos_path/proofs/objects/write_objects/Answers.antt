@@ -6,9 +6,9 @@ use Rattle.pmem_tree_base.specs.declared.refusal.TreeNo.TheVariants.{TooMuch}
 use Rattle.vos_values.specs.declared.keys.ObjectKey.{ObjectKey}
 use Rattle.vos_values.specs.Keys.{object_key}
 use Rattle.vos_values.specs.Values.{roots_value}
-use Rattle.vos_levels.specs.Levels.{HasMore, hung_root}
-use Rattle.vos_levels.proofs.Calls.{on_ok_then}
-use Rattle.vos_versions.proofs.Marks.{err_other}
+use Rattle.vos_extent.specs.vos_levels.Levels.{HasMore, hung_root}
+use Rattle.vos_extent.proofs.vos_levels.Calls.{on_ok_then}
+use Rattle.vos_extent.proofs.vos_versions.Marks.{err_other}
 use Rattle.vos_path.specs.Calls.{LacksFor, SpendsAtMost, Turns, for_pair}
 use Rattle.pmem_tree.specs.Changes.{PutAt}
 use Rattle.vos_path.specs.Nodes.{ObjectNoted, ObjectsNoted}

@@ -1,6 +1,6 @@
 use Rattle.std.proofs.Common.{rules, ◌≡◌, Err, IsErrOf, ap, subst}
 use Rattle.pmem_tree_base.specs.declared.refusal.TreeNo.TheVariants.{TooMuch}
-use Rattle.vos_versions.proofs.Marks.{err_other}
+use Rattle.vos_extent.proofs.vos_versions.Marks.{err_other}
 use Rattle.vos_path.proofs.Written.{fewer_left, holds_log, spent_for, values_punched}
 use Rattle.vos_path.proofs.values.punch_values.Goals as goal
 

@@ -1,7 +1,7 @@
 use Rattle.std.proofs.Common.{rules, ◌≡◌, Err, IsErrOf, ap, length, subst}
 use Rattle.pmem_tree_base.specs.declared.refusal.TreeNo.TheVariants.{TooMuch}
-use Rattle.vos_versions.proofs.Marks.{err_other}
-use Rattle.vos_chain.specs.Made.{chain_blocks}
+use Rattle.vos_extent.proofs.vos_versions.Marks.{err_other}
+use Rattle.vos_extent.specs.vos_chain.Made.{chain_blocks}
 use Rattle.vos_path.proofs.Written.{added_lacks, added_then, fewer_after, holds_extent, log_after_extent, extent_written}
 use Rattle.vos_path.proofs.values.write_extent.Goals as goal
 

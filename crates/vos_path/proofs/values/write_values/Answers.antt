@@ -1,8 +1,8 @@
 use Rattle.std.proofs.Common.{◌≡◌, ◌∙◌, ◌≤◌, ap, length, subst, sym}
 use Rattle.base_types.specs.Operations.{write_path}
 use Rattle.base_types.specs.declared.operation.Write.TheVariants.{Extent, PunchAkey, Single}
-use Rattle.vos_levels.specs.Levels.{HasMore}
-use Rattle.vos_levels.proofs.Calls.{if_ok_then}
+use Rattle.vos_extent.specs.vos_levels.Levels.{HasMore}
+use Rattle.vos_extent.proofs.vos_levels.Calls.{if_ok_then}
 use Rattle.vos_path.specs.Calls.{Turns}
 use Rattle.vos_path.specs.Nodes.{ValuesNoted}
 use Rattle.vos_path.specs.Objects.{values_owner, values_roots, values_versions}

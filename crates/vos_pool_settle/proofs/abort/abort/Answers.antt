@@ -3,7 +3,7 @@ use Rattle.pmem_undo.specs.Undo.{IsUndo}
 use Rattle.vos_levels.specs.declared.change.Change.TheVariants.{Abort}
 use Rattle.vos_pool_turns.specs.Pool.{IsOneTurn}
 use Rattle.vos_store.specs.declared.refusal.Stopped.{Stopped}
-use Rattle.vos_turns.specs.declared.entries.EntryStep.TheVariants as step
+use Rattle.vos_pool_turns.specs.vos_turns.declared.entries.EntryStep.TheVariants as step
 use Rattle.vos_pool_settle.proofs.Leaving.{aborts, can_remove, had_gone, left_over, stopped_first, was_err, was_ok}
 use Rattle.vos_pool_settle.proofs.abort.abort.Goals as goal
 

@@ -2,7 +2,7 @@ use Rattle.std.proofs.Common.{[], subst}
 use Rattle.base_types.specs.declared.entry.Settle.TheVariants as settle
 use Rattle.pmem_undo.specs.Undo.{IsUndo}
 use Rattle.vos_levels.specs.declared.change.Change.TheVariants as change
-use Rattle.vos_turns.specs.declared.entries.EntryStep.TheVariants as step
+use Rattle.vos_pool_turns.specs.vos_turns.declared.entries.EntryStep.TheVariants as step
 use Rattle.vos_pool_settle.proofs.Made.{can_confirm, confirms, settles}
 use Rattle.vos_pool_settle.proofs.steps.confirm.Goals as goal
 

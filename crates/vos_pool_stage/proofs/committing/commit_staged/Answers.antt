@@ -1,7 +1,7 @@
 use Rattle.std.specs.Prelude.{◌≡◌, ◌++◌, ◌∷◌, [], Ok, Err, OnOk, false, refl, true}
 use Rattle.std.proofs.Common.{sym, subst}
-use Rattle.vos_places.specs.Codec.{counter_bytes}
-use Rattle.vos_places.specs.Tables.{Table}
+use Rattle.vos_pool_base.specs.vos_places.Codec.{counter_bytes}
+use Rattle.vos_pool_base.specs.vos_places.Tables.{Table}
 use Rattle.vos_pool_base.specs.Tidy.{IsSamePool}
 use Rattle.vos_pool_base.proofs.Leaving.{counted_same, same_pool}
 use Rattle.vos_pool_base.proofs.Staging.{with_ranges}

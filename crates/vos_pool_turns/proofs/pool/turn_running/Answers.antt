@@ -3,10 +3,10 @@ use Rattle.std.specs.Prelude.{OnErr, OnOk}
 use Rattle.pmem_alloc.specs.Blocks.{free_count}
 use Rattle.pmem_alloc.specs.Pages.{left, shown}
 use Rattle.vos_keeping.specs.Keeping.{SameRows}
-use Rattle.vos_places.specs.Laws.{counted}
-use Rattle.vos_places.specs.Tables.{Table, places_of}
-use Rattle.vos_pool_base.proofs.Commits.{when_ok}
-use Rattle.vos_pool_base.specs.Pool.{kept_of, may_of}
+use Rattle.vos_keeping.specs.vos_places.Laws.{counted}
+use Rattle.vos_keeping.specs.vos_places.Tables.{Table, places_of}
+use Rattle.vos_pool_stage.proofs.vos_pool_base.Commits.{when_ok}
+use Rattle.vos_pool_stage.specs.vos_pool_base.Pool.{kept_of, may_of}
 use Rattle.vos_pool_stage.proofs.Lifting.{leaves_from, makes_from, quiet_from}
 use Rattle.vos_pool_stage.specs.Staged.{WhereTold, pool_of}
 use Rattle.vos_pool_turns.proofs.Making.{both_ok, by_answer, free_as, free_in_map, given_up_stopped, given_up_untold, has_turned, kept_then, no_excuse, ready, same_rows, stands_below, stops_then}

@@ -1,7 +1,7 @@
 use Rattle.std.proofs.Common.{◌≡◌, IsTrue, subst, sym}
 use Rattle.std.specs.Prelude.{OnOk}
 use Rattle.pmem_alloc.specs.Pages.{shown}
-use Rattle.vos_image.specs.Kept.{Stored}
+use Rattle.vos_turns.specs.vos_image.Kept.{Stored}
 use Rattle.vos_turns.specs.Turns.{StandsBelow, TurnsTo}
 use Rattle.vos_pool_turns.proofs.staging.stage_as.Goals as goal
 

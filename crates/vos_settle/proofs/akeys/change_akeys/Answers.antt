@@ -7,7 +7,7 @@ use Rattle.vos_values.specs.Keys.{name_key}
 use Rattle.vos_values.specs.Values.{akey_value}
 use Rattle.vos_levels.specs.Levels.{things}
 use Rattle.vos_levels.proofs.Calls.{on_ok_then}
-use Rattle.vos_versions.proofs.Marks.{err_other, short_any}
+use Rattle.vos_path.proofs.vos_versions.Marks.{err_other, short_any}
 use Rattle.vos_path.specs.Objects.{akey_level, or_none, values_owner, values_roots}
 use Rattle.vos_path.specs.Writes.{AkeyIsSmall}
 use Rattle.vos_path.proofs.Putting.{tree_of}

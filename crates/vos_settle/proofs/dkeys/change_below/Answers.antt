@@ -1,7 +1,7 @@
 use Rattle.std.proofs.Common.{rules, ◌≡◌, ◌+◌, Err, IsErrOf, ap, arith, subst}
 use Rattle.pmem_tree_base.specs.declared.refusal.TreeNo.TheVariants.{TooMuch}
 use Rattle.vos_levels.specs.Levels.{hung}
-use Rattle.vos_versions.proofs.Marks.{err_other}
+use Rattle.vos_path.proofs.vos_versions.Marks.{err_other}
 use Rattle.vos_ilog.specs.Logs.{log_owner}
 use Rattle.vos_path.specs.Objects.{akey_level}
 use Rattle.vos_path.proofs.BranchWrites.{log_after}

@@ -8,7 +8,7 @@ use Rattle.vos_values.specs.Keys.{IsObjectKey, object_key}
 use Rattle.vos_values.specs.Values.{roots_value}
 use Rattle.vos_levels.specs.Levels.{things}
 use Rattle.vos_levels.proofs.Calls.{on_ok_then}
-use Rattle.vos_versions.proofs.Marks.{err_other, short_any}
+use Rattle.vos_path.proofs.vos_versions.Marks.{err_other, short_any}
 use Rattle.vos_path.specs.Objects.{below_owner, below_roots, dkey_level, object_level, or_none}
 use Rattle.vos_path.specs.Small.{BelowObjectOnPathIsSmall}
 use Rattle.vos_path.proofs.Putting.{tree_of}

@@ -1,6 +1,6 @@
 use Rattle.std.proofs.Common.{rules, ◌≡◌, ◌+◌, Err, IsErrOf, ap, arith, subst}
 use Rattle.pmem_tree_base.specs.declared.refusal.TreeNo.TheVariants.{TooMuch}
-use Rattle.vos_versions.proofs.Marks.{err_other}
+use Rattle.vos_path.proofs.vos_versions.Marks.{err_other}
 use Rattle.vos_path.proofs.Written.{holds_extent, log_after_extent}
 use Rattle.vos_settle.specs.Costs.{for_one, values_cost}
 use Rattle.vos_settle.proofs.Sums.{lacks_now, lacks_then, log_spends, spends_most, spends_then, version_spends}

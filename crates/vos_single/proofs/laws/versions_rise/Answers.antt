@@ -1,6 +1,6 @@
 use Rattle.std.proofs.Common.{refl}
 use Rattle.pmem_pages.specs.Shape.{entries}
-use Rattle.vos_levels.proofs.Moments.{things_rise}
+use Rattle.vos_moments.proofs.vos_levels.Moments.{things_rise}
 use Rattle.vos_single.specs.Singles.{single_level, moment_of}
 use Rattle.vos_single.proofs.laws.versions_rise.Goals as goal
 

@@ -1,6 +1,6 @@
-use Rattle.vos_entries.specs.Entries.{entries_owner}
-use Rattle.vos_image.specs.Kept.{stored_owner}
-use Rattle.vos_path.specs.Objects.{objects_owner}
+use Rattle.vos_places.specs.vos_entries.Entries.{entries_owner}
+use Rattle.vos_places.specs.vos_image.Kept.{stored_owner}
+use Rattle.vos_places.specs.vos_path.Objects.{objects_owner}
 use Rattle.vos_standing.proofs.Changing.{blocks_are_shown, blocks_change}
 use Rattle.vos_standing.proofs.laws.blocks_are_shown.Goals as goal
 

@@ -1,6 +1,6 @@
 use Rattle.vos_levels.proofs.Calls.{on_ok_then}
-use Rattle.vos_path.proofs.AllSmall.{path_small}
-use Rattle.vos_settle.proofs.Sums.{spends_most}
+use Rattle.vos_fitting.proofs.vos_path.AllSmall.{path_small}
+use Rattle.vos_fitting.proofs.vos_settle.Sums.{spends_most}
 use Rattle.vos_small.proofs.Fitting.{changes_fit, few_changes}
 use Rattle.vos_turns.proofs.versions.change_version.Goals as goal
 

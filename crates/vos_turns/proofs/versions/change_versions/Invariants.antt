@@ -3,8 +3,8 @@ use Rattle.std.specs.Prelude.{take}
 use Rattle.pmem_pages.specs.Owners.{Holds}
 use Rattle.pmem_tree_base.specs.Calls.{Goes}
 use Rattle.vos_levels.specs.Levels.{hung_root}
-use Rattle.vos_path.specs.Objects.{Objects, objects_owner}
-use Rattle.vos_path.specs.Writes.{ObjectsAreSmall}
+use Rattle.vos_fitting.specs.vos_path.Objects.{Objects, objects_owner}
+use Rattle.vos_fitting.specs.vos_path.Writes.{ObjectsAreSmall}
 use Rattle.vos_turns.specs.Steps.{VersionsTurn}
 use Rattle.vos_turns.proofs.versions.change_versions.Given as goal
 

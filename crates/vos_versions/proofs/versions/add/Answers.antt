@@ -1,9 +1,9 @@
 use Rattle.std.proofs.Common.{rules, ◌≡◌, ◌∙◌, ap, subst, arith, length, false, Err, IsErrOf}
-use Rattle.pmem_tree.specs.Changes.{Inserts}
-use Rattle.pmem_tree_base.specs.declared.refusal.TreeNo.TheVariants.{TooMuch}
+use Rattle.vos_chain.specs.pmem_tree.Changes.{Inserts}
+use Rattle.vos_chain.specs.pmem_tree_base.declared.refusal.TreeNo.TheVariants.{TooMuch}
 use Rattle.base_types.specs.declared.id.AttemptId.{AttemptId}
-use Rattle.vos_values.specs.Values.{version_value}
-use Rattle.vos_levels.proofs.Calls.{on_ok_then}
+use Rattle.vos_chain.specs.vos_values.Values.{version_value}
+use Rattle.vos_chain.proofs.vos_levels.Calls.{on_ok_then}
 use Rattle.vos_chain.specs.Made.{chain_blocks}
 use Rattle.vos_versions.specs.Marks.{new_mark}
 use Rattle.vos_versions.proofs.Marks.{err_other, kind_is, short_any, stages_for, too_few_first, too_few_then, tree_stays, value_is}

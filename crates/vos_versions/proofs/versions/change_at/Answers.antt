@@ -1,7 +1,7 @@
 use Rattle.std.proofs.Common.{◌≡◌, ◌∙◌, sym, subst, ap, arith, Some, None, true, false}
 use Rattle.pmem_pages.specs.Shape.{IsTree, entries}
-use Rattle.pmem_tree.specs.Calls.{TooFew}
-use Rattle.vos_levels.proofs.Calls.{on_ok_then}
+use Rattle.vos_chain.specs.pmem_tree.Calls.{TooFew}
+use Rattle.vos_chain.proofs.vos_levels.Calls.{on_ok_then}
 use Rattle.vos_versions.specs.Marks.{HasBytes, Same, mark_at}
 use Rattle.vos_versions.proofs.Marks.{changes_none, freed_gone, freed_is, freed_kept, freed_none, has_key, not_taken, taken_gone, taken_kept}
 use Rattle.vos_versions.proofs.versions.change_at.Goals as goal

@@ -1,6 +1,6 @@
 use Rattle.std.proofs.Common.{rules, ◌≡◌, arith, subst, Err, IsErrOf}
-use Rattle.pmem_tree_base.specs.declared.refusal.TreeNo.TheVariants.{TooMuch}
-use Rattle.vos_levels.proofs.Calls.{on_ok_then}
+use Rattle.vos_chain.specs.pmem_tree_base.declared.refusal.TreeNo.TheVariants.{TooMuch}
+use Rattle.vos_chain.proofs.vos_levels.Calls.{on_ok_then}
 use Rattle.vos_versions.proofs.Marks.{bytes_left, err_other, few_then, kind_is, short_any, stages_then}
 use Rattle.vos_versions.proofs.versions.drop_at.Goals as goal
 

@@ -1,6 +1,6 @@
 use Rattle.std.proofs.Common.{◌∙◌, ap}
 use Rattle.std.specs.Option.{option_and_then}
-use Rattle.vos_values.specs.Values.{version_in}
+use Rattle.vos_chain.specs.vos_values.Values.{version_in}
 use Rattle.vos_versions.proofs.Marks.{kind_is, some_short}
 use Rattle.vos_versions.proofs.versions.find_mark.Goals as goal
 

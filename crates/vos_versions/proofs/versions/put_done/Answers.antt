@@ -1,6 +1,6 @@
 use Rattle.std.proofs.Common.{subst}
-use Rattle.pmem_tree.specs.Changes.{Puts}
-use Rattle.vos_levels.proofs.Calls.{on_ok_then}
+use Rattle.vos_chain.specs.pmem_tree.Changes.{Puts}
+use Rattle.vos_chain.proofs.vos_levels.Calls.{on_ok_then}
 use Rattle.vos_versions.proofs.Marks.{kind_is, value_is}
 use Rattle.vos_versions.proofs.versions.put_done.Goals as goal
 

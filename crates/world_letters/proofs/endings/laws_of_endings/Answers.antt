@@ -1,6 +1,6 @@
 use Rattle.std.specs.Prelude.{◌≡◌, [], Contains}
 use Rattle.std.proofs.Common.{subst}
-use Rattle.model_laws.specs.Members.{has-from_contains}
+use Rattle.world_base.specs.model_laws.Members.{has-from_contains}
 use Rattle.world_base.specs.declared.world.World.{World}
 use Rattle.world_letters.specs.endings.Events.{event-keeps}
 use Rattle.world_letters.specs.lines.Lines.{Endings}

@@ -6,7 +6,7 @@ use Rattle.run_laws.specs.shows.Serving.{served-by-fuse, served-one}
 use Rattle.run_watch.specs.Watches.{next_fuse}
 use Rattle.run_stage.specs.Now.{stage_now}
 use Rattle.run_stage.proofs.Opening.{armed-so, same-there}
-use Rattle.target_parts.specs.Readings.{IsReadOn, not-read_on}
+use Rattle.run_laws.specs.target_parts.Readings.{IsReadOn, not-read_on}
 use Rattle.vos_store.specs.Calls.{SetsFuse}
 use Rattle.run_stage.proofs.stage.Stage.arm.Goals as goal
 

@@ -6,7 +6,7 @@ use Rattle.run_laws.specs.shows.Serving.{served-by-opening, served-first, served
 use Rattle.run_stage.specs.Now.{stage_now}
 use Rattle.run_laws.specs.shows.Steps.{NotBegun}
 use Rattle.run_stage.proofs.Opening.{on-err, opened-broke, opening-broke, reopened-not, reopened-whole, same-there}
-use Rattle.target_parts.specs.Readings.{IsReadOn, not-read_on}
+use Rattle.run_laws.specs.target_parts.Readings.{IsReadOn, not-read_on}
 use Rattle.world_base.specs.StepLaws.{set-here}
 use Rattle.run_stage.proofs.stage.Stage.reopen.Goals as goal
 

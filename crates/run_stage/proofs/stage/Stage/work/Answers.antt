@@ -6,7 +6,7 @@ use Rattle.run_laws.specs.shows.Steps.{NotBegun}
 use Rattle.run_stage.specs.Now.{stage_now}
 use Rattle.run_stage.proofs.Opening.{on-err, same-there}
 use Rattle.run_stage.proofs.Working.{work-broke, worked-cut, worked-whole}
-use Rattle.target_parts.specs.Stops.{stop_store}
+use Rattle.run_laws.specs.target_parts.Stops.{stop_store}
 use Rattle.world_base.specs.StepLaws.{set-here, set-same}
 use Rattle.run_stage.proofs.stage.Stage.work.Goals as goal
 

@@ -1,17 +1,17 @@
-use Rattle.world_ended.specs.Asking.{TurnsEndAsked}
+use Rattle.target_reads.specs.world_ended.Asking.{TurnsEndAsked}
 use Rattle.std.proofs.Common.{◌≡◌, ◌∙◌, ap, refl, subst, sym, true, ℕ, Some, ◌∷◌, []}
 use Rattle.std.specs.Prelude.{IfOk, IfSome}
 use Rattle.daos_model.specs.declared.durable.Durable.{Durable}
 use Rattle.snap_core.specs.Snaps.{remembered}
 use Rattle.world_base.specs.Stops.{is_prune_message}
-use Rattle.world_contents.specs.posts.Forms.{TurnsPostInForm}
+use Rattle.target_parts.specs.world_contents.posts.Forms.{TurnsPostInForm}
 use Rattle.target_parts.specs.Knowing.{memory_of}
 use Rattle.target_parts.specs.Readings.{AreReadings, IsReadUpTo, most_readings, unread}
 use Rattle.target_parts.specs.Running.{for_some_on}
 use Rattle.target_snaps.specs.HeldTurns.{AreFrozenHere}
 use Rattle.target_core.specs.Targets.{HearsOrStops, has_epoch, is_of_client}
 use Rattle.target_core.proofs.Freezing.{turn-frozen}
-use Rattle.world_letters.specs.kinds.Loads.{AnswersOnce}
+use Rattle.target_reads.specs.world_letters.kinds.Loads.{AnswersOnce}
 use Rattle.target_core.proofs.target.Target.hear.Goals as goal
 
 pub hear_message-requires-clause-frozen : goal.hear_message-requires-clause-frozen

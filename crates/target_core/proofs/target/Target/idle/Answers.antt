@@ -1,7 +1,7 @@
-use Rattle.world_ended.specs.Asking.{TurnsEndAsked}
+use Rattle.target_reads.specs.world_ended.Asking.{TurnsEndAsked}
 use Rattle.std.proofs.Common.{◌≡◌, ◌∙◌, Some, ap, subst, sym, []}
 use Rattle.std.specs.Prelude.{IfOk}
-use Rattle.world_contents.specs.posts.Forms.{TurnsPostInForm}
+use Rattle.target_parts.specs.world_contents.posts.Forms.{TurnsPostInForm}
 use Rattle.daos_model.specs.declared.durable.Durable.{Durable}
 use Rattle.snap_core.specs.Snaps.{remembered}
 use Rattle.target_parts.specs.Knowing.{memory_of}
@@ -12,7 +12,7 @@ use Rattle.target_core.proofs.Beside.{idle-beside}
 use Rattle.target_core.proofs.Freezing.{idle-frozen}
 use Rattle.target_core.proofs.Heard.{idles}
 use Rattle.target_core.proofs.Posting.{leads-end, leads-post, turn-tells}
-use Rattle.world_letters.specs.kinds.Loads.{AnswersOnce}
+use Rattle.target_reads.specs.world_letters.kinds.Loads.{AnswersOnce}
 use Rattle.target_core.proofs.target.Target.idle.Goals as goal
 
 pub returns-clause-turn : goal.returns-clause-turn

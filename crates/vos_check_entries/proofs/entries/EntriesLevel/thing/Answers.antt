@@ -1,6 +1,6 @@
 use Rattle.std.proofs.Common.{◌∷◌, [], ◌++◌, ap, refl, ◌∙◌}
 use Rattle.std.proofs.lemmas.Result.{err_from_is_err_and}
-use Rattle.vos_image.specs.Kinds.{stored_entry}
+use Rattle.vos_check.specs.vos_image.Kinds.{stored_entry}
 use Rattle.vos_check_base.specs.Answers.{content}
 use Rattle.vos_check_base.proofs.Faults.{fault_off}
 use Rattle.vos_check_base.proofs.Steps.{on}

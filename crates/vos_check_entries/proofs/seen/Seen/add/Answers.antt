@@ -1,6 +1,6 @@
 use Rattle.std.proofs.Common.{◌≡◌, ◌==◌, ◌∷◌, [], ◌++◌, cond, true, sym, ap, ◌∙◌, arith}
 use Rattle.std.proofs.lemmas.Grind.{common_steps}
-use Rattle.vos_image.specs.Steps.{is_among}
+use Rattle.vos_check.specs.vos_image.Steps.{is_among}
 use Rattle.vos_check_entries.proofs.Names.{among_more}
 use Rattle.vos_check_entries.proofs.seen.Seen.add.Goals as goal
 

@@ -1,10 +1,10 @@
 use Rattle.std.proofs.Common.{rules, refl, ◌≡◌, ◌∙◌, ◌*◌, ap, subst, length, Err, IsErrOf}
-use Rattle.pmem_tree.specs.Changes.{Inserts}
-use Rattle.pmem_tree_base.specs.declared.refusal.TreeNo.TheVariants.{TooMuch}
+use Rattle.vos_versions.specs.pmem_tree.Changes.{Inserts}
+use Rattle.vos_versions.specs.pmem_tree_base.declared.refusal.TreeNo.TheVariants.{TooMuch}
 use Rattle.vos_values.specs.Keys.{attempt_key}
 use Rattle.vos_values.specs.Values.{IsEntryMark, entry_value}
-use Rattle.vos_levels.proofs.Calls.{on_ok_then}
-use Rattle.vos_chain.specs.Made.{chain_blocks}
+use Rattle.vos_versions.proofs.vos_levels.Calls.{on_ok_then}
+use Rattle.vos_versions.specs.vos_chain.Made.{chain_blocks}
 use Rattle.vos_versions.proofs.Marks.{err_other, stages_for, too_few_first, too_few_then, tree_stays}
 use Rattle.vos_entries.specs.Entries.{list_bytes}
 use Rattle.vos_entries.proofs.Changing.{entry_added, entry_tree, missing_at}

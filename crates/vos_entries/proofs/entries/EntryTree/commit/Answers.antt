@@ -3,14 +3,14 @@ use Rattle.std.specs.List.{find}
 use Rattle.std.specs.Option.{option_map}
 use Rattle.pmem_pages.specs.Blocks.{Budget, IsSpent}
 use Rattle.pmem_pages.specs.Owners.{Changed, maybe}
-use Rattle.pmem_tree.specs.Changes.{Puts}
-use Rattle.pmem_tree_base.specs.declared.refusal.TreeNo.TheVariants.{TooMuch}
+use Rattle.vos_versions.specs.pmem_tree.Changes.{Puts}
+use Rattle.vos_versions.specs.pmem_tree_base.declared.refusal.TreeNo.TheVariants.{TooMuch}
 use Rattle.vos_values.specs.Keys.{attempt_key}
 use Rattle.vos_values.specs.Values.{entry_value}
-use Rattle.vos_levels.specs.Levels.{things}
-use Rattle.vos_levels.proofs.Calls.{on_ok_then}
-use Rattle.vos_chain.specs.Chains.{chain_owner}
-use Rattle.vos_chain.specs.Made.{HasFewer}
+use Rattle.vos_versions.specs.vos_levels.Levels.{things}
+use Rattle.vos_versions.proofs.vos_levels.Calls.{on_ok_then}
+use Rattle.vos_versions.specs.vos_chain.Chains.{chain_owner}
+use Rattle.vos_versions.specs.vos_chain.Made.{HasFewer}
 use Rattle.vos_versions.proofs.Marks.{err_other}
 use Rattle.vos_entries.specs.Entries.{IsCommittedAt, blocks_in_list, is_at, list_of, mark_of}
 use Rattle.vos_entries.specs.Lists.{FewerThan, IsListAt}

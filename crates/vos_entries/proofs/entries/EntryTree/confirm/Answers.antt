@@ -3,12 +3,12 @@ use Rattle.std.specs.Prelude.{bit_or}
 use Rattle.std.specs.List.{find}
 use Rattle.std.specs.Option.{option_map}
 use Rattle.pmem_pages.specs.Shape.{IsTree}
-use Rattle.pmem_tree.specs.Changes.{Puts}
+use Rattle.vos_versions.specs.pmem_tree.Changes.{Puts}
 use Rattle.vos_values.specs.declared.values.EntryMark.{EntryMark}
 use Rattle.vos_values.specs.Keys.{attempt_key}
 use Rattle.vos_values.specs.Values.{entry_value}
-use Rattle.vos_levels.specs.Levels.{things}
-use Rattle.vos_levels.proofs.Calls.{on_ok_then}
+use Rattle.vos_versions.specs.vos_levels.Levels.{things}
+use Rattle.vos_versions.proofs.vos_levels.Calls.{on_ok_then}
 use Rattle.vos_entries.specs.Entries.{IsConfirmedAt, is_at, mark_of}
 use Rattle.vos_entries.proofs.Changing.{entry_confirmed, entry_tree, key_there, none_confirmed, said, same_still}
 use Rattle.vos_entries.proofs.entries.EntryTree.confirm.Goals as goal

@@ -1,7 +1,7 @@
 use Rattle.std.proofs.Common.{◌∙◌, ap}
 use Rattle.std.specs.Option.{option_and_then}
 use Rattle.pmem_pages.specs.Shape.{entries, entry_at}
-use Rattle.pmem_tree_base.specs.Find.{value_of}
+use Rattle.vos_versions.specs.pmem_tree_base.Find.{value_of}
 use Rattle.vos_values.specs.Values.{entry_in}
 use Rattle.vos_entries.proofs.Changing.{entry_tree, mark_found}
 use Rattle.vos_entries.proofs.entries.EntryTree.find.Goals as goal

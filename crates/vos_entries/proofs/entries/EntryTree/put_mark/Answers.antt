@@ -1,8 +1,8 @@
 use Rattle.std.proofs.Common.{◌∙◌, sym, ap, subst}
 use Rattle.pmem_pages.specs.Shape.{IsTree, entries, entry_at}
-use Rattle.pmem_tree.specs.Changes.{Puts}
+use Rattle.vos_versions.specs.pmem_tree.Changes.{Puts}
 use Rattle.vos_values.specs.Keys.{attempt_key}
-use Rattle.vos_levels.proofs.Calls.{on_ok_then}
+use Rattle.vos_versions.proofs.vos_levels.Calls.{on_ok_then}
 use Rattle.vos_entries.proofs.entries.EntryTree.put_mark.Goals as goal
 
 pub put_value-requires-clause-tree : goal.put_value-requires-clause-tree

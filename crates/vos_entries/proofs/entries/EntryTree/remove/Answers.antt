@@ -5,12 +5,12 @@ use Rattle.base_types.specs.declared.id.AttemptId.{AttemptId}
 use Rattle.pmem_pages.specs.declared.node.TreeKey.{TreeKey}
 use Rattle.pmem_pages.specs.Blocks.{Blocks, Budget}
 use Rattle.pmem_pages.specs.Shape.{Entry as Pair, IsTree, entries, entry_at}
-use Rattle.pmem_tree.specs.Calls.{StagesAtMost, TooFew}
-use Rattle.pmem_tree.specs.Changes.{Removes}
-use Rattle.pmem_tree_base.specs.declared.refusal.TreeNo.TheVariants.{TooMuch}
+use Rattle.vos_versions.specs.pmem_tree.Calls.{StagesAtMost, TooFew}
+use Rattle.vos_versions.specs.pmem_tree.Changes.{Removes}
+use Rattle.vos_versions.specs.pmem_tree_base.declared.refusal.TreeNo.TheVariants.{TooMuch}
 use Rattle.vos_values.specs.Keys.{attempt_key}
-use Rattle.vos_levels.specs.Levels.{things}
-use Rattle.vos_levels.proofs.Calls.{on_ok_then}
+use Rattle.vos_versions.specs.vos_levels.Levels.{things}
+use Rattle.vos_versions.proofs.vos_levels.Calls.{on_ok_then}
 use Rattle.vos_versions.proofs.Marks.{err_other}
 use Rattle.vos_entries.specs.Entries.{Entries, IsGoneAt, blocks_in_list, blocks_of_entry, is_at, list_of, mark_of}
 use Rattle.vos_entries.specs.Lists.{FewerToRemove, StagesToRemove}

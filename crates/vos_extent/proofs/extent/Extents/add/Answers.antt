@@ -1,5 +1,5 @@
 use Rattle.std.proofs.Common.{inr}
-use Rattle.vos_levels.proofs.Calls.{on_ok_then}
+use Rattle.vos_moments.proofs.vos_levels.Calls.{on_ok_then}
 use Rattle.vos_extent.proofs.Changing.{missing_at, extent_added}
 use Rattle.vos_extent.proofs.Places.{extent_tree}
 use Rattle.vos_extent.proofs.extent.Extents.add.Goals as goal

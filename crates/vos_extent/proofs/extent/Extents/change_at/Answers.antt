@@ -1,5 +1,5 @@
 use Rattle.std.proofs.Common.{arith, inr}
-use Rattle.vos_levels.proofs.Calls.{on_ok_then}
+use Rattle.vos_moments.proofs.vos_levels.Calls.{on_ok_then}
 use Rattle.vos_extent.proofs.Changing.{bytes_there, extent_changed, extent_freed}
 use Rattle.vos_extent.proofs.Places.{extent_tree}
 use Rattle.vos_extent.proofs.extent.Extents.change_at.Goals as goal

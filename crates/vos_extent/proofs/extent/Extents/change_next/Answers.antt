@@ -1,8 +1,8 @@
 use Rattle.std.proofs.Common.{◌≡◌, ◌+◌, ◌∙◌, sym, subst}
 use Rattle.pmem_pages.specs.Blocks.{Budget, IsSpent}
 use Rattle.pmem_pages.specs.Owners.{Holds}
-use Rattle.vos_levels.specs.Calls.{Becomes}
-use Rattle.vos_levels.specs.Levels.{hung_root}
+use Rattle.vos_moments.specs.vos_levels.Calls.{Becomes}
+use Rattle.vos_moments.specs.vos_levels.Levels.{hung_root}
 use Rattle.vos_versions.specs.Marks.{StagesLess}
 use Rattle.vos_extent.specs.Extents.{IsChangedAt, extent_owner, extents, freed_at}
 use Rattle.vos_extent.proofs.Settling.{next_found, next_is, next_place, none_is, none_place, took_no_next, took_unwanted, took_wanted}

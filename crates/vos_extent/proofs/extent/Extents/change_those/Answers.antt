@@ -1,8 +1,8 @@
 use Rattle.std.proofs.Common.{Err, Result, ◌≡◌, ◌∙◌, ap, false, refl, rules, sym, subst, arith}
 use Rattle.std.specs.List.{list_any}
-use Rattle.pmem_tree_base.specs.declared.refusal.TreeNo.{TreeNo}
-use Rattle.pmem_tree_base.specs.declared.refusal.TreeNo.TheVariants.{TooMuch}
-use Rattle.vos_levels.proofs.Calls.{goes_same, goes_then}
+use Rattle.vos_moments.specs.pmem_tree_base.declared.refusal.TreeNo.{TreeNo}
+use Rattle.vos_moments.specs.pmem_tree_base.declared.refusal.TreeNo.TheVariants.{TooMuch}
+use Rattle.vos_moments.proofs.vos_levels.Calls.{goes_same, goes_then}
 use Rattle.vos_moments.proofs.Forms.{few_next, took_nothing}
 use Rattle.vos_extent.specs.Extents.{extents}
 use Rattle.vos_extent.proofs.Settling.{counted_on, extent_form, lacked_on, none_before, taken_so_far, walked_all, walked_on, walked_over}

@@ -1,8 +1,8 @@
 use Rattle.std.proofs.Common.{◌≡◌, ◌≤◌, IsTrue}
 use Rattle.pmem_pages.specs.Node.{IsKey}
 use Rattle.pmem_pages.specs.Owners.{Holds}
-use Rattle.pmem_tree_base.specs.Calls.{Goes}
-use Rattle.vos_levels.specs.Levels.{hung_root}
+use Rattle.vos_moments.specs.pmem_tree_base.Calls.{Goes}
+use Rattle.vos_moments.specs.vos_levels.Levels.{hung_root}
 use Rattle.vos_moments.specs.Taking.{number_of}
 use Rattle.vos_extent.specs.Extents.{Extents, extent_owner, extents}
 use Rattle.vos_extent.specs.Settling.{TookExtents, is_passed}

@@ -2,9 +2,9 @@ use Rattle.std.proofs.Common.{◌≡◌, ◌+◌, ◌-◌, ◌*◌, ◌≤◌, �
 use Rattle.std.specs.Option.{option_and_then}
 use Rattle.pmem_pages.specs.Owners.{Holds}
 use Rattle.pmem_pages.specs.Shape.{entries, first_above}
-use Rattle.pmem_tree_base.specs.Find.{pair_of}
-use Rattle.vos_chain.specs.Made.{IsChainAt}
-use Rattle.vos_levels.proofs.Calls.{goes_same, goes_then}
+use Rattle.vos_moments.specs.pmem_tree_base.Find.{pair_of}
+use Rattle.vos_versions.specs.vos_chain.Made.{IsChainAt}
+use Rattle.vos_moments.proofs.vos_levels.Calls.{goes_same, goes_then}
 use Rattle.vos_extent.specs.Extents.{chain_of, extent_owner, extents, placed_in_pair}
 use Rattle.vos_extent.specs.Shown.{near}
 use Rattle.vos_extent.proofs.Walking.{Ahead, ahead_first, ahead_none, ahead_over, coming, passed_near, steps_all, steps_more, steps_then}

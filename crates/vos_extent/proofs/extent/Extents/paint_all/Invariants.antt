@@ -2,8 +2,8 @@ use Rattle.std.proofs.Common.{◌≡◌, ℕ, ◌+◌, ◌*◌, ◌<◌, ◌≤�
 use Rattle.pmem_pages.specs.Node.{IsKey}
 use Rattle.pmem_pages.specs.Owners.{Holds}
 use Rattle.pmem_pages.specs.Shape.{entries}
-use Rattle.pmem_tree_base.specs.Calls.{Goes}
-use Rattle.vos_levels.specs.Levels.{hung_root}
+use Rattle.vos_moments.specs.pmem_tree_base.Calls.{Goes}
+use Rattle.vos_moments.specs.vos_levels.Levels.{hung_root}
 use Rattle.vos_extent.specs.Extents.{Extents, extent_owner}
 use Rattle.vos_extent.proofs.Walking.{Ahead}
 use Rattle.vos_extent.proofs.extent.Extents.paint_all.Given as goal

@@ -1,7 +1,7 @@
 use Rattle.std.proofs.Common.{ap, sym, subst, ◌∙◌}
 use Rattle.pmem_pages.specs.Shape.{IsTree, entries, entry_at}
-use Rattle.vos_levels.proofs.Calls.{on_ok_then}
-use Rattle.vos_levels.proofs.Changing.{hung_tree}
+use Rattle.vos_moments.proofs.vos_levels.Calls.{on_ok_then}
+use Rattle.vos_moments.proofs.vos_levels.Changing.{hung_tree}
 use Rattle.vos_ilog.specs.Logs.{log_level, moment_of}
 use Rattle.vos_ilog.proofs.Adding.{log_added, missing_at}
 use Rattle.vos_ilog.proofs.ilog.Ilog.add.Goals as goal

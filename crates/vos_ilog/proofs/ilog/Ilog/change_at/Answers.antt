@@ -2,9 +2,9 @@ use Rattle.std.proofs.Common.{◌≡◌, ◌∙◌, sym, subst, ap, arith, None}
 use Rattle.std.specs.List.{find}
 use Rattle.std.specs.Option.{option_map}
 use Rattle.pmem_pages.specs.Owners.{Holds}
-use Rattle.vos_levels.specs.Calls.{Becomes}
-use Rattle.vos_levels.specs.Levels.{hung_root, things}
-use Rattle.vos_levels.proofs.Calls.{on_ok_then}
+use Rattle.vos_moments.specs.vos_levels.Calls.{Becomes}
+use Rattle.vos_moments.specs.vos_levels.Levels.{hung_root, things}
+use Rattle.vos_moments.proofs.vos_levels.Calls.{on_ok_then}
 use Rattle.vos_ilog.specs.Logs.{IsDoneAt, IsGoneAt, SaysAt, is_at, log_owner, mark_of}
 use Rattle.vos_ilog.proofs.Changing.{committed, kept_free, none_free, none_there, not_taken, stays_so, went, went_free}
 use Rattle.vos_ilog.proofs.ilog.Ilog.change_at.Goals as goal

@@ -1,6 +1,6 @@
 use Rattle.std.proofs.Common.{Err, ◌≡◌, ◌∙◌, refl, rules, sym}
 use Rattle.std.specs.Prelude.{take}
-use Rattle.vos_levels.proofs.Calls.{goes_same, goes_then}
+use Rattle.vos_moments.proofs.vos_levels.Calls.{goes_same, goes_then}
 use Rattle.vos_moments.proofs.Forms.{few_next, lacked_next, took_first, took_more}
 use Rattle.vos_ilog.specs.Settling.{is_taken_at}
 use Rattle.vos_ilog.proofs.Settling.{log_form}

@@ -1,8 +1,8 @@
 use Rattle.std.proofs.Common.{◌≡◌, IsTrue}
 use Rattle.std.specs.Prelude.{take}
 use Rattle.pmem_pages.specs.Owners.{Holds}
-use Rattle.pmem_tree_base.specs.Calls.{Goes}
-use Rattle.vos_levels.specs.Levels.{hung_root}
+use Rattle.vos_moments.specs.pmem_tree_base.Calls.{Goes}
+use Rattle.vos_moments.specs.vos_levels.Levels.{hung_root}
 use Rattle.vos_ilog.specs.Logs.{Log, log_owner}
 use Rattle.vos_ilog.specs.Settling.{TookEntries, is_taken_at}
 use Rattle.vos_ilog.proofs.ilog.Ilog.change_those.Given as goal

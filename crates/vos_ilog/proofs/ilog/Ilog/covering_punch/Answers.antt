@@ -1,8 +1,8 @@
 use Rattle.std.proofs.Common.{◌≡◌, ◌∙◌, ◌<◌, ap, sym, refl, subst, arith, Some, None}
 use Rattle.std.specs.Prelude.{IfSome}
 use Rattle.pmem_pages.specs.Owners.{Holds}
-use Rattle.vos_levels.specs.Levels.{find_last, things}
-use Rattle.vos_levels.proofs.Calls.{goes_same, goes_then}
+use Rattle.vos_moments.specs.vos_levels.Levels.{find_last, things}
+use Rattle.vos_moments.proofs.vos_levels.Calls.{goes_same, goes_then}
 use Rattle.vos_ilog.specs.Logs.{is_under, log_owner, start_of}
 use Rattle.vos_ilog.proofs.Reading.{Walks, walks_end, walks_first, walks_found, walks_on, walks_over, walks_steps}
 use Rattle.vos_ilog.proofs.ilog.Ilog.covering_punch.Goals as goal

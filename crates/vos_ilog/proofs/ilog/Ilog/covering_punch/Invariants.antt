@@ -1,8 +1,8 @@
 use Rattle.std.proofs.Common.{◌≡◌, ◌<◌, ◌≤◌, ◌+◌, ◌*◌, ◌^◌, ℕ, length, IsTrue}
 use Rattle.pmem_pages.specs.Owners.{Holds}
 use Rattle.pmem_pages.specs.Shape.{entries}
-use Rattle.pmem_tree_base.specs.Calls.{Goes}
-use Rattle.vos_levels.specs.Levels.{hung_root}
+use Rattle.vos_moments.specs.pmem_tree_base.Calls.{Goes}
+use Rattle.vos_moments.specs.vos_levels.Levels.{hung_root}
 use Rattle.vos_ilog.specs.Logs.{Log, log_owner, start_of}
 use Rattle.vos_ilog.proofs.Reading.{Walks}
 use Rattle.vos_ilog.proofs.ilog.Ilog.covering_punch.Given as goal

@@ -1,4 +1,4 @@
-use Rattle.vos_levels.proofs.Calls.{on_ok_then}
+use Rattle.vos_moments.proofs.vos_levels.Calls.{on_ok_then}
 use Rattle.vos_ilog.proofs.Changing.{entry_gone, has_key}
 use Rattle.vos_ilog.proofs.Reading.{log_tree}
 use Rattle.vos_ilog.proofs.ilog.Ilog.remove_at.Goals as goal

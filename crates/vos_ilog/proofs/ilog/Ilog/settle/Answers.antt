@@ -1,6 +1,6 @@
 use Rattle.std.proofs.Common.{ap}
-use Rattle.vos_levels.specs.Changes.{keeps}
-use Rattle.vos_levels.proofs.Calls.{on_ok_then}
+use Rattle.vos_moments.specs.vos_levels.Changes.{keeps}
+use Rattle.vos_moments.proofs.vos_levels.Calls.{on_ok_then}
 use Rattle.vos_moments.specs.Steps.{change_of}
 use Rattle.vos_moments.proofs.Forms.{settled_from, settled_lacks}
 use Rattle.vos_ilog.proofs.Settling.{log_form}

@@ -1,13 +1,13 @@
 use Rattle.std.specs.Prelude.{◌≡◌, ◌≤◌, false, true, refl, Ok, [], ◌∷◌, ◌++◌, OnOk}
 use Rattle.std.proofs.Common.{◌∙◌, ap, sym, subst}
-use Rattle.vos_places.specs.Tables.{Table}
+use Rattle.vos_standing.specs.vos_places.Tables.{Table}
 use Rattle.vos_pool_base.specs.Pool.{HasRoots, IsOpened, OpenedState}
 use Rattle.vos_pool_base.proofs.Staging.{one_staged, with_ranges}
 use Rattle.vos_pool_base.proofs.Leaving.{call_leaves, call_tidies, counted_same, counters_free, same_pool}
 use Rattle.vos_pool_base.proofs.Writing.{call_makes, err_is_not_ok, opened_after}
 use Rattle.vos_pool_base.specs.Tidy.{IsSamePool}
-use Rattle.vos_places.specs.Codec.{counter_bytes}
-use Rattle.vos_places.specs.Laws.{counted, counter_range}
+use Rattle.vos_standing.specs.vos_places.Codec.{counter_bytes}
+use Rattle.vos_standing.specs.vos_places.Laws.{counted, counter_range}
 use Rattle.vos_standing.proofs.Standing.{stands_after_counters}
 use Rattle.vos_pool_base.proofs.opened.Opened.count.Goals as goal
 

@@ -1,7 +1,7 @@
 use Rattle.std.specs.Prelude.{◌≤◌}
 use Rattle.std.proofs.Common.{◌∙◌, ap, subst}
 use Rattle.daos_model.specs.Changes.{leased}
-use Rattle.vos_places.specs.Laws.{counted}
+use Rattle.vos_standing.specs.vos_places.Laws.{counted}
 use Rattle.vos_tables.specs.Kept.{Makes}
 use Rattle.vos_pool_base.specs.Pool.{OpenedState}
 use Rattle.vos_pool_base.proofs.opened.Opened.extend_lease.Goals as goal

@@ -1,7 +1,7 @@
 use Rattle.std.specs.Prelude.{false, true, refl, Ok}
 use Rattle.std.proofs.Common.{◌∙◌, ap, sym, subst}
-use Rattle.vos_image.specs.Places.{Header}
-use Rattle.vos_places.specs.Tables.{Table}
+use Rattle.vos_standing.specs.vos_image.Places.{Header}
+use Rattle.vos_standing.specs.vos_places.Tables.{Table}
 use Rattle.vos_pool_base.specs.Pool.{IsOpened, OpenedState, ranges_of}
 use Rattle.vos_pool_base.proofs.Staging.{with_ranges}
 use Rattle.vos_pool_base.proofs.Writing.{call_makes, err_is_not_ok, opened_after}

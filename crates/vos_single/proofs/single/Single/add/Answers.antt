@@ -1,5 +1,5 @@
 use Rattle.std.proofs.Common.{inl}
-use Rattle.vos_levels.proofs.Calls.{on_ok_then}
+use Rattle.vos_moments.proofs.vos_levels.Calls.{on_ok_then}
 use Rattle.vos_single.proofs.Changing.{missing_at, version_added}
 use Rattle.vos_single.proofs.Reading.{single_tree}
 use Rattle.vos_single.proofs.single.Single.add.Goals as goal

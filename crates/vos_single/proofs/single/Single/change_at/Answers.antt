@@ -1,5 +1,5 @@
 use Rattle.std.proofs.Common.{arith, inl}
-use Rattle.vos_levels.proofs.Calls.{on_ok_then}
+use Rattle.vos_moments.proofs.vos_levels.Calls.{on_ok_then}
 use Rattle.vos_single.proofs.Changing.{bytes_there, version_changed, version_freed}
 use Rattle.vos_single.proofs.Reading.{single_tree}
 use Rattle.vos_single.proofs.single.Single.change_at.Goals as goal

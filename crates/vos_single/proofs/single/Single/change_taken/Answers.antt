@@ -1,8 +1,8 @@
 use Rattle.std.proofs.Common.{◌≡◌, ◌+◌, ◌*◌, ◌∙◌, sym, subst, arith}
 use Rattle.pmem_pages.specs.Blocks.{Budget, IsSpent}
 use Rattle.pmem_pages.specs.Owners.{Holds}
-use Rattle.vos_levels.specs.Calls.{Becomes}
-use Rattle.vos_levels.specs.Levels.{hung_root}
+use Rattle.vos_moments.specs.vos_levels.Calls.{Becomes}
+use Rattle.vos_moments.specs.vos_levels.Levels.{hung_root}
 use Rattle.vos_moments.proofs.Forms.{took_nothing, took_one}
 use Rattle.vos_moments.proofs.Taking.{on_ok_three, spent_at_most}
 use Rattle.vos_single.specs.Singles.{IsChangedAt, freed_at, is_taken, single_owner, versions}

@@ -1,7 +1,7 @@
 use Rattle.std.proofs.Common.{◌≡◌, ◌∙◌, ap, length, sym, subst, arith, None}
 use Rattle.std.specs.Option.{option_map}
-use Rattle.vos_levels.specs.Levels.{find_last, things}
-use Rattle.vos_chain.specs.Made.{IsChainAt, chain_blocks}
+use Rattle.vos_moments.specs.vos_levels.Levels.{find_last, things}
+use Rattle.vos_versions.specs.vos_chain.Made.{IsChainAt, chain_blocks}
 use Rattle.vos_single.specs.Singles.{chain_of, is_under, placed_of, version_of}
 use Rattle.vos_single.proofs.Reading.{found_at, none_found, version_found}
 use Rattle.vos_single.proofs.single.Single.newest.Goals as goal
