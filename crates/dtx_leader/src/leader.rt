@@ -85,7 +85,7 @@ impl Leader {
     /// # Errors
     ///
     /// For want of memory; the leader is then as it was.
-    #[tactic(auto, unfolding(dtx_base::specs::Leading::begun, dtx_table::below::entries::specs::Settling::entries_settled))]
+    #[tactic(auto, unfolding(dtx_base::specs::Leading::begun, dtx_table::specs::dtx_entries::Settling::entries_settled))]
     pub fn begin(
         &mut self,
         entry: &Entry,
@@ -167,7 +167,7 @@ impl Leader {
     }
 
     /// A decided attempt was committed in the store.
-    #[tactic(auto, unfolding(dtx_base::specs::Leading::settled_led, dtx_table::below::entries::specs::Settling::entries_settled))]
+    #[tactic(auto, unfolding(dtx_base::specs::Leading::settled_led, dtx_table::specs::dtx_entries::Settling::entries_settled))]
     pub fn settled(&mut self, attempt: AttemptId)
         ensures { self.new ≡ settled_led attempt self.old }
     {
