@@ -6,7 +6,7 @@ ghost use Rattle.daos_model.specs.Changes.{committed_at};
 ghost use Rattle.daos_model.specs.Durables.{entry_key};
 ghost use Rattle.daos_model.specs.Ordered.{is_rising};
 ghost use Rattle.dtx_base.specs.Leading.{batched, begun, first_leader, is_batch_due, query_answer, settled_led, step_of};
-ghost use Rattle.dtx_table.specs.dtx_entries.Settling.{entry_in};
+ghost use Rattle.dtx_entries.specs.Settling.{entry_in};
 
 use crate::decisions::Decisions;
 use base_messages::actor::ActorId;
@@ -85,7 +85,7 @@ impl Leader {
     /// # Errors
     ///
     /// For want of memory; the leader is then as it was.
-    #[tactic(auto, unfolding(dtx_base::specs::Leading::begun, dtx_table::specs::dtx_entries::Settling::entries_settled))]
+    #[tactic(auto, unfolding(dtx_base::specs::Leading::begun, dtx_entries::specs::Settling::entries_settled))]
     pub fn begin(
         &mut self,
         entry: &Entry,
@@ -167,7 +167,7 @@ impl Leader {
     }
 
     /// A decided attempt was committed in the store.
-    #[tactic(auto, unfolding(dtx_base::specs::Leading::settled_led, dtx_table::specs::dtx_entries::Settling::entries_settled))]
+    #[tactic(auto, unfolding(dtx_base::specs::Leading::settled_led, dtx_entries::specs::Settling::entries_settled))]
     pub fn settled(&mut self, attempt: AttemptId)
         ensures { self.new ≡ settled_led attempt self.old }
     {

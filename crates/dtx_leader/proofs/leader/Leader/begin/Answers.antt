@@ -4,7 +4,7 @@ use Rattle.std.proofs.lemmas.Bool.Decides.{nat_tests}
 use Rattle.daos_model.specs.Changes.{is_other}
 use Rattle.daos_model.specs.Durables.{entry_key}
 use Rattle.dtx_base.specs.Leading.{is_led}
-use Rattle.dtx_table.specs.dtx_entries.Settling.{entries_settled, entry_in}
+use Rattle.dtx_entries.specs.Settling.{entries_settled, entry_in}
 use Rattle.dtx_leader.proofs.Led.{put-undone, whole-put}
 use Rattle.dtx_leader.proofs.leader.Leader.begin.Goals as goal
 

@@ -2,7 +2,7 @@ use Rattle.std.proofs.Common.{◌≡◌, sym, subst}
 use Rattle.std.specs.Prelude.{filter}
 use Rattle.daos_model.specs.Changes.{is_other}
 use Rattle.dtx_base.specs.Leading.{is_led}
-use Rattle.dtx_table.specs.dtx_entries.Settling.{entries_settled}
+use Rattle.dtx_entries.specs.Settling.{entries_settled}
 use Rattle.dtx_leader.proofs.Led.{whole-filtered}
 use Rattle.dtx_leader.proofs.leader.Leader.hear_answer.Goals as goal
 

@@ -2,7 +2,7 @@ use Rattle.std.proofs.Common.{◌≡◌, map, sym, subst}
 use Rattle.std.specs.Prelude.{filter}
 use Rattle.daos_model.specs.Changes.{committed_at}
 use Rattle.dtx_base.specs.Leading.{is_led, settled_led}
-use Rattle.dtx_table.specs.dtx_entries.Settling.{entries_settled}
+use Rattle.dtx_entries.specs.Settling.{entries_settled}
 use Rattle.dtx_leader.proofs.Led.{led-committed}
 use Rattle.dtx_leader.proofs.leader.Leader.settled.Goals as goal
 
