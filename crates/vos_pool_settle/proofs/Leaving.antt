@@ -28,8 +28,8 @@ use Rattle.vos_pool_settle.specs.Settling.{HaveAllOf, IsSettling, OfItsKept}
 use Rattle.vos_pool_settle.proofs.Made.{can_turn, each_counts, kept_is, same_stored}
 use Rattle.vos_pool_settle.proofs.Named.{all_named, is_one_of, is_same, waits, waits_is}
 use Rattle.vos_pool_turns.proofs.vos_pool_stage.Lifting.{leaves_then, none_leaves, quiet_then_quiet, still_same}
-use Rattle.vos_pool_turns.specs.vos_pool_stage.Staged.{IsQuietCall}
-use Rattle.vos_pool_turns.specs.Pool.{CanTurn, HasTurned, IsOneTurn, StandsIn, TurnsKept}
+use Rattle.vos_pool_turns.specs.vos_pool_stage.Staged.{IsQuietCall, StandsInPool}
+use Rattle.vos_pool_turns.specs.Pool.{CanTurn, HasTurned, IsOneTurn, TurnsKept}
 use Rattle.vos_store.specs.Calls.{Makes}
 use Rattle.vos_store.specs.declared.refusal.Stopped.{Stopped}
 use Rattle.vos_store.specs.Refusals.{always_stop, refuses}
@@ -132,7 +132,7 @@ module _ {R : Type 0} (extent : R → ℕ) (tells : Bool) (image : R → Image) 
   pub can_keep : (p : OpenedState R) → (IsTrue tells → p.blocks.undo.stopped ≡ false → (x : Stored) × IsLeftOver extent image a p x) → IsTrue tells → p.blocks.undo.stopped ≡ false → (x : Stored) × CanTurn extent image step.Keep p x
   can_keep p here told going = let x = here told going in (x.0, record { stands = x.1.stands; nothing = x.1.nothing; step = tt })
 
-  over_as : (p : OpenedState R) (x y : Stored) → StandsIn extent image p y → IsLeftOver extent image a p x → IsLeftOver extent image a p y
+  over_as : (p : OpenedState R) (x y : Stored) → StandsInPool extent image p y → IsLeftOver extent image a p x → IsLeftOver extent image a p y
   over_as p x y stands over = subst (IsLeftOver extent image a p) (same_stored p.table.header.target (extent p.blocks.undo.region) (image p.blocks.undo.region) p.table x y over.stands stands) over
 
   pub keeps : (us : List Version) (p : OpenedState R) → (IsTrue tells → p.blocks.undo.stopped ≡ false → (x : Stored) × IsLeftOver extent image a p x) → TurnsKept tells extent image (Abort a) us a step.Keep p (λ d. d)

@@ -36,7 +36,8 @@ use Rattle.vos_pool_base.specs.Pool.{OpenedState, kept_of}
 use Rattle.vos_pool_base.specs.Tidy.{IfTidy}
 use Rattle.vos_pool_settle.specs.Settling.{HaveAllOf, IsSettling, OfItsKept}
 use Rattle.vos_pool_settle.proofs.Named.{all_named, committed_all, few_taken, is_one_of}
-use Rattle.vos_pool_turns.specs.Pool.{CanTurn, HasTurned, IsOneTurn, StandsIn}
+use Rattle.vos_pool_turns.specs.Pool.{CanTurn, HasTurned, IsOneTurn}
+use Rattle.vos_pool_turns.specs.vos_pool_stage.Staged.{StandsInPool}
 use Rattle.vos_pool_base.proofs.vos_standing.Committed.{closed_it_is_kept}
 use Rattle.vos_pool_base.proofs.vos_standing.Standing.{what_stands_stands}
 use Rattle.vos_pool_base.specs.vos_standing.Standing.{Stand, content}
@@ -79,13 +80,13 @@ members_fit c ns [] all = All-nil (λ e. fits_targets c e.members ≡ true)
 members_fit c ns (x ∷ xs) all = All-cons (λ e. fits_targets c e.members ≡ true) x.entry (map entry_of_stored xs) (All-head (EntryFits c ns) x xs all).members (members_fit c ns xs (All-tail (EntryFits c ns) x xs all))
 
 module _ {R : Type 0} (extent : R → ℕ) (tells : Bool) (image : R → Image) (may_leave : R → Image → Type 0) (p : OpenedState R) (tidy : IfTidy tells extent image p) where
-  pub each_counts : IsTrue tells → p.blocks.undo.stopped ≡ false → (x : Stored) → StandsIn extent image p x → EachCounts x
+  pub each_counts : IsTrue tells → p.blocks.undo.stopped ≡ false → (x : Stored) → StandsInPool extent image p x → EachCounts x
   each_counts told going x stands =
       let t = tidy told going in
       subst EachCounts (same_stored p.table.header.target (extent p.blocks.undo.region) (image p.blocks.undo.region) p.table t.stored x t.stands stands) t.counted
 
   -- what is kept is what stands keeps
-  pub kept_is : (IsTrue tells → IsUndo (extent p.blocks.undo.region) tells (image p.blocks.undo.region) (may_leave p.blocks.undo.region) p.blocks.undo.staged p.blocks.undo.stopped) → IsTrue tells → p.blocks.undo.stopped ≡ false → (x : Stored) → StandsIn extent image p x
+  pub kept_is : (IsTrue tells → IsUndo (extent p.blocks.undo.region) tells (image p.blocks.undo.region) (may_leave p.blocks.undo.region) p.blocks.undo.staged p.blocks.undo.stopped) → IsTrue tells → p.blocks.undo.stopped ≡ false → (x : Stored) → StandsInPool extent image p x
       → kept_of tells extent image p ≡ Some (kept_so (places_of p.table) x)
   kept_is undo told going x stands =
       let closed = ((undo told).rest told going).closed in
@@ -133,7 +134,7 @@ module _ {R : Type 0} (extent : R → ℕ) (tells : Bool) (image : R → Image) 
   can_commit = can_turn step.Commit (λ told going. tt)
 
   module _ (undo : IsTrue tells → IsUndo (extent p.blocks.undo.region) tells (image p.blocks.undo.region) (may_leave p.blocks.undo.region) p.blocks.undo.staged p.blocks.undo.stopped) (a : AttemptId) (us : List Version) (all : OfItsKept tells extent image p (HaveAllOf a us)) where
-    same_pending : IsTrue tells → p.blocks.undo.stopped ≡ false → (x : Stored) → StandsIn extent image p x → filter (is_pending a) us ≡ filter (is_pending a) (in_order version_key (versions_in x))
+    same_pending : IsTrue tells → p.blocks.undo.stopped ≡ false → (x : Stored) → StandsInPool extent image p x → filter (is_pending a) us ≡ filter (is_pending a) (in_order version_key (versions_in x))
     same_pending told going x stands = all told going (kept_so (places_of p.table) x) (kept_is undo told going x stands) ∙ ap (filter (is_pending a)) (kept_versions (places_of p.table) x (each_counts told going x stands))
 
     pub few_committed : IsTrue tells → p.blocks.undo.stopped ≡ false → AreFew (change.Commit a) us
@@ -151,11 +152,11 @@ module _ {R : Type 0} (extent : R → ℕ) (tells : Bool) (image : R → Image) 
   none_few c = record { few = inr (omega arith); most = omega arith }
 
   module _ (undo : IsTrue tells → IsUndo (extent p.blocks.undo.region) tells (image p.blocks.undo.region) (may_leave p.blocks.undo.region) p.blocks.undo.staged p.blocks.undo.stopped) (a : AttemptId) (by : Settle) (here : OfItsKept tells extent image p (CanSettle a by)) where
-    settle_of : IsTrue tells → p.blocks.undo.stopped ≡ false → (x : Stored) → StandsIn extent image p x → CanSettle a by (kept_so (places_of p.table) x)
+    settle_of : IsTrue tells → p.blocks.undo.stopped ≡ false → (x : Stored) → StandsInPool extent image p x → CanSettle a by (kept_so (places_of p.table) x)
     settle_of told going x stands = here told going (kept_so (places_of p.table) x) (kept_is undo told going x stands)
 
   module _ (undo : IsTrue tells → IsUndo (extent p.blocks.undo.region) tells (image p.blocks.undo.region) (may_leave p.blocks.undo.region) p.blocks.undo.staged p.blocks.undo.stopped) (a : AttemptId) (t : ℕ) (here : OfItsKept tells extent image p (CanSettle a (settle.Confirm t))) where
-    target_there : (x : Stored) → StandsIn extent image p x → CanSettle a (settle.Confirm t) (kept_so (places_of p.table) x) → t < (content (extent p.blocks.undo.region) (image p.blocks.undo.region)).targets
+    target_there : (x : Stored) → StandsInPool extent image p x → CanSettle a (settle.Confirm t) (kept_so (places_of p.table) x) → t < (content (extent p.blocks.undo.region) (image p.blocks.undo.region)).targets
     unfolding entry_of durable_of in_order
     target_there x stands k =
         let c = content (extent p.blocks.undo.region) (image p.blocks.undo.region) in

@@ -13,14 +13,13 @@ use Rattle.vos_keeping.specs.Keeping.{versions_in}
 use Rattle.vos_levels.specs.declared.change.Change.TheVariants.{Abort}
 use Rattle.vos_pool_base.specs.Pool.{OpenedState, kept_of, may_of}
 use Rattle.vos_pool_base.specs.Tidy.{LeavesBut}
-use Rattle.vos_pool_turns.specs.vos_pool_stage.Staged.{IsQuietCall}
-use Rattle.vos_pool_turns.specs.Pool.{StandsIn}
+use Rattle.vos_pool_turns.specs.vos_pool_stage.Staged.{IsQuietCall, StandsInPool}
 use Rattle.vos_store.specs.declared.refusal.Stopped.{Stopped}
 use Rattle.vos_pool_turns.specs.vos_turns.Turns.{after_each}
 
 -- This stands in a pool, no entry lists nodes, and the versions that don't count are the unsettled ones of the attempt.
 pub record IsLeftOver {R : Type 0} (extent : R → ℕ) (image : R → Image) (a : AttemptId) (p : OpenedState R) (x : Stored) : Type 0 where
-  pub stands : StandsIn extent image p x
+  pub stands : StandsInPool extent image p x
   pub nothing : ListNothing x.1
   pub count : All (λ v. counts (entries_in x.1) v ≡ is_not_pending a v) (versions_in x)
 

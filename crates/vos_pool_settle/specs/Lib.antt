@@ -1,3 +1,4 @@
+pub mod Changing
 pub mod Settling
 pub mod Aborting
 pub mod Removing

@@ -57,3 +57,7 @@ pub record IsQuietCall {T E : Type 0} (result : Result T E) (old new : Option Du
   pub told : is_some new ≡ is_some old
   pub done : OnOk result (new ≡ old)
   pub left : (x : Durable) → may' x → may x
+
+-- this stands in a pool
+abbrev pub StandsInPool : {R : Type 0} → (R → ℕ) → (R → Image) → OpenedState R → Stored → Type 0
+StandsInPool extent image p x = Stand p.table.header.target (extent p.blocks.undo.region) (image p.blocks.undo.region) p.table x

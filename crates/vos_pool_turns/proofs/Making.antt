@@ -29,8 +29,8 @@ use Rattle.vos_pool_stage.proofs.vos_pool_base.Commits.{when_ok}
 use Rattle.vos_pool_stage.specs.vos_pool_base.Pool.{OpenedState, kept_of, may_of}
 use Rattle.vos_pool_stage.specs.vos_pool_base.Tidy.{LeavesBut}
 use Rattle.vos_pool_stage.proofs.Lifting.{leaves_from, makes_from, none_leaves, none_made, none_quiet, quiet_from, still_then}
-use Rattle.vos_pool_stage.specs.Staged.{IsQuietCall, IsToStand, IsToStandOn, WhereTold, free_then, pool_of}
-use Rattle.vos_pool_turns.specs.Pool.{CanTurn, HasTurned, IsOneTurn, StandsIn, TurnsKept}
+use Rattle.vos_pool_stage.specs.Staged.{IsQuietCall, IsToStand, IsToStandOn, StandsInPool, WhereTold, free_then, pool_of}
+use Rattle.vos_pool_turns.specs.Pool.{CanTurn, HasTurned, IsOneTurn, TurnsKept}
 use Rattle.vos_turns.proofs.vos_small.Smallness.{maps_are_of_regions, stored_in_regions_are_small}
 use Rattle.vos_turns.specs.vos_small.Rooms.{HasLeft}
 use Rattle.vos_pool_stage.proofs.vos_standing.Changing.{blocks_are_shown, blocks_change}

@@ -14,7 +14,7 @@ use Rattle.vos_levels.specs.declared.change.Change.{Change}
 use Rattle.vos_keeping.specs.vos_places.Tables.{places_of}
 use Rattle.vos_pool_stage.specs.vos_pool_base.Pool.{OpenedState, kept_of, may_of}
 use Rattle.vos_pool_stage.specs.vos_pool_base.Tidy.{LeavesBut}
-use Rattle.vos_pool_stage.specs.Staged.{IsQuietCall}
+use Rattle.vos_pool_stage.specs.Staged.{IsQuietCall, StandsInPool}
 use Rattle.vos_pool_stage.specs.vos_standing.Standing.{Stand, content}
 use Rattle.vos_store.specs.Calls.{Makes}
 use Rattle.vos_store.specs.declared.refusal.Stopped.{Stopped}
@@ -22,20 +22,16 @@ use Rattle.vos_store.specs.Refusals.{always_stop}
 use Rattle.vos_turns.specs.declared.entries.EntryStep.{EntryStep}
 use Rattle.vos_turns.specs.Turns.{IsTurned, StepMayStand}
 
--- this stands in a pool
-abbrev pub StandsIn : {R : Type 0} → (R → ℕ) → (R → Image) → OpenedState R → Stored → Type 0
-StandsIn extent image p x = Stand p.table.header.target (extent p.blocks.undo.region) (image p.blocks.undo.region) p.table x
-
 -- Something stands in a pool whose entries list nothing, and a step may be taken there.
 pub record CanTurn {R : Type 0} (extent : R → ℕ) (image : R → Image) (s : EntryStep) (p : OpenedState R) (x : Stored) : Type 0 where
-  pub stands : StandsIn extent image p x
+  pub stands : StandsInPool extent image p x
   pub nothing : ListNothing x.1
   pub step : StepMayStand s (content (extent p.blocks.undo.region) (image p.blocks.undo.region))
 
 -- After it something else stands there, what the turn makes of that, and its entries list nothing.
 pub record HasTurned {R : Type 0} (extent : R → ℕ) (image : R → Image) (c : Change) (us : List Version) (a : AttemptId) (s : EntryStep) (x : Stored) (p : OpenedState R) : Type 0 where
   pub now : Stored
-  pub stands : StandsIn extent image p now
+  pub stands : StandsInPool extent image p now
   pub turned : IsTurned c us a s x now
   pub nothing : ListNothing now.1
 

@@ -26,10 +26,10 @@ use Rattle.vos_path.specs.Objects.{objects_owner, objects_versions}
 use Rattle.vos_path.specs.Writes.{IsAtObject, fresh}
 use Rattle.vos_places.specs.declared.codec.Counters.{Counters}
 use Rattle.vos_pool_base.specs.Pool.{OpenedState}
-use Rattle.vos_pool_stage.specs.Staged.{IsStaged, IsToStand, IsToStandOn}
+use Rattle.vos_pool_stage.specs.Staged.{IsStaged, IsToStand, IsToStandOn, StandsInPool}
 use Rattle.vos_pool_stage.proofs.Saying.{contents_say}
 use Rattle.vos_pool_stage.proofs.Staging.{entries_are_staged, objects_are_staged, staged_are_shown, staging_begins}
-use Rattle.vos_pool_write.specs.Coming.{MayCome, MayEnter, StandsNow}
+use Rattle.vos_pool_write.specs.Coming.{MayCome, MayEnter}
 use Rattle.vos_pool_write.specs.Written.{EntryComes, MayBeStaged, WriteComes}
 use Rattle.vos_pool_base.specs.vos_standing.Standing.{IsReadOf, content}
 use Rattle.vos_values.specs.declared.keys.ObjectKey.{ObjectKey}
@@ -57,7 +57,7 @@ object_of (PunchAkey p) form = some_obj p (first_of _ _ (first_of _ _ form))
 
 -- ---- a pool whose blocks have nothing staged
 
-module _ {R : Type 0} (extent : R → ℕ) (tells : Bool) (image : R → Image) (may_leave : R → Image → Type 0) (p : OpenedState R) (unstaged : p.blocks.undo.staged ≡ []) (x : Stored) (stands : StandsNow extent image p x)
+module _ {R : Type 0} (extent : R → ℕ) (tells : Bool) (image : R → Image) (may_leave : R → Image → Type 0) (p : OpenedState R) (unstaged : p.blocks.undo.staged ≡ []) (x : Stored) (stands : StandsInPool extent image p x)
     (holds : IsBlocks (extent p.blocks.undo.region) tells (image p.blocks.undo.region) p.blocks.undo.staged p.blocks.undo.stopped p.blocks.map p.blocks.lasting) (tell : IsTrue tells) (going : p.blocks.undo.stopped ≡ false) where
   size0 : ℕ
   size0 = extent p.blocks.undo.region

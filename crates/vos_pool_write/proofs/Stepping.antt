@@ -26,8 +26,8 @@ use Rattle.vos_places.specs.declared.codec.Counters.{Counters}
 use Rattle.vos_places.specs.Laws.{counted}
 use Rattle.vos_places.specs.Tables.{Table, places_of}
 use Rattle.vos_pool_base.specs.Pool.{OpenedState}
-use Rattle.vos_pool_stage.specs.Staged.{IsToStandOn, free_then}
-use Rattle.vos_pool_write.specs.Coming.{EntryMakes, HasCome, HasEntered, MayCome, MayEnter, StandsNow}
+use Rattle.vos_pool_stage.specs.Staged.{IsToStandOn, StandsInPool, free_then}
+use Rattle.vos_pool_write.specs.Coming.{EntryMakes, HasCome, HasEntered, MayCome, MayEnter}
 use Rattle.vos_pool_write.specs.Written.{EntryComes, MayBeStaged, WriteComes}
 use Rattle.vos_pool_write.proofs.Coming.{entries_here, entry_to_stand, objects_here, version_to_stand}
 use Rattle.vos_pool_write.proofs.Lists.{filter_none}
@@ -82,7 +82,7 @@ pub record IsAtRest {R : Type 0} (extent : R → ℕ) (tells : Bool) (image : R 
   pub closed : IsTrue tells → image p.blocks.undo.region gate ≡ 0
 
 -- what a pool keeps, in blocks on which changes are staged
-pub kept_now : {R : Type 0} (extent : R → ℕ) (tells : Bool) (image : R → Image) (may_leave : R → Image → Type 0) (p : OpenedState R) (x : Stored) (b : BlocksState R) → IsAtRest extent tells image p → StandsNow extent image p x → IsStill extent tells image may_leave p.blocks b → IsTrue tells
+pub kept_now : {R : Type 0} (extent : R → ℕ) (tells : Bool) (image : R → Image) (may_leave : R → Image → Type 0) (p : OpenedState R) (x : Stored) (b : BlocksState R) → IsAtRest extent tells image p → StandsInPool extent image p x → IsStill extent tells image may_leave p.blocks b → IsTrue tells
     → kept_in (kept p.table.header.target (extent b.undo.region)) (extent b.undo.region) (image b.undo.region) ≡ durable_of (record { places = places_of p.table; stored = x })
 kept_now extent tells image may_leave p x b rest stands still tell =
     ap (λ (n : ℕ). kept_in (kept p.table.header.target n) n (image b.undo.region)) still.size

@@ -14,16 +14,12 @@ use Rattle.vos_path.specs.Writes.{IsNewIn, fresh}
 use Rattle.vos_places.specs.Laws.{covered_by}
 use Rattle.vos_places.specs.Tables.{Table, places_of}
 use Rattle.vos_pool_base.specs.Pool.{OpenedState}
-use Rattle.vos_pool_base.specs.vos_standing.Standing.{Stand}
-
--- this stands in a pool now
-abbrev pub StandsNow : {R : Type 0} → (R → ℕ) → (R → Image) → OpenedState R → Stored → Type 0
-StandsNow extent image p x = Stand p.table.header.target (extent p.blocks.undo.region) (image p.blocks.undo.region) p.table x
+use Rattle.vos_pool_stage.specs.Staged.{StandsInPool}
 
 -- A version may come to what stands in a pool: it is of the second layout, nothing of its moment stands in its object, no entry lists nodes, the
 -- lease covers its epoch, and it counts for nothing as long as its attempt has no entry.
 pub record MayCome {R : Type 0} (extent : R → ℕ) (image : R → Image) (p : OpenedState R) (s : Stamp) (w : Write) (x : Stored) : Type 0 where
-  pub stands : StandsNow extent image p x
+  pub stands : StandsInPool extent image p x
   pub layout : p.table.header.layout ≡ 2
   pub new : IsNewIn (fresh s w) x.0
   pub unlisted : ListNothing x.1
@@ -33,13 +29,13 @@ pub record MayCome {R : Type 0} (extent : R → ℕ) (image : R → Image) (p : 
 -- it came: it stands there beside all others, with the same entries
 pub record HasCome {R : Type 0} (extent : R → ℕ) (image : R → Image) (p : OpenedState R) (s : Stamp) (w : Write) (x : Stored) : Type 0 where
   pub now : Stored
-  pub stands : StandsNow extent image p now
+  pub stands : StandsInPool extent image p now
   pub entries : now.1 ≡ x.1
   pub versions : HasMore (fresh s w) (objects_versions x.0) (objects_versions now.0)
 
 -- An entry may come to what stands in a pool: its attempt has none, it names targets that there are, and the lease covers its epoch.
 pub record MayEnter {R : Type 0} (extent : R → ℕ) (image : R → Image) (p : OpenedState R) (e : Entry) (x : Stored) : Type 0 where
-  pub stands : StandsNow extent image p x
+  pub stands : StandsInPool extent image p x
   pub absent : has_entry_at e.attempt (things x.1) ≡ false
   pub unlisted : ListNothing x.1
   pub leader : e.leader < p.table.header.targets
@@ -50,7 +46,7 @@ pub record MayEnter {R : Type 0} (extent : R → ℕ) (image : R → Image) (p :
 -- it came, and lists nothing
 pub record HasEntered {R : Type 0} (extent : R → ℕ) (image : R → Image) (p : OpenedState R) (e : Entry) (x : Stored) : Type 0 where
   pub now : Stored
-  pub stands : StandsNow extent image p now
+  pub stands : StandsInPool extent image p now
   pub objects : now.0 ≡ x.0
   pub entries : HasMore (record { entry = e; nodes = [] }) (listings x.1) (listings now.1)
 

@@ -12,7 +12,7 @@ use Rattle.vos_path.specs.Objects.{objects_versions}
 use Rattle.vos_places.specs.Laws.{covered_by}
 use Rattle.vos_pool_base.specs.Pool.{OpenedState}
 use Rattle.vos_pool_base.specs.Tidy.{AllCount, FewPending, NoneListed}
-use Rattle.vos_pool_write.specs.Coming.{StandsNow}
+use Rattle.vos_pool_stage.specs.Staged.{StandsInPool}
 use Rattle.vos_pool_write.specs.Lists.{AreNew}
 use Rattle.vos_pool_write.specs.Several.{AllMayBeStaged}
 
@@ -29,7 +29,7 @@ pub record MayBePrepared (targets : ℕ) (e : Entry) (ws : List MinorWrite) : Ty
 -- And here they may be: what stands is tidy, the attempt has no entry, no version has the epoch, the number and the object of one of the writes, nor have
 -- two of these, and the lease covers the epoch.
 pub record HasNoneOf {R : Type 0} (extent : R → ℕ) (image : R → Image) (p : OpenedState R) (e : Entry) (ws : List MinorWrite) (x : Stored) : Type 0 where
-  pub stands : StandsNow extent image p x
+  pub stands : StandsInPool extent image p x
   pub layout : p.table.header.layout ≡ 2
   pub counted : AllCount x
   pub unlisted : NoneListed x

@@ -12,7 +12,7 @@ use Rattle.vos_path.specs.declared.stamp.Stamp.{Stamp}
 use Rattle.vos_path.specs.Objects.{objects_versions}
 use Rattle.vos_places.specs.Laws.{covered_by}
 use Rattle.vos_pool_base.specs.Pool.{OpenedState}
-use Rattle.vos_pool_write.specs.Coming.{StandsNow}
+use Rattle.vos_pool_stage.specs.Staged.{StandsInPool}
 use Rattle.vos_pool_write.specs.Lists.{AreNew, HaveMore}
 use Rattle.vos_pool_write.specs.Written.{MayBeStaged, blocks_at_most}
 
@@ -37,7 +37,7 @@ AllUnseen x e (w ∷ ws) = (counts (entries_in x.1) (version_of e w) ≡ false) 
 
 -- Their versions may come to what stands in a pool.
 pub record AllMayCome {R : Type 0} (extent : R → ℕ) (image : R → Image) (p : OpenedState R) (e : Entry) (ws : List MinorWrite) (x : Stored) : Type 0 where
-  pub stands : StandsNow extent image p x
+  pub stands : StandsInPool extent image p x
   pub layout : p.table.header.layout ≡ 2
   pub new : AreNew version_key (versions_of e ws) (objects_versions x.0)
   pub unlisted : ListNothing x.1
@@ -47,6 +47,6 @@ pub record AllMayCome {R : Type 0} (extent : R → ℕ) (image : R → Image) (p
 -- They came: they stand there beside all others, with the same entries.
 pub record AllHaveCome {R : Type 0} (extent : R → ℕ) (image : R → Image) (p : OpenedState R) (e : Entry) (ws : List MinorWrite) (x : Stored) : Type 0 where
   pub now : Stored
-  pub stands : StandsNow extent image p now
+  pub stands : StandsInPool extent image p now
   pub entries : now.1 ≡ x.1
   pub versions : HaveMore (versions_of e ws) (objects_versions x.0) (objects_versions now.0)
