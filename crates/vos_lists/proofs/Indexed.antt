@@ -18,7 +18,7 @@ use Rattle.vos_lists.specs.Covers.{CoverAkeys, CoverDkeys, CoverObjects, view_of
 use Rattle.vos_lists.specs.Stands.{covered}
 use Rattle.vos_lists.specs.Unders.{over_akeys, over_dkeys}
 use Rattle.vos_lists.proofs.Alive.{later_moments}
-use Rattle.vos_lists.proofs.Below.{same_cont}
+use Rattle.vos_lists.proofs.NamesBelow.{same_cont}
 use Rattle.vos_lists.proofs.Naming.{found_own, good_has}
 use Rattle.vos_lists.proofs.Settled.{cont_path, over_akey, over_dkey, over_object, settled_below, top_akey, top_dkey, top_object, under_akey, under_dkey, under_object}
 

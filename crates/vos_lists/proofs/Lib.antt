@@ -4,7 +4,7 @@ mod Alive
 mod Naming
 mod Full
 mod Settled
-mod Below
+mod NamesBelow
 mod Ends
 mod Ranges
 mod Indexed

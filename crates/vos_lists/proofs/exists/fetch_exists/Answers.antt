@@ -14,7 +14,7 @@ use Rattle.vos_lists.specs.Covers.{CoverAkeys, CoverDkeys}
 use Rattle.vos_lists.specs.Stands.{covered, has_value}
 use Rattle.vos_lists.specs.Unders.{over_akeys, over_dkeys}
 use Rattle.vos_lists.proofs.Alive.{akey_law}
-use Rattle.vos_lists.proofs.Below.{cont_law, dkey_law, object_law}
+use Rattle.vos_lists.proofs.NamesBelow.{cont_law, dkey_law, object_law}
 use Rattle.vos_lists.proofs.Indexed.{cover_akeys, cover_dkeys, cover_objects, over_values}
 use Rattle.vos_lists.proofs.Settled.{cont_path}
 use Rattle.vos_lists.proofs.Ends.{cont_ends, form_ends}

@@ -17,7 +17,7 @@ use Rattle.vos_lists.specs.Covers.{CoverAkeys}
 use Rattle.vos_lists.specs.Stands.{akey_name, akey_stands}
 use Rattle.vos_lists.specs.Unders.{over_akeys}
 use Rattle.vos_lists.specs.declared.view.View.{View}
-use Rattle.vos_lists.proofs.Below.{akeys_law}
+use Rattle.vos_lists.proofs.NamesBelow.{akeys_law}
 use Rattle.vos_lists.proofs.Ends.{dkey_ends}
 use Rattle.vos_lists.proofs.Indexed.{cover_akeys}
 use Rattle.vos_lists.proofs.Walking.{all_taken}

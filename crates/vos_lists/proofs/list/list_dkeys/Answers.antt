@@ -16,7 +16,7 @@ use Rattle.vos_lists.specs.Covers.{CoverDkeys}
 use Rattle.vos_lists.specs.Stands.{dkey_name, dkey_stands}
 use Rattle.vos_lists.specs.Unders.{over_dkeys}
 use Rattle.vos_lists.specs.declared.view.View.{View}
-use Rattle.vos_lists.proofs.Below.{dkeys_law}
+use Rattle.vos_lists.proofs.NamesBelow.{dkeys_law}
 use Rattle.vos_lists.proofs.Ends.{object_ends}
 use Rattle.vos_lists.proofs.Indexed.{cover_dkeys}
 use Rattle.vos_lists.proofs.Walking.{all_taken}
