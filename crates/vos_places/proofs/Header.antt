@@ -171,6 +171,18 @@ lease_small target c h after is = below_told (number c.bytes 32 8) (2 ^ 56) (hea
     below_told : (a b : ℕ) → nat_lt a b ≡ true → a < b
     below_told a b t = grind (arith, nat_tests)
 
+-- its layout, and the target that it is of
+pub layout_read : (target : ℕ) (c : Content) (h : Header) (after : List ℕ) → read_header target c [] ≡ Ok (h, after) → is_layout h.layout ≡ true
+unfolding header_in
+layout_read target c h after is = let was = header_was target c h after is in subst (λ (z : Header). is_layout z.layout ≡ true) was.header was.rules.layout
+
+pub target_read : (target : ℕ) (c : Content) (h : Header) (after : List ℕ) → read_header target c [] ≡ Ok (h, after) → h.target ≡ target
+unfolding header_in
+target_read target c h after is = let was = header_was target c h after is in subst (λ (z : Header). z.target ≡ target) was.header (same_told (c.bytes 12) target was.rules.target_is)
+  where
+    same_told : (a b : ℕ) → (a == b) ≡ true → a ≡ b
+    same_told a b t = grind (arith, nat_tests)
+
 -- ---- counters that are written are read
 
 record CountersSaid (f : Image) (n : Counters) : Type 0 where
