@@ -1,0 +1,4 @@
+// A blank region is formatted.
+#![tactic(auto)]
+
+pub mod format;
