@@ -44,7 +44,7 @@ pub without_is : {V : Type 0} (p : V → Bool) (vs : List V) → without_those p
 without_is p [] = refl
 without_is p (v ∷ vs) = elim (p v) as (λ b. (if b then without_those p vs else v ∷ without_those p vs) ≡ cond (not b) (v ∷ filter (λ w. not (p w)) vs) (filter (λ w. not (p w)) vs)) [ true ↦ without_is p vs | false ↦ ap (λ z. v ∷ z) (without_is p vs) ]
 
-filter_both : {V : Type 0} (p q r : V → Bool) (vs : List V) → ((v : V) → (p v || q v) ≡ r v) → filter (λ v. not (q v)) (filter (λ v. not (p v)) vs) ≡ filter (λ v. not (r v)) vs
+pub filter_both : {V : Type 0} (p q r : V → Bool) (vs : List V) → ((v : V) → (p v || q v) ≡ r v) → filter (λ v. not (q v)) (filter (λ v. not (p v)) vs) ≡ filter (λ v. not (r v)) vs
 filter_both p q r [] h = refl
 filter_both p q r (v ∷ vs) h = by (p v) (q v) refl refl (filter_both p q r vs h)
   where

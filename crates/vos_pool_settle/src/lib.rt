@@ -2,6 +2,7 @@
 #![tactic(auto)]
 
 pub mod abort;
+pub mod below;
 pub mod remove;
 pub mod settle;
 pub mod steps;

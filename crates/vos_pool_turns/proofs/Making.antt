@@ -1,6 +1,6 @@
 -- A turn that is staged and committed is one of the pool.
 use Rattle.std.proofs.Common.{rules, ◌≡◌, ℕ, ◌+◌, ◌≤◌, Bool, true, false, List, [], Ok, Err, Result, refl, sym, ap, ◌∙◌, subst, arith, inl, inr}
-use Rattle.std.specs.Prelude.{if◌then◌else◌, length, IsErr, IsErrOf, IsTrue, OnErr, OnOk, is_ok}
+use Rattle.std.specs.Prelude.{length, IsErrOf, IsTrue, OnErr, OnOk, is_ok}
 use Rattle.base_outside.specs.Images.{Image, Range, all_over}
 use Rattle.base_types.specs.declared.id.AttemptId.{AttemptId}
 use Rattle.daos_model.specs.BoolLaws.{clash}
@@ -20,28 +20,24 @@ use Rattle.pmem_undo.specs.Undo.{IsUndo}
 use Rattle.vos_commits.specs.Kept.{kept_in}
 use Rattle.vos_turns.specs.vos_fitting.Fitting.{ListNothing}
 use Rattle.vos_turns.specs.vos_image.Kept.{Stored, durable_of, kept, stored_owner}
-use Rattle.vos_keeping.specs.Keeping.{SameRows, kept_so}
+use Rattle.vos_keeping.specs.Keeping.{SameRows, kept_so, versions_in}
 use Rattle.vos_levels.specs.declared.change.Change.{Change}
 use Rattle.vos_keeping.specs.vos_places.declared.codec.Counters.{Counters}
 use Rattle.vos_keeping.specs.vos_places.Laws.{counted}
 use Rattle.vos_keeping.specs.vos_places.Tables.{Table, places_of}
-use Rattle.vos_pool_stage.proofs.vos_pool_base.Commits.{when_ok}
-use Rattle.vos_pool_stage.specs.vos_pool_base.Pool.{OpenedState, kept_of, may_of}
-use Rattle.vos_pool_stage.specs.vos_pool_base.Tidy.{LeavesBut}
-use Rattle.vos_pool_stage.proofs.Lifting.{leaves_from, makes_from, none_leaves, none_made, none_quiet, quiet_from, still_then}
-use Rattle.vos_pool_stage.specs.Staged.{IsQuietCall, IsToStand, IsToStandOn, StandsInPool, WhereTold, free_then, pool_of}
+use Rattle.vos_pool_stage.specs.vos_pool_base.Pool.{OpenedState}
+use Rattle.vos_pool_stage.proofs.Lifting.{none_leaves, none_made, none_quiet, still_then}
+use Rattle.vos_pool_stage.specs.Staged.{IsToStand, IsToStandOn, WhereTold, free_then, pool_of}
 use Rattle.vos_pool_turns.specs.Pool.{CanTurn, HasTurned, IsOneTurn, TurnsKept}
 use Rattle.vos_turns.proofs.vos_small.Smallness.{maps_are_of_regions, stored_in_regions_are_small}
 use Rattle.vos_turns.specs.vos_small.Rooms.{HasLeft}
 use Rattle.vos_pool_stage.proofs.vos_standing.Changing.{blocks_are_shown, blocks_change}
 use Rattle.vos_pool_stage.proofs.vos_standing.Committed.{closed_it_is_kept}
 use Rattle.vos_pool_stage.specs.vos_standing.Standing.{IsReadOf, Stand, content}
-use Rattle.vos_store.specs.Calls.{Makes}
 use Rattle.vos_store.specs.declared.refusal.Stopped.{Stopped}
-use Rattle.vos_store.specs.Refusals.{always_stop}
 use Rattle.vos_keeping.specs.vos_tables.Kept as tables
 use Rattle.vos_turns.specs.declared.entries.EntryStep.{EntryStep}
-use Rattle.vos_turns.specs.Turns.{IsTurned, StandsBelow, StepMayStand, TurnsTo}
+use Rattle.vos_turns.specs.Turns.{StandsBelow, StepMayStand, TurnsTo, after_each}
 
 -- ---- before
 
@@ -215,10 +211,15 @@ module _ {R : Type 0} (extent : R → ℕ) (tells : Bool) (image : R → Image) 
     quiet = λ turns. none_quiet extent tells image may_leave (pool_of b t) q.blocks whole r;
     left = none_leaves extent tells image may_leave (pool_of b t) q.blocks whole 0;
     free = (let same : free_count q.blocks ≡ free_count b = ap (λ (m : MapState). count_below (free_of m) m.end) (map ∙ (still.lasting ∙ sym unchanged)) in omega (arith, same));
+    gives = none_gone r not_told;
     size = whole.size;
     stops = stops;
   }
     where
+      none_gone : (r : Result (Unit {0}) Stopped) → (is_ok r ≡ true → tells ≡ false) → OnOk r (IsTrue tells → (x : Stored) → CanTurn extent image s (pool_of b t) x → free_count b + length (versions_in x) ≤ free_count q.blocks + length (after_each c us (versions_in x)))
+      none_gone (Ok z) never = λ told x can. absurd (clash tells told (never refl))
+      none_gone (Err z) never = tt
+
       by : (r : Result (Unit {0}) Stopped) → (is_ok r ≡ true → tells ≡ false) → OnOk r (IsTrue tells → (x : Stored) → CanTurn extent image s (pool_of b t) x → HasTurned extent image c us a s x (pool_of q.blocks t))
       by (Ok z) never = λ told x can. absurd (clash tells told (never refl))
       by (Err z) never = tt

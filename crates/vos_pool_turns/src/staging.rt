@@ -1,12 +1,13 @@
 // A turn staged on the blocks of a region.
-ghost use Rattle.std.specs.Prelude.{◌≡◌, ◌≤◌, ◌<◌, true, All, IsErrOf, IsTrue, OnOk};
+ghost use Rattle.std.specs.Prelude.{◌≡◌, ◌≤◌, ◌<◌, ◌+◌, true, length, All, IsErrOf, IsTrue, OnOk};
 ghost use Rattle.pmem_alloc.specs.Pages.{left, shown};
 ghost use Rattle.pmem_alloc.specs.Still.{IsSince, IsStill};
 ghost use Rattle.pmem_tree_base.specs.Calls.{Goes};
 ghost use Rattle.pmem_tree_base.specs.declared.refusal.TreeNo.{TreeNo};
+ghost use Rattle.vos_keeping.specs.Keeping.{versions_in};
 ghost use Rattle.vos_turns.specs.vos_image.Kept.{Stored};
 ghost use Rattle.vos_turns.specs.vos_small.Rooms.{HasLeft};
-ghost use Rattle.vos_turns.specs.Turns.{AreFew, CanBeNamed, IsEntryStep, StandsBelow, TurnsTo};
+ghost use Rattle.vos_turns.specs.Turns.{AreFew, CanBeNamed, IsEntryStep, StandsBelow, TurnsTo, after_each};
 
 use base_outside::region::Region;
 use base_types::id::AttemptId;
@@ -51,6 +52,7 @@ fn stage_as<R: Region, L: Ledger, O: Origin>(
     ensures too_much { IsErrOf result.2 TreeNo.TooMuch → IsTrue R.tells → ⊥ }
     ensures left { OnOk result.2 (IsTrue R.tells → HasLeft 1 24 (left result.0)) }
     ensures free { OnOk result.2 (IsTrue R.tells → (left blocks).free ≤ (left result.0).free) }
+    ensures gives { OnOk result.2 (IsTrue R.tells → (x : Stored) → StandsBelow (shown R.image blocks) objects.root entries.tree.root x → (left blocks).free + length (versions_in x) ≤ (left result.0).free + length (after_each change versions.now (versions_in x))) }
     ensures goes { Goes (λ b. b.undo.stopped) (λ b. R.count b.undo.region) (λ b. R.burns b.undo.region) blocks result.0 }
     ensures stopped { IsErrOf result.2 TreeNo.Stopped → result.0.undo.stopped ≡ true }
     ensures went_on { OnOk result.2 (result.0.undo.stopped ≡ blocks.undo.stopped) }
@@ -100,6 +102,7 @@ pub(crate) fn stage_turn<R: Region>(
     ensures too_much { IsErrOf result.2 TreeNo.TooMuch → IsTrue R.tells → ⊥ }
     ensures left { OnOk result.2 (IsTrue R.tells → HasLeft 1 24 (left result.0)) }
     ensures free { OnOk result.2 (IsTrue R.tells → (left blocks).free ≤ (left result.0).free) }
+    ensures gives { OnOk result.2 (IsTrue R.tells → (x : Stored) → StandsBelow (shown R.image blocks) objects.root entries.tree.root x → (left blocks).free + length (versions_in x) ≤ (left result.0).free + length (after_each change versions.now (versions_in x))) }
     ensures goes { Goes (λ b. b.undo.stopped) (λ b. R.count b.undo.region) (λ b. R.burns b.undo.region) blocks result.0 }
     ensures stopped { IsErrOf result.2 TreeNo.Stopped → result.0.undo.stopped ≡ true }
     ensures went_on { OnOk result.2 (result.0.undo.stopped ≡ blocks.undo.stopped) }

@@ -25,8 +25,8 @@ use Rattle.vos_turns.specs.declared.entries.EntryStep.{EntryStep}
 use Rattle.vos_turns.specs.declared.entries.EntryStep.TheVariants as step
 use Rattle.vos_levels.proofs.Changing.{stays}
 use Rattle.vos_levels.specs.declared.change.Change.{Change}
-use Rattle.vos_levels.specs.Changes.{keeps}
-use Rattle.vos_levels.specs.Levels.{hung_root, things}
+use Rattle.vos_levels.specs.Changes.{changed_by, freed_by, keeps, sum_those}
+use Rattle.vos_levels.specs.Levels.{hung_root, map_those, things, without_those}
 use Rattle.vos_fitting.specs.vos_path.Objects.{Objects, objects_owner, objects_versions}
 use Rattle.vos_fitting.specs.vos_path.Writes.{ObjectsAreSmall}
 use Rattle.vos_fitting.proofs.vos_settle.Smaller.{objects_small}
@@ -34,7 +34,8 @@ use Rattle.vos_fitting.proofs.vos_settle.Sums.{spends_most, spends_none, spends_
 use Rattle.vos_fitting.specs.vos_settle.Costs.{Spends}
 use Rattle.vos_fitting.specs.vos_settle.declared.task.WriteKind.{WriteKind}
 use Rattle.vos_fitting.specs.vos_settle.declared.task.WriteKind.TheVariants as kind
-use Rattle.vos_fitting.specs.vos_settle.Versions.{WriteTurn, fits_kind, object_in}
+use Rattle.vos_fitting.specs.vos_settle.declared.task.Task.{Task}
+use Rattle.vos_fitting.specs.vos_settle.Versions.{WriteTurn, done_version, fits_kind, is_version_taken, object_in, version_blocks, versions_after, versions_freed}
 use Rattle.vos_small.specs.Rooms.{HasLeft}
 use Rattle.vos_turns.specs.Steps.{EntryTurn, StandsUnlisted, VersionsTurn, cost_of}
 use Rattle.vos_turns.specs.Turns.{AreFew, CanBeNamed, StandsBelow, TurnsTo, after_each, after_one, task_of, takes_version}
@@ -69,6 +70,28 @@ count_part t us zero = omega arith
 count_part t [] (suc i) = omega arith
 count_part t (x ∷ us) (suc i) = let rest = count_part t us i in elim (t x) as (λ d. length (cond d (x ∷ filter t (take i us)) (filter t (take i us))) ≤ length (cond d (x ∷ filter t us) (filter t us))) [ true ↦ omega (arith, rest) | false ↦ rest ]
 
+-- ---- what goes gives back
+
+module _ {A : Type 0} (test : A → Bool) where
+  mapped_length : (f : A → A) (xs : List A) → length (map_those test f xs) ≡ length xs
+  mapped_length f [] = refl
+  mapped_length f (x ∷ xs) = omega (arith, mapped_length f xs)
+
+  gone_count : (size : A → ℕ) → ((a : A) → 1 ≤ size a) → (xs : List A) → length xs ≤ length (without_those test xs) + sum_those test size xs
+  gone_count size some [] = omega arith
+  gone_count size some (x ∷ xs) =
+      let rest = gone_count size some xs in
+      let one = some x in
+      elim (test x) as (λ b. length (x ∷ xs) ≤ length (if b then without_those test xs else x ∷ without_those test xs) + ((if b then size x else 0) + sum_those test size xs)) [ true ↦ omega (arith, rest, one) | false ↦ omega (arith, rest) ]
+
+  changed_count : (k : Bool) (f : A → A) (size : A → ℕ) → ((a : A) → 1 ≤ size a) → (xs : List A) → length xs ≤ length (changed_by k test f xs) + freed_by k test size xs
+  changed_count true f size some xs = omega (arith, mapped_length f xs)
+  changed_count false f size some xs = gone_count size some xs
+
+-- so each version that goes does
+pub gone_give : (t : Task) (p : Path) (vs : List Version) → length vs ≤ length (versions_after t p vs) + versions_freed t p vs
+gone_give t p vs = changed_count (is_version_taken t.kind t p) (keeps t.change) done_version version_blocks (λ v. omega arith) vs
+
 -- ---- one after another
 
 pub turn_first : (c : Change) (m : Blocks) (g : Objects) (b : Budget) (at : ℕ) → Holds objects_owner m g → at ≡ hung_root g → ObjectsAreSmall 17 g → VersionsTurn c [] m g b m at b
@@ -81,6 +104,7 @@ turn_first c m g b at held root small = record {
   fits = λ k e nothing fits. fits;
   spent = spends_none _ b b refl;
   free = omega arith;
+  gives = omega arith;
 }
 
 more_spent : (k : Bool) (n r : ℕ) (b d e : Budget) → r ≡ n + 1 → Spends ((if k then 4 else 631) * n) b d → Spends (if k then 4 else 631) d e → Spends ((if k then 4 else 631) * r) b e
@@ -92,8 +116,8 @@ one_spent true d e few most = few refl
 one_spent false d e few most = most
 
 pub turn_more : (c : Change) (us : List Version) (u : Version) → takes_version c u ≡ true → CanBeNamed u → (m : Blocks) (g : Objects) (b : Budget) (n : Blocks) (at : ℕ) (d : Budget) (o : Blocks) (e : Budget) (f : VersionsTurn c us m g b n at d)
-    → WriteTurn (task_of c u) (write_path u.write) n f.now o at → (keeps c ≡ true → Spends 4 d e) → Spends 631 d e → d.free ≤ e.free → VersionsTurn c (us ++ u ∷ []) m g b o at e
-turn_more c us u takes named m g b n at d o e f w few most more =
+    → WriteTurn (task_of c u) (write_path u.write) n f.now o at → (keeps c ≡ true → Spends 4 d e) → Spends 631 d e → d.free ≤ e.free → d.free + length (objects_versions f.now) ≤ e.free + length (after_one c u (objects_versions f.now)) → VersionsTurn c (us ++ u ∷ []) m g b o at e
+turn_more c us u takes named m g b n at d o e f w few most more gives =
     let some = object_fits (task_of c u).kind (write_path u.write) named.fits in
     let object = some_one (write_path u.write).obj some in
     record {
@@ -105,6 +129,7 @@ turn_more c us u takes named m g b n at d o e f w few most more =
       fits = λ k z nothing fits. fits_after_write k (task_of c u) (write_path u.write) n o at f.now z some w nothing (f.fits k z nothing fits);
       spent = more_spent (keeps c) (length (filter (takes_version c) us)) (length (filter (takes_version c) (us ++ u ∷ []))) b d e (count_more (takes_version c) us u true takes) f.spent (one_spent (keeps c) d e few most);
       free = omega (arith, f.free, more);
+      gives = (let was = f.gives in let are = ap length w.versions in omega (arith, was, gives, are));
     }
 
 pub turn_past : (c : Change) (us : List Version) (u : Version) → takes_version c u ≡ false → (m : Blocks) (g : Objects) (b : Budget) (n : Blocks) (at : ℕ) (d : Budget) → VersionsTurn c us m g b n at d → VersionsTurn c (us ++ u ∷ []) m g b n at d
@@ -117,6 +142,7 @@ turn_past c us u takes m g b n at d f = record {
   fits = f.fits;
   spent = subst (λ (r : ℕ). Spends (cost_of c * r) b d) (let more = count_more (takes_version c) us u false takes in omega (arith, more)) f.spent;
   free = f.free;
+  gives = f.gives;
 }
 
 -- ---- none is lacking

@@ -1,5 +1,5 @@
 -- The two halves of a turn: versions, and an entry.
-use Rattle.std.specs.Prelude.{◌≡◌, ◌≤◌, ◌*◌, ℕ, List, filter, length, if◌then◌else◌}
+use Rattle.std.specs.Prelude.{◌≡◌, ◌≤◌, ◌+◌, ◌*◌, ℕ, List, filter, length, if◌then◌else◌}
 use Rattle.base_types.specs.declared.id.AttemptId.{AttemptId}
 use Rattle.daos_model.specs.declared.durable.Version.{Version}
 use Rattle.pmem_pages.specs.Blocks.{Blocks, Budget}
@@ -22,7 +22,8 @@ use Rattle.vos_turns.specs.Turns.{IsStepped, StepMayStand, after_each, takes_ver
 abbrev pub cost_of : Change → ℕ
 cost_of c = if keeps c then 4 else 631
 
--- The versions that a change takes were changed. What fits the layout still does, so much was staged at most, and no block was taken.
+-- The versions that a change takes were changed. What fits the layout still does, so much was staged at most, and no block was taken. Each
+-- version that went gave back a block at least.
 pub record VersionsTurn (c : Change) (us : List Version) (m : Blocks) (g : Objects) (b : Budget) (n : Blocks) (at : ℕ) (d : Budget) : Type 0 where
   pub now : Objects
   pub changed : Changed objects_owner m g n now
@@ -32,6 +33,7 @@ pub record VersionsTurn (c : Change) (us : List Version) (m : Blocks) (g : Objec
   pub fits : (k : Content) (e : Entries) → ListNothing e → AllFit k g e → AllFit k now e
   pub spent : Spends (cost_of c * length (filter (takes_version c) us)) b d
   pub free : b.free ≤ d.free
+  pub gives : b.free + length (objects_versions g) ≤ d.free + length (objects_versions now)
 
 -- entries in a small tree, which list nothing
 pub record StandsUnlisted (e : Entries) : Type 0 where

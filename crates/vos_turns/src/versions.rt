@@ -1,5 +1,5 @@
 // The versions that a change takes become done, or go.
-ghost use Rattle.std.specs.Prelude.{◌≡◌, ◌≤◌, ◌<◌, ◌+◌, true, ℕ, All, IsErrOf, IsTrue, OnOk, ⊤};
+ghost use Rattle.std.specs.Prelude.{◌≡◌, ◌≤◌, ◌<◌, ◌+◌, true, ℕ, length, All, IsErrOf, IsTrue, OnOk, ⊤};
 ghost use Rattle.base_types.specs.Operations.{write_path};
 ghost use Rattle.pmem_tree.specs.Calls.{IsShort};
 ghost use Rattle.pmem_tree_base.specs.Calls.{Goes};
@@ -7,7 +7,7 @@ ghost use Rattle.pmem_tree_base.specs.declared.refusal.TreeNo.{TreeNo};
 ghost use Rattle.vos_levels.specs.Calls.{HasThing, OfThing};
 ghost use Rattle.vos_levels.specs.Changes.{keeps};
 ghost use Rattle.vos_levels.specs.Levels.{hung_root};
-ghost use Rattle.vos_fitting.specs.vos_path.Objects.{objects_owner};
+ghost use Rattle.vos_fitting.specs.vos_path.Objects.{objects_owner, objects_versions};
 ghost use Rattle.vos_fitting.specs.vos_path.Writes.{ObjectsAreSmall};
 ghost use Rattle.vos_fitting.specs.vos_settle.Costs.{Spends};
 ghost use Rattle.vos_fitting.specs.vos_settle.Names.{kind_of};
@@ -15,7 +15,7 @@ ghost use Rattle.vos_fitting.specs.vos_settle.Versions.{WriteTurn};
 ghost use Rattle.vos_small.specs.Rooms.{HasLeft, change_bytes, change_ranges};
 ghost use Rattle.vos_small.specs.Small.{most_digits};
 ghost use Rattle.vos_turns.specs.Steps.{VersionsTurn};
-ghost use Rattle.vos_turns.specs.Turns.{AreFew, CanBeNamed, task_of};
+ghost use Rattle.vos_turns.specs.Turns.{AreFew, CanBeNamed, after_one, task_of};
 
 use base_types::operation::Write;
 use daos_model::durable::Version;
@@ -58,6 +58,7 @@ fn change_version<P: Pages, L: Ledger>(
     ensures staged { OnOk result (OfThing P.tells objects_owner hung_root (P.blocks pages.old) objects.root (λ g. ObjectsAreSmall most_digits g → Spends 631 (P.budget pages.old) (P.budget pages.new))) }
     ensures committed { keeps change ≡ true → Spends 4 (P.budget pages.old) (P.budget pages.new) }
     ensures free { OnOk result (OfThing P.tells objects_owner hung_root (P.blocks pages.old) objects.root (λ g. (P.budget pages.old).free ≤ (P.budget pages.new).free)) }
+    ensures gives { OnOk result (OfThing P.tells objects_owner hung_root (P.blocks pages.old) objects.root (λ g. (P.budget pages.old).free + length (objects_versions g) ≤ (P.budget pages.new).free + length (after_one change version.now (objects_versions g)))) }
     ensures goes { Goes P.stopped P.count P.burns pages.old pages.new }
     ensures stopped { IsErrOf result TreeNo.Stopped → P.stopped pages.new ≡ true }
     ensures went_on { OnOk result (P.stopped pages.new ≡ P.stopped pages.old) }

@@ -1,4 +1,4 @@
-use Rattle.std.proofs.Common.{◌≡◌, ◌∙◌, ap, false, subst, sym}
+use Rattle.std.proofs.Common.{◌∙◌, ap, subst, sym}
 use Rattle.vos_turns.specs.vos_image.Kept.{Stored}
 use Rattle.vos_pool_turns.specs.Pool.{CanTurn}
 use Rattle.vos_pool_turns.proofs.pool.turn_pool.Goals as goal

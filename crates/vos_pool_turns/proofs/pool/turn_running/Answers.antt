@@ -1,7 +1,8 @@
-use Rattle.std.proofs.Common.{◌≡◌, ◌∙◌, ◌≤◌, true, false, ap, arith, refl, subst, sym}
-use Rattle.std.specs.Prelude.{OnErr, OnOk}
+use Rattle.std.proofs.Common.{◌≡◌, ◌∙◌, ap, arith, refl, subst, sym}
 use Rattle.pmem_alloc.specs.Blocks.{free_count}
-use Rattle.pmem_alloc.specs.Pages.{left, shown}
+use Rattle.pmem_alloc.specs.Map.{MapState, free_of}
+use Rattle.pmem_alloc.specs.Sets.{count_below}
+use Rattle.pmem_alloc.specs.Pages.{shown}
 use Rattle.vos_keeping.specs.Keeping.{SameRows}
 use Rattle.vos_keeping.specs.vos_places.Laws.{counted}
 use Rattle.vos_keeping.specs.vos_places.Tables.{Table, places_of}
@@ -57,6 +58,11 @@ returns-then-can_commit g c =
           (k.quiet (kept_then g.R.Region.extent g.R.Region.tells g.R.Region.image g.R.Region.may_leave c.args.change c.args.versions.now c.args.attempt c.args.step c.args.blocks c.args.tables c.stage_turn-blocks.result.0 c.plan_roots-counters.result c.plan_reopening-roots.result.objects c.stage_turn-blocks.result.1.tree.root c.requires.unstaged c.requires.unchanged c.size-size.ensures.holds c.requires.running c.size-size-2.ensures.holds c.stage_turn-blocks.ensures.still (when_ok _ c.stage_turn-blocks.result.2 c.stage_turn-blocks.ensures.went_on (c.can_commit.ensures.made c.if-can_commit.true) ∙ c.requires.running) c.plan_roots-counters.ensures.objects c.plan_roots-counters.ensures.entries (λ told x b. when_ok _ c.stage_turn-blocks.result.2 c.stage_turn-blocks.ensures.turned (c.can_commit.ensures.made c.if-can_commit.true) told x (subst (λ o. StandsBelow (shown g.R.Region.image c.args.blocks) o c.plan_reopening-roots.result.entries x) (sym c.plan_reopening-roots.ensures.objects) (subst (λ n. StandsBelow (shown g.R.Region.image c.args.blocks) c.args.tables.header.objects n x) (sym c.plan_reopening-roots.ensures.entries) b))) (λ d. d) (λ told. c.size-size.ensures.undo_holds) rows turns c.requires.here));
       left = leaves_from g.R.Region.extent g.R.Region.tells g.R.Region.image g.R.Region.may_leave p e still 0 q (k.left 0 (λ told. omega (arith, free_was, before, free_is)));
       free = free_in_map c.args.blocks r q.blocks.map e.map e.lasting (free_count c.args.blocks) k.map k.dropped (omega (arith, before, free_is)) (omega (arith, free_was));
+      gives = both_ok r (λ same went told x can.
+          let gone = when_ok _ c.stage_turn-blocks.result.2 c.stage_turn-blocks.ensures.gives (c.can_commit.ensures.made c.if-can_commit.true) told x (subst (λ o. StandsBelow (shown g.R.Region.image c.args.blocks) o c.plan_reopening-roots.result.entries x) (sym c.plan_reopening-roots.ensures.objects) (subst (λ n. StandsBelow (shown g.R.Region.image c.args.blocks) c.args.tables.header.objects n x) (sym c.plan_reopening-roots.ensures.entries)
+          (stands_below g.R.Region.extent g.R.Region.tells g.R.Region.image c.args.blocks c.args.tables c.args.step c.requires.unstaged c.size-size.ensures.holds c.requires.running told x can))) in
+          let are : free_count q.blocks ≡ free_count e = ap (λ (m : MapState). count_below (free_of m) m.end) same in
+          omega (arith, gone, are)) k.map k.map;
       size = k.size ∙ still.size;
       stops = stops_then c.args.blocks.undo.stopped e.undo.stopped q.blocks.undo.stopped (g.R.Region.count c.args.blocks.undo.region) (g.R.Region.count e.undo.region) (g.R.Region.count q.blocks.undo.region) (g.R.Region.burns c.args.blocks.undo.region) (g.R.Region.burns e.undo.region) (g.R.Region.burns q.blocks.undo.region) r same goes.later_faults goes.later_burns k.stops;
     }

@@ -1,4 +1,4 @@
-use Rattle.std.proofs.Common.{arith}
+use Rattle.std.proofs.Common.{ap, arith, length}
 use Rattle.vos_levels.proofs.Calls.{on_ok_then}
 use Rattle.vos_turns.proofs.Turning.{both_turned, entries_after, objects_below, room_after, unlisted_below}
 use Rattle.vos_turns.proofs.turns.turn.Goals as goal
@@ -44,3 +44,11 @@ returns-clause-free g c = on_ok_then c.step_entry.result (λ h told.
     let m = g.P.Pages.blocks c.args.pages.now in
     let f = c.in_ok-change_versions.ensures.changed told s.0.0 (objects_below m c.args.objects.root c.args.entries.now.tree.root s.0 s.1) s.1.objects_root s.1.small.objects in
     omega (arith, f.free, h told)) c.step_entry.ensures.free
+
+pub returns-clause-gives : goal.returns-clause-gives
+returns-clause-gives g c = on_ok_then c.step_entry.result (λ h told x s.
+    let m = g.P.Pages.blocks c.args.pages.now in
+    let f = c.in_ok-change_versions.ensures.changed told x.0 (objects_below m c.args.objects.root c.args.entries.now.tree.root x s) s.objects_root s.small.objects in
+    let gives = f.gives in
+    let are = ap length f.versions in
+    omega (arith, gives, are, h told)) c.step_entry.ensures.free

@@ -47,7 +47,7 @@ loop-version-preserved g c =
           let f = i.so_far told x held at small in
           subst (λ z. VersionsTurn c.args.change z (g.P.Pages.blocks c.args.pages.now) x (g.P.Pages.budget c.args.pages.now) (g.P.Pages.blocks c.change_version.new.pages) c.args.objects.root (g.P.Pages.budget c.change_version.new.pages)) next
           (turn_more c.args.change (take k us) u takes (subst CanBeNamed (sym c.version-item.is) (c.requires.named k u c.loop-version-test.true)) (g.P.Pages.blocks c.args.pages.now) x (g.P.Pages.budget c.args.pages.now) (g.P.Pages.blocks c.loop-version.pages) c.args.objects.root (g.P.Pages.budget c.loop-version.pages) (g.P.Pages.blocks c.change_version.new.pages) (g.P.Pages.budget c.change_version.new.pages) f
-          (p.changed told f.now f.changed.holds f.root_is) p.committed (p.staged told f.now f.changed.holds f.root_is f.small) (p.free told f.now f.changed.holds f.root_is));
+          (p.changed told f.now f.changed.holds f.root_is) p.committed (p.staged told f.now f.changed.holds f.root_is f.small) (p.free told f.now f.changed.holds f.root_is) (p.gives told f.now f.changed.holds f.root_is));
       goes = goes_then g.P.Pages.stopped g.P.Pages.count g.P.Pages.burns c.args.pages.now c.loop-version.pages c.change_version.new.pages i.goes c.change_version.ensures.goes;
       went_on = p.went_on ∙ i.went_on;
     }
