@@ -1,4 +1,0 @@
-// A blank region is formatted.
-#![tactic(auto)]
-
-pub mod format;

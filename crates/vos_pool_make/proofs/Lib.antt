@@ -1,0 +1,4 @@
+pub mod Held
+pub mod Attaching
+pub mod Formatting
+pub mod Making
