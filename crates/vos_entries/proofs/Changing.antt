@@ -1,5 +1,5 @@
 -- An entry comes, is committed, confirmed or removed.
-use Rattle.std.proofs.Common.{◌≡◌, ℕ, ◌+◌, ◌<◌, ◌^◌, ◌⊎◌, ◌==◌, ◌&&◌, true, false, Some, None, List, [], ◌∷◌, ◌++◌, map, refl, sym, ap, ◌∙◌, subst, arith, inl, inr}
+use Rattle.std.proofs.Common.{◌≡◌, ℕ, ◌+◌, ◌<◌, ◌^◌, ◌⊎◌, ◌==◌, ◌&&◌, ◌||◌, Bool, true, false, Some, None, List, [], ◌∷◌, ◌++◌, map, refl, sym, ap, ◌∙◌, subst, arith, inl, inr}
 use Rattle.std.specs.Prelude.{bit_or}
 use Rattle.std.specs.List.{find, list_any}
 use Rattle.std.specs.Ordering.{nat_cmp, ordering_then}
@@ -20,7 +20,7 @@ use Rattle.vos_versions.specs.pmem_tree.Changes.{Inserts, Puts, Removes}
 use Rattle.vos_versions.specs.pmem_tree_base.Find.{value_of}
 use Rattle.vos_values.specs.declared.values.EntryMark.{EntryMark}
 use Rattle.vos_values.specs.Keys.{IsAttempt, attempt_key}
-use Rattle.vos_values.specs.Values.{IsEntryMark, entry_in, entry_value}
+use Rattle.vos_values.specs.Values.{IsEntryMark, entry_in, entry_value, is_chain_for}
 use Rattle.vos_values.proofs.KeyLaws.{attempts_order}
 use Rattle.vos_values.proofs.ValueLaws.{entries_exact}
 use Rattle.vos_versions.specs.vos_levels.Calls.{Becomes}
@@ -32,7 +32,7 @@ use Rattle.vos_versions.proofs.vos_levels.Spots.{Spot, mapped_none, value_found,
 use Rattle.vos_versions.proofs.vos_levels.Testing.{all_good, found_good, read_option}
 use Rattle.vos_versions.specs.vos_chain.Chains.{chain_owner}
 use Rattle.vos_versions.specs.vos_chain.Made.{HasFewer, MadeChain}
-use Rattle.vos_entries.specs.Entries.{AreListed, Entries, IsCommittedAt, IsConfirmedAt, IsGoneAt, IsStored, Listing, Stored, committed, committed_mark, confirmed_by, confirmed_mark, entries_owner, entry_level, has_entry_at, is_at, is_listing_at, list_bytes, list_of, listing_of, listings, mark_of, mark_with}
+use Rattle.vos_entries.specs.Entries.{AreListed, Entries, IsConfirmedAt, IsEndedAt, IsGoneAt, IsStored, Listing, Stored, confirmed_by, confirmed_mark, ended, ended_mark, entries_owner, entry_level, has_entry_at, is_at, is_listing_at, list_bytes, list_of, listing_of, listings, mark_of, mark_with}
 use Rattle.vos_entries.specs.Lists.{FewerThan, FewerToRemove, IsListAt, StagesToRemove}
 
 -- ---- keys
@@ -50,8 +50,8 @@ entry_tree m kind root g e h at = subst (λ k. IsTree m k root g.0) (sym e) (hun
 
 -- ---- what becomes of an entry
 
-committed_stored : Stored → Stored
-committed_stored s = record { entry = record { attempt = s.entry.attempt; epoch = s.entry.epoch; leader = s.entry.leader; members = s.entry.members; confirmed = s.entry.confirmed; committed = true }; nodes = []; blocks = [] }
+ended_stored : Bool → Stored → Stored
+ended_stored commits s = record { entry = record { attempt = s.entry.attempt; epoch = s.entry.epoch; leader = s.entry.leader; members = s.entry.members; confirmed = s.entry.confirmed; committed = commits || s.entry.committed }; nodes = []; blocks = [] }
 
 confirmed_stored : ℕ → Stored → Stored
 confirmed_stored t s = record { entry = record { attempt = s.entry.attempt; epoch = s.entry.epoch; leader = s.entry.leader; members = s.entry.members; confirmed = bit_or s.entry.confirmed (2 ^ t); committed = s.entry.committed }; nodes = s.nodes; blocks = s.blocks }
@@ -70,6 +70,10 @@ more_listings s xs ys h = record {
 
 pub missing_at : (a : AttemptId) (key : TreeKey) (m : Blocks) (g : Entries) → IsAttempt a → key ≡ attempt_key a → Holds entries_owner m g → has_entry_at a (things g) ≡ false → entry_at key (entries g.0) ≡ None
 missing_at a key m g fits is h none = ap (λ k. entry_at k (entries g.0)) is ∙ missing_key entry_level (attempt_key a) (is_at a) (tells_at a fits) m g h none
+
+-- what begins nowhere is no list, whether or not an entry is committed
+no_chain : (committed : Bool) → is_chain_for committed 0 ≡ true
+no_chain committed = elim committed as (λ c. is_chain_for c 0 ≡ true) [ true ↦ refl | false ↦ refl ]
 
 -- ---- sums
 
@@ -146,17 +150,17 @@ module _ (a : AttemptId) (fits : IsAttempt a) (m : Blocks) (g : Entries) (h : Ho
   mapped_same : (f : Stored → Stored) (f2 : Listing → Listing) → ((s : Stored) → listing_of (f s) ≡ f2 (listing_of s)) → None ≡ option_map mark_of (find (is_at a) (things g)) → listings g ≡ map_those (is_listing_at a) f2 (listings g)
   mapped_same f f2 same e = ap (map listing_of) (sym (mapped_none (is_at a) f (things g) (none_at e))) ∙ shown_changed listing_of (is_listing_at a) f f2 same true (things g)
 
-  pub none_committed : None ≡ option_map mark_of (find (is_at a) (things g)) → IsCommittedAt a (listings g) (listings g)
-  unfolding committed_stored
-  none_committed e = mapped_same committed_stored committed (λ s. refl) e
+  pub none_ended : (commits : Bool) → None ≡ option_map mark_of (find (is_at a) (things g)) → IsEndedAt commits a (listings g) (listings g)
+  unfolding ended_stored
+  none_ended commits e = mapped_same (ended_stored commits) (ended commits) (λ s. refl) e
 
   pub none_confirmed : (t : ℕ) → None ≡ option_map mark_of (find (is_at a) (things g)) → IsConfirmedAt a t (listings g) (listings g)
   unfolding confirmed_stored
   none_confirmed t e = mapped_same (confirmed_stored t) (confirmed_by t) (λ s. refl) e
 
   pub none_gone : None ≡ option_map mark_of (find (is_at a) (things g)) → IsGoneAt a (listings g) (listings g)
-  unfolding committed_stored
-  none_gone e = ap (map listing_of) (sym (without_none (is_at a) (things g) (none_at e))) ∙ shown_changed listing_of (is_listing_at a) committed_stored committed (λ s. refl) false (things g)
+  unfolding ended_stored
+  none_gone e = ap (map listing_of) (sym (without_none (is_at a) (things g) (none_at e))) ∙ shown_changed listing_of (is_listing_at a) (ended_stored true) (ended true) (λ s. refl) false (things g)
 
   pub none_freed : (size : Stored → ℕ) → None ≡ option_map mark_of (find (is_at a) (things g)) → sum_those (is_at a) size (things g) ≡ 0
   none_freed size e = sum_none (is_at a) size (things g) (none_at e)
@@ -181,18 +185,18 @@ module _ (a : AttemptId) (fits : IsAttempt a) (m : Blocks) (g : Entries) (h : Ho
 
   -- ---- committed, confirmed, removed
 
-  pub entry_committed : (n o : Blocks) (root : ℕ) (mark : EntryMark) (s : Says mark_of (is_at a) mark (things g)) → Changed (maybe chain_owner) m (Some (list_of s.thing)) n None → ((e : Entry) → entry_at (attempt_key a) (entries g.0) ≡ Some e → Puts n 7 g.0 (attempt_key a) (entry_value (committed_mark mark)) o root)
-      → Becomes entries_owner hung_root listings m g o root (IsCommittedAt a)
-  unfolding committed_stored
-  entry_committed n o root mark s c puts =
+  pub entry_ended : (commits : Bool) (n o : Blocks) (root : ℕ) (mark : EntryMark) (s : Says mark_of (is_at a) mark (things g)) → Changed (maybe chain_owner) m (Some (list_of s.thing)) n None → ((e : Entry) → entry_at (attempt_key a) (entries g.0) ≡ Some e → Puts n 7 g.0 (attempt_key a) (entry_value (ended_mark commits mark)) o root)
+      → Becomes entries_owner hung_root listings m g o root (IsEndedAt commits a)
+  unfolding ended_stored
+  entry_ended commits n o root mark s c puts =
       let spot = spot_of mark s in
       let good = spot.1.leads.good in
-      let value : entry_value (committed_mark mark) ≡ entry_value (mark_of (committed_stored s.thing)) = ap (λ z. entry_value (committed_mark z)) (sym s.mark_is) in
+      let value : entry_value (ended_mark commits mark) ≡ entry_value (mark_of (ended_stored commits s.thing)) = ap (λ z. entry_value (ended_mark commits z)) (sym s.mark_is) in
       let put = subst (λ z. Puts n 7 g.0 (attempt_key a) z o root) value (puts spot.0 spot.1.at) in
-      let gone : Changed entry_level.owner m s.thing n (committed_stored s.thing) = record { holds = record { here = refl; apart = c.holds.apart }; outside = c.outside; taken = c.taken; given = c.given } in
-      let fine : IsStored (committed_stored s.thing) = record { attempt = good.attempt; mark = record { leader = good.mark.leader; members = good.mark.members; confirmed = good.mark.confirmed; epoch = good.mark.epoch; chain = omega arith; listed = refl }; listed = tt } in
-      becomes_shown things (λ xs ys. ys ≡ map_those (is_at a) committed_stored xs) listings (IsCommittedAt a) (λ x e. ap (map listing_of) e ∙ shown_changed listing_of (is_listing_at a) committed_stored committed (λ z. refl) true (things g))
-      (hung_other entry_level (attempt_key a) (is_at a) committed_stored m n o g spot.0 s.thing root h spot.1 gone refl fine put)
+      let gone : Changed entry_level.owner m s.thing n (ended_stored commits s.thing) = record { holds = record { here = refl; apart = c.holds.apart }; outside = c.outside; taken = c.taken; given = c.given } in
+      let fine : IsStored (ended_stored commits s.thing) = record { attempt = good.attempt; mark = record { leader = good.mark.leader; members = good.mark.members; confirmed = good.mark.confirmed; epoch = good.mark.epoch; chain = omega arith; listed = no_chain (commits || s.thing.entry.committed) }; listed = tt } in
+      becomes_shown things (λ xs ys. ys ≡ map_those (is_at a) (ended_stored commits) xs) listings (IsEndedAt commits a) (λ x e. ap (map listing_of) e ∙ shown_changed listing_of (is_listing_at a) (ended_stored commits) (ended commits) (λ z. refl) true (things g))
+      (hung_other entry_level (attempt_key a) (is_at a) (ended_stored commits) m n o g spot.0 s.thing root h spot.1 gone refl fine put)
 
   pub entry_confirmed : (o : Blocks) (root t : ℕ) (mark : EntryMark) (s : Says mark_of (is_at a) mark (things g)) → bit_or mark.confirmed (2 ^ t) < 2 ^ 64 → ((e : Entry) → entry_at (attempt_key a) (entries g.0) ≡ Some e → Puts m 7 g.0 (attempt_key a) (entry_value (confirmed_mark t mark)) o root)
       → Becomes entries_owner hung_root listings m g o root (IsConfirmedAt a t)
@@ -210,8 +214,8 @@ module _ (a : AttemptId) (fits : IsAttempt a) (m : Blocks) (g : Entries) (h : Ho
 
   pub entry_gone : (n o : Blocks) (root : ℕ) (mark : EntryMark) (s : Says mark_of (is_at a) mark (things g)) → ((e : Entry) → entry_at (attempt_key a) (entries g.0) ≡ Some e → Removes m 7 g.0 (attempt_key a) e n root) → Changed (maybe chain_owner) n (Some (list_of s.thing)) o None
       → Becomes entries_owner hung_root listings m g o root (IsGoneAt a)
-  unfolding committed_stored
+  unfolding ended_stored
   entry_gone n o root mark s gone c =
       let spot = spot_of mark s in
-      becomes_shown things (λ xs ys. ys ≡ without_those (is_at a) xs) listings (IsGoneAt a) (λ x e. ap (map listing_of) e ∙ shown_changed listing_of (is_listing_at a) committed_stored committed (λ z. refl) false (things g))
+      becomes_shown things (λ xs ys. ys ≡ without_those (is_at a) xs) listings (IsGoneAt a) (λ x e. ap (map listing_of) e ∙ shown_changed listing_of (is_listing_at a) (ended_stored true) (ended true) (λ z. refl) false (things g))
       (hung_less entry_level (attempt_key a) (is_at a) m n o g spot.0 s.thing root h spot.1 (gone spot.0 spot.1.at) (given_part list_of chain_owner n o s.thing c))

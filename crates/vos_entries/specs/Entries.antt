@@ -1,5 +1,5 @@
 -- Entries of attempts in the order of attempts, each with the chain that lists the blocks of its nodes.
-use Rattle.std.specs.Prelude.{◌≡◌, ◌<◌, ◌+◌, ◌^◌, ℕ, Bool, true, bit_or, length, List, [], ◌∷◌, ◌++◌, map}
+use Rattle.std.specs.Prelude.{◌≡◌, ◌<◌, ◌+◌, ◌^◌, ◌||◌, ℕ, Bool, false, true, bit_or, length, List, [], ◌∷◌, ◌++◌, map}
 use Rattle.std.specs.List.{list_any}
 use Rattle.base_types.specs.declared.entry.Entry.{Entry}
 use Rattle.base_types.specs.declared.id.AttemptId.{AttemptId}
@@ -90,24 +90,38 @@ is_at a s = same_attempt s.entry.attempt a
 abbrev pub has_entry_at : AttemptId → List Stored → Bool
 has_entry_at a xs = list_any (is_at a) xs
 
+-- it lists nothing any more, and is committed, or as committed as it was
+abbrev pub ended : Bool → Listing → Listing
+ended commits l = record { entry = record { attempt = l.entry.attempt; epoch = l.entry.epoch; leader = l.entry.leader; members = l.entry.members; confirmed = l.entry.confirmed; committed = commits || l.entry.committed }; nodes = [] }
+
 -- committed, it lists nothing
 abbrev pub committed : Listing → Listing
-committed l = record { entry = record { attempt = l.entry.attempt; epoch = l.entry.epoch; leader = l.entry.leader; members = l.entry.members; confirmed = l.entry.confirmed; committed = true }; nodes = [] }
+committed l = ended true l
+
+-- its list is gone, and it is as it was
+abbrev pub unlisted : Listing → Listing
+unlisted l = ended false l
 
 -- with one more confirmed member
 abbrev pub confirmed_by : ℕ → Listing → Listing
 confirmed_by t l = record { entry = record { attempt = l.entry.attempt; epoch = l.entry.epoch; leader = l.entry.leader; members = l.entry.members; confirmed = bit_or l.entry.confirmed (2 ^ t); committed = l.entry.committed }; nodes = l.nodes }
 
 -- what the tree says then
-abbrev pub committed_mark : EntryMark → EntryMark
-committed_mark m = record { committed = true; leader = m.leader; members = m.members; confirmed = m.confirmed; epoch = m.epoch; chain = 0 }
+abbrev pub ended_mark : Bool → EntryMark → EntryMark
+ended_mark commits m = record { committed = commits || m.committed; leader = m.leader; members = m.members; confirmed = m.confirmed; epoch = m.epoch; chain = 0 }
 
 abbrev pub confirmed_mark : ℕ → EntryMark → EntryMark
 confirmed_mark t m = record { committed = m.committed; leader = m.leader; members = m.members; confirmed = bit_or m.confirmed (2 ^ t); epoch = m.epoch; chain = m.chain }
 
--- the entry of an attempt became committed, or confirmed by a member, or went
+-- the entry of an attempt lost its list, and became committed or not; it was confirmed by a member, or went
+abbrev pub IsEndedAt : Bool → AttemptId → List Listing → List Listing → Type 0
+IsEndedAt commits a xs ys = ys ≡ map_those (is_listing_at a) (ended commits) xs
+
 abbrev pub IsCommittedAt : AttemptId → List Listing → List Listing → Type 0
 IsCommittedAt a xs ys = ys ≡ map_those (is_listing_at a) committed xs
+
+abbrev pub IsUnlistedAt : AttemptId → List Listing → List Listing → Type 0
+IsUnlistedAt a xs ys = ys ≡ map_those (is_listing_at a) unlisted xs
 
 abbrev pub IsConfirmedAt : AttemptId → ℕ → List Listing → List Listing → Type 0
 IsConfirmedAt a t xs ys = ys ≡ map_those (is_listing_at a) (confirmed_by t) xs

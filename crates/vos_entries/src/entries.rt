@@ -15,7 +15,7 @@ ghost use Rattle.vos_versions.specs.vos_levels.Calls.{Becomes, HasThing, OfThing
 ghost use Rattle.vos_versions.specs.vos_levels.Levels.{HasMore, hung_root, things};
 ghost use Rattle.vos_versions.specs.vos_chain.Made.{chain_blocks};
 ghost use Rattle.vos_versions.specs.Marks.{StagesFor, TooFewFor};
-ghost use Rattle.vos_entries.specs.Entries.{AreListed, IsCommittedAt, IsConfirmedAt, IsGoneAt, committed_mark, confirmed_mark, entries_owner, entry_blocks_at, has_entry_at, is_at, list_blocks_at, listings, mark_of, mark_with};
+ghost use Rattle.vos_entries.specs.Entries.{AreListed, IsCommittedAt, IsConfirmedAt, IsEndedAt, IsGoneAt, IsUnlistedAt, confirmed_mark, ended_mark, entries_owner, entry_blocks_at, has_entry_at, is_at, list_blocks_at, listings, mark_of, mark_with};
 ghost use Rattle.vos_entries.specs.Lists.{FewerThan, FewerToRemove, StagesToRemove};
 
 use crate::list::{give_list, write_list};
@@ -62,12 +62,12 @@ fn mark_with(entry: Entry, chain: u32) -> EntryMark
     }
 }
 
-// Committed, it has no list.
-fn committed_mark(mark: EntryMark) -> EntryMark
-    ensures { result ≡ committed_mark mark }
+// Without its list, and committed, or as committed as it was.
+fn ended_mark(mark: EntryMark, commits: bool) -> EntryMark
+    ensures { result ≡ ended_mark commits mark }
 {
     EntryMark {
-        committed: true,
+        committed: commits || mark.committed,
         leader: mark.leader,
         members: mark.members,
         confirmed: mark.confirmed,
@@ -228,6 +228,33 @@ impl EntryTree {
         self.put_mark(pages, attempt, confirmed_mark(mark, target), steps)
     }
 
+    // Gives back the list of an attempt's entry, where there is one, which becomes committed, or is as committed as it was.
+    fn end_list<P: Pages, L: Ledger>(
+        &mut self,
+        pages: &mut P,
+        attempt: AttemptId,
+        commits: bool,
+        steps: &mut Steps<L>,
+    ) -> Result<(), TreeNo>
+        requires kind { self.old.tree.kind ≡ 7 }
+        requires here { HasThing P.tells entries_owner hung_root (P.blocks pages.old) self.old.tree.root (λ g. ⊤) }
+        ensures ended { OnOk result (OfThing P.tells entries_owner hung_root (P.blocks pages.old) self.old.tree.root (λ g. Becomes entries_owner hung_root listings (P.blocks pages.old) g (P.blocks pages.new) self.new.tree.root (IsEndedAt commits attempt))) }
+        ensures kept { self.new ≡ self.old }
+        ensures no_block { IsErrOf result TreeNo.NoBlock → ⊥ }
+        ensures too_much { IsErrOf result TreeNo.TooMuch → OfThing P.tells entries_owner hung_root (P.blocks pages.old) self.old.tree.root (λ g. FewerThan (list_blocks_at attempt (things g)) (P.budget pages.old)) }
+        ensures staged { OnOk result (OfThing P.tells entries_owner hung_root (P.blocks pages.old) self.old.tree.root (λ g. IsSpent (list_blocks_at attempt (things g) + 1) (list_blocks_at attempt (things g) + 256) (P.budget pages.old) (P.budget pages.new))) }
+        ensures free { OnOk result (OfThing P.tells entries_owner hung_root (P.blocks pages.old) self.old.tree.root (λ g. (P.budget pages.new).free ≡ (P.budget pages.old).free + list_blocks_at attempt (things g))) }
+        ensures goes { Goes P.stopped P.count P.burns pages.old pages.new }
+        ensures stopped { IsErrOf result TreeNo.Stopped → P.stopped pages.new ≡ true }
+        ensures went_on { OnOk result (P.stopped pages.new ≡ P.stopped pages.old) }
+    {
+        let Some(mark) = self.find(pages, attempt, steps)? else {
+            return Ok(());
+        };
+        give_list(pages, mark.chain, steps)?;
+        self.put_mark(pages, attempt, ended_mark(mark, commits), steps)
+    }
+
     /// Commits the entry of an attempt, where there is one: its list is given back.
     ///
     /// # Errors
@@ -253,11 +280,35 @@ impl EntryTree {
         ensures stopped { IsErrOf result TreeNo.Stopped → P.stopped pages.new ≡ true }
         ensures went_on { OnOk result (P.stopped pages.new ≡ P.stopped pages.old) }
     {
-        let Some(mark) = self.find(pages, attempt, steps)? else {
-            return Ok(());
-        };
-        give_list(pages, mark.chain, steps)?;
-        self.put_mark(pages, attempt, committed_mark(mark), steps)
+        self.end_list(pages, attempt, true, steps)
+    }
+
+    /// Gives back the list of the entry of an attempt, where there is one. The entry stays.
+    ///
+    /// # Errors
+    ///
+    /// `TooMuch` comes only where fewer ranges or bytes are left to stage than the list has blocks, and one
+    /// range of 256 bytes besides; `Stopped` only where the pages answered it, and `NoBlock` never. After one
+    /// the stage has to be dropped.
+    pub fn unlist<P: Pages, L: Ledger>(
+        &mut self,
+        pages: &mut P,
+        attempt: AttemptId,
+        steps: &mut Steps<L>,
+    ) -> Result<(), TreeNo>
+        requires kind { self.old.tree.kind ≡ 7 }
+        requires here { HasThing P.tells entries_owner hung_root (P.blocks pages.old) self.old.tree.root (λ g. ⊤) }
+        ensures unlisted { OnOk result (OfThing P.tells entries_owner hung_root (P.blocks pages.old) self.old.tree.root (λ g. Becomes entries_owner hung_root listings (P.blocks pages.old) g (P.blocks pages.new) self.new.tree.root (IsUnlistedAt attempt))) }
+        ensures kept { self.new ≡ self.old }
+        ensures no_block { IsErrOf result TreeNo.NoBlock → ⊥ }
+        ensures too_much { IsErrOf result TreeNo.TooMuch → OfThing P.tells entries_owner hung_root (P.blocks pages.old) self.old.tree.root (λ g. FewerThan (list_blocks_at attempt (things g)) (P.budget pages.old)) }
+        ensures staged { OnOk result (OfThing P.tells entries_owner hung_root (P.blocks pages.old) self.old.tree.root (λ g. IsSpent (list_blocks_at attempt (things g) + 1) (list_blocks_at attempt (things g) + 256) (P.budget pages.old) (P.budget pages.new))) }
+        ensures free { OnOk result (OfThing P.tells entries_owner hung_root (P.blocks pages.old) self.old.tree.root (λ g. (P.budget pages.new).free ≡ (P.budget pages.old).free + list_blocks_at attempt (things g))) }
+        ensures goes { Goes P.stopped P.count P.burns pages.old pages.new }
+        ensures stopped { IsErrOf result TreeNo.Stopped → P.stopped pages.new ≡ true }
+        ensures went_on { OnOk result (P.stopped pages.new ≡ P.stopped pages.old) }
+    {
+        self.end_list(pages, attempt, false, steps)
     }
 
     /// Removes the entry of an attempt with its list, where there is one: it was aborted, or is forgotten.

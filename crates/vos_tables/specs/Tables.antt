@@ -41,6 +41,10 @@ pub record IsTable (t : Table) : Type 0 where
   pub held : All IsSnap (those t.snaps)
   pub counters : AreCounters (counters_in t)
 
+-- of the second layout
+abbrev pub raised : Table → Table
+raised t = record t { header = record t.header { layout = 2 } }
+
 -- counters that may come after those of a table: the lease doesn't go down
 pub record AreNext (t : Table) (n : Counters) : Type 0 where
   pub numbers : AreCounters n

@@ -3,7 +3,7 @@ ghost use Rattle.std.specs.Prelude.{◌≡◌, None, IfOk, replicate};
 ghost use Rattle.vos_places.specs.Laws.{counted};
 ghost use Rattle.vos_tables.specs.Changes.{AllFit, Fits, all_changed, changed};
 ghost use Rattle.vos_tables.specs.Seats.{FindsCont, FindsSnap, FindsUnused};
-ghost use Rattle.vos_tables.specs.Tables.{AreNext, IsTable, empty_table, table_of};
+ghost use Rattle.vos_tables.specs.Tables.{AreNext, IsTable, empty_table, raised, table_of};
 
 use crate::change::Change;
 use crate::identity::Identity;
@@ -16,6 +16,7 @@ use daos_model::durable::ContRow;
 use std::alloc::Global;
 use std::marker::Model;
 use vos_places::codec::Counters;
+use vos_values::keys::Layout;
 
 /// The fixed places of a pool: what its image says of itself, and what each place of a container and
 /// of a snapshot holds. No container and no snapshot is there twice, each snapshot is of a container
@@ -180,5 +181,12 @@ impl Tables {
         ensures { self.new ≡ counted counters self.old }
     {
         self.counters = counters;
+    }
+
+    /// Says that the image is of the second layout. Takes no memory.
+    pub fn raise(&mut self)
+        ensures { self.new ≡ raised self.old }
+    {
+        self.identity.layout = Layout::Two;
     }
 }

@@ -12,10 +12,10 @@ use Rattle.vos_versions.proofs.vos_levels.Calls.{on_ok_then}
 use Rattle.vos_versions.specs.vos_chain.Chains.{chain_owner}
 use Rattle.vos_versions.specs.vos_chain.Made.{HasFewer}
 use Rattle.vos_versions.proofs.Marks.{err_other}
-use Rattle.vos_entries.specs.Entries.{IsCommittedAt, blocks_in_list, is_at, list_of, mark_of}
+use Rattle.vos_entries.specs.Entries.{IsEndedAt, blocks_in_list, is_at, list_of, mark_of}
 use Rattle.vos_entries.specs.Lists.{FewerThan, IsListAt}
-use Rattle.vos_entries.proofs.Changing.{entry_committed, few_list, few_then, spent_none, spent_then, key_there, list_there, none_committed, none_freed, one_freed, said, same_still, tree_left}
-use Rattle.vos_entries.proofs.entries.EntryTree.commit.Goals as goal
+use Rattle.vos_entries.proofs.Changing.{entry_ended, few_list, few_then, spent_none, spent_then, key_there, list_there, none_ended, none_freed, one_freed, said, same_still, tree_left}
+use Rattle.vos_entries.proofs.entries.EntryTree.end_list.Goals as goal
 
 pub give_list-requires : goal.give_list-requires
 give_list-requires g c = record {
@@ -37,14 +37,14 @@ put_mark-requires-clause-tree g c told =
     let given = subst (λ b. Changed (maybe chain_owner) b (Some (list_of says.thing)) (g.P.Pages.blocks c.give_list.new.pages) None) same (c.in_ok-give_list.ensures.given told (list_of says.thing) there) in
     (x.0.0, (tree_left c.args.attempt c.find.ensures.attempt m x.0 x.1.0 (g.P.Pages.blocks c.give_list.new.pages) mark says c.args.self.now.tree.root x.1.1.0 given, key_there c.args.attempt c.find.ensures.attempt m x.0 x.1.0 mark says))
 
-pub returns-in_default-clause-committed : goal.returns-in_default-clause-committed
-returns-in_default-clause-committed g c told x held at =
+pub returns-in_default-clause-ended : goal.returns-in_default-clause-ended
+returns-in_default-clause-ended g c told x held at =
     let m = g.P.Pages.blocks c.args.pages.now in
     let none : None ≡ option_map mark_of (find (is_at c.args.attempt) (things x)) = let f = c.in_ok-mark.ensures.found told x held at in let n = c.in_default.is in cc in
-    same_still c.args.attempt c.find.ensures.attempt m x held (g.P.Pages.blocks c.find.new.pages) c.args.self.now.tree.root (IsCommittedAt c.args.attempt) (c.find.ensures.kept told) at (none_committed c.args.attempt c.find.ensures.attempt m x held none)
+    same_still c.args.attempt c.find.ensures.attempt m x held (g.P.Pages.blocks c.find.new.pages) c.args.self.now.tree.root (IsEndedAt c.args.commits c.args.attempt) (c.find.ensures.kept told) at (none_ended c.args.attempt c.find.ensures.attempt m x held c.args.commits none)
 
-pub returns-clause-committed : goal.returns-clause-committed
-returns-clause-committed g c = on_ok_then c.put_mark.result (λ h told x held at.
+pub returns-clause-ended : goal.returns-clause-ended
+returns-clause-ended g c = on_ok_then c.put_mark.result (λ h told x held at.
     let m = g.P.Pages.blocks c.args.pages.now in
     let n = g.P.Pages.blocks c.give_list.new.pages in
     let o = g.P.Pages.blocks c.put_mark.new.pages in
@@ -54,8 +54,8 @@ returns-clause-committed g c = on_ok_then c.put_mark.result (λ h told x held at
     let there = subst (λ b. IsListAt b mark.chain (list_of says.thing)) (sym same) (list_there c.args.attempt c.find.ensures.attempt m x held mark says) in
     let given = subst (λ b. Changed (maybe chain_owner) b (Some (list_of says.thing)) n None) same (c.in_ok-give_list.ensures.given told (list_of says.thing) there) in
     let tree = tree_left c.args.attempt c.find.ensures.attempt m x held n mark says c.args.self.now.tree.root at given in
-    entry_committed c.args.attempt c.find.ensures.attempt m x held n o c.put_mark.new.self.tree.root mark says given
-    (λ e key. subst (λ v. Puts n 7 x.0 (attempt_key c.args.attempt) (entry_value v) o c.put_mark.new.self.tree.root) c.committed_mark.ensures (h told x.0 tree e key))) c.put_mark.ensures.put
+    entry_ended c.args.attempt c.find.ensures.attempt m x held c.args.commits n o c.put_mark.new.self.tree.root mark says given
+    (λ e key. subst (λ v. Puts n 7 x.0 (attempt_key c.args.attempt) (entry_value v) o c.put_mark.new.self.tree.root) c.ended_mark.ensures (h told x.0 tree e key))) c.put_mark.ensures.put
 
 pub returns-in_default-clause-staged : goal.returns-in_default-clause-staged
 returns-in_default-clause-staged g c told x held at = spent_none _ _ _ _ c.find.ensures.budget
