@@ -1,18 +1,19 @@
 // What a pool answers from its fixed places.
 ghost use Rattle.std.specs.Prelude.{◌≡◌, IfOk};
 ghost use Rattle.daos_model.specs.Durables.{is_enlisted, is_frozen, row_of};
+ghost use Rattle.vos_places.specs.Tables.{those};
 ghost use Rattle.vos_store.specs.Answers.{IsFloorShown, enlisted_in, floor_of};
 ghost use Rattle.vos_tables.specs.Kept.{OfKept};
 ghost use Rattle.vos_tables.specs.Tables.{IsKeptFloor};
 
 use crate::enlisting::new_row;
-use crate::rows::{conts_in_order, snaps_in_order};
+use crate::rows::{conts_in_order, snaps_in_order, used};
 use crate::table::Tables;
 use base_types::epoch::Epoch;
 use base_types::id::ContId;
 use base_types::items::{Items, Memory};
 use base_types::outcome::FloorWhy;
-use base_types::snapshot::Snaps;
+use base_types::snapshot::{Snap, Snaps};
 use daos_model::durable::ContRow;
 use std::alloc::Global;
 use vos_store::listed::ContIds;
@@ -69,5 +70,18 @@ impl Tables {
         ensures { IfOk result (λ snaps. OfKept self.now (λ d. snaps ≡ d.snaps)) }
     {
         Ok(Items::from_vec(snaps_in_order(alloc, &self.snaps)?))
+    }
+    /// What is kept of each container, in the order of places.
+    pub fn cont_rows(&self, alloc: Global) -> Result<Vec<ContRow>, Memory>
+        ensures { IfOk result (λ rows. rows.items ≡ those self.now.conts) }
+    {
+        used(alloc, &self.conts)
+    }
+
+    /// Each snapshot, in the order of places.
+    pub fn snap_rows(&self, alloc: Global) -> Result<Vec<Snap>, Memory>
+        ensures { IfOk result (λ rows. rows.items ≡ those self.now.snaps) }
+    {
+        used(alloc, &self.snaps)
     }
 }
