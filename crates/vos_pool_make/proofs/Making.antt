@@ -27,10 +27,10 @@ use Rattle.vos_pool_make.specs.Made.{IsFoundMade, IsFoundRefused, IsMade, IsRefu
 use Rattle.vos_pool_make.specs.declared.cause.OpenCause.{OpenCause}
 use Rattle.vos_pool_make.specs.declared.cause.OpenCause.TheVariants as cause
 use Rattle.vos_pool_open.specs.Kept.{IsKeptFrom}
-use Rattle.vos_pool_open.specs.Looks.{IsSeen, IsSeenKept}
+use Rattle.vos_pool_open.specs.Looks.{IsBlankStill, IsSeen, IsSeenKept}
 use Rattle.vos_pool_open.specs.declared.kept.Kept.{Kept as KeptRegion}
 use Rattle.vos_pool_open.specs.declared.look.Looked.{Looked}
-use Rattle.vos_pool_open.specs.declared.look.Looked.TheVariants.{Kept}
+use Rattle.vos_pool_open.specs.declared.look.Looked.TheVariants.{Blank, Kept}
 use Rattle.vos_pool_open.specs.vos_check_content.Region.{region_content}
 use Rattle.vos_pool_open.specs.vos_check_content.Whole.{IsFaulty, IsWholeFound}
 use Rattle.vos_pool_open.specs.vos_check_content.declared.content.ContentFound.{ContentFound}
@@ -43,6 +43,10 @@ on_err (Err e) P Q f k = f e refl k
 pub on_ok : {A E : Type 0} (r : Result A E) (P S Q : A → Type 0) → ((a : A) → P a → S a → Q a) → IfOk r P → IfOk r S → IfOk r Q
 on_ok (Ok a) P S Q f k l = f a k l
 on_ok (Err e) P S Q f k l = tt
+
+pub on_ok_then : {A E : Type 0} (r : Result A E) (P Q : A → Type 0) → ((a : A) → P a → Q a) → IfOk r P → IfOk r Q
+on_ok_then (Ok a) P Q f k = f a k
+on_ok_then (Err e) P Q f k = tt
 
 -- ---- what is kept
 
@@ -94,6 +98,28 @@ module _ {R : Type 0} (extent count burns : R → ℕ) (tells : Bool) (image : R
   pub seen_kept : (region : R) (l : Looked R) (k : KeptRegion R) → l ≡ Kept k → IsSeen tells extent count burns image may_leave target region l → IsSeenKept tells extent count burns image may_leave target region k.undo k.found
   seen_kept region l k is = subst (IsSeen tells extent count burns image may_leave target region) is
 
+  pub seen_blank : (region : R) (l : Looked R) (b : R) → l ≡ Blank b → IsSeen tells extent count burns image may_leave target region l → IsBlankStill tells extent count burns image may_leave region b
+  seen_blank region l b is = subst (IsSeen tells extent count burns image may_leave target region) is
+
+  -- what becomes of a blank region that was looked at becomes of it as it was
+  pub made_blank : (region back : R) → IsBlankStill tells extent count burns image may_leave region back → (p : OpenedState R) (rows : List _) → IsMade tells extent count burns image target targets back p rows → IsMade tells extent count burns image target targets region p rows
+  made_blank region back still p rows m = record {
+    size = m.size ∙ still.size;
+    later_faults = (let a = m.later_faults in let b = still.later_faults in omega (arith, a, b));
+    later_burns = (let a = m.later_burns in let b = still.later_burns in omega (arith, a, b));
+    going = m.going;
+    target_is = m.target_is;
+    targets_are = m.targets_are;
+    keeps = λ told d is. record { blank = λ _. (m.keeps told d is).blank (blank_back told); written = λ no. absurd (no (still.blank told)) };
+    stands = m.stands;
+    fresh = λ told _. subst (λ (n : ℕ). IsFresh n target targets (region_content n (image p.blocks.undo.region))) still.size (m.fresh told (blank_back told));
+    rolled = λ told no. absurd (no (still.blank told));
+  }
+    where
+      blank_back : IsTrue tells → IsBlank (extent back) (image back)
+      blank_back told =
+          subst (λ (n : ℕ). IsBlank n (image back)) (sym still.size) (subst (λ (f : Image). IsBlank (extent region) f) (sym (still.same told)) (still.blank told))
+
   module _ (region : R) (u : UndoState R) (x : ContentFound) (seen : IsSeenKept tells extent count burns image may_leave target region u x) where
     closed_then : IsTrue tells → settled (extent region) (image region) gate ≡ 0
     closed_then told = subst (λ (g : Image). g gate ≡ 0) (seen.rolled told) (seen.holds.rest told seen.kept.going).closed
@@ -117,6 +143,8 @@ module _ {R : Type 0} (extent count burns : R → ℕ) (tells : Bool) (image : R
             ∙ (ap (λ (g : Image). kept_in (kept target (extent region)) (extent region) g) (seen.rolled told) ∙ twice target (extent region) (image region) (closed_then told)));
       };
       stands = λ told. let w = found_here told in record { stored = w.stored; stands = m.attached.stands told w; entries = same ∙ w.entries };
+      fresh = λ told b. absurd (seen.unblank told b);
+      rolled = λ told no. m.attached.read told ∙ seen.rolled told;
     }
 
     pub refused_of : (why : OpenCause) → IsFoundRefused targets x why → IsTrue tells → IsRefused target targets (extent region) (image region) why
@@ -205,6 +233,10 @@ module _ {R : Type 0} (extent count burns : R → ℕ) (tells : Bool) (image : R
             written = λ no. absurd (no (blank told));
           };
           stands = λ told. let w = found_fresh told in record { stored = w.stored; stands = m.attached.stands told w; entries = same ∙ w.entries };
+          fresh = λ told b.
+              subst (λ (n : ℕ). IsFresh n target targets (region_content n (image p.blocks.undo.region))) formatted.size
+              (subst (λ (f : Image). IsFresh (extent fm) target targets (region_content (extent fm) f)) (sym (m.attached.read told ∙ rolled told)) (fresh_then told));
+          rolled = λ told no. absurd (no (blank told));
         }
           where
             keeps_nothing : IsTrue tells → kept_in (kept target (extent u.region)) (extent u.region) (image u.region) ≡ empty_durable 1

@@ -12,6 +12,7 @@ use Rattle.vos_check_base.specs.declared.refusal.CheckNo.{CheckNo}
 use Rattle.vos_check_base.specs.declared.refusal.CheckNo.TheVariants as check
 use Rattle.vos_check_region.specs.Blank.{IsBlank}
 use Rattle.vos_commits.specs.Kept.{kept_in}
+use Rattle.vos_fresh.specs.Fresh.{IsFresh}
 use Rattle.vos_pool_base.specs.Pool.{OpenedState, kept_of}
 use Rattle.vos_pool_base.specs.vos_image.Kept.{Stored, Whole, kept, read_content}
 use Rattle.vos_pool_base.specs.vos_places.Tables.{Table}
@@ -40,7 +41,8 @@ pub record StandsWith (target size : ℕ) (f : Image) (t : Table) (rows : List E
   pub stands : Stand target size f t stored
   pub entries : rows ≡ map entry_row (things stored.1)
 
--- The region became a pool of that target, of so many, which keeps what the region stood for. These entries were found in it.
+-- The region became a pool of that target, of so many, which keeps what the region stood for. These entries were found in it. What is read of it then is
+-- what a pool writes first over zeros, or what was there once its log was rolled back.
 pub record IsMade {R : Type 0} (tells : Bool) (extent count burns : R → ℕ) (image : R → Image) (target targets : ℕ) (region : R) (p : OpenedState R) (rows : List EntryRow) : Type 0 where
   pub size : extent p.blocks.undo.region ≡ extent region
   pub later_faults : count region ≤ count p.blocks.undo.region
@@ -50,6 +52,8 @@ pub record IsMade {R : Type 0} (tells : Bool) (extent count burns : R → ℕ) (
   pub targets_are : p.table.header.targets ≡ targets
   pub keeps : IsTrue tells → (d : Durable) → kept_of tells extent image p ≡ Some d → RegionKeeps target (extent region) (image region) d
   pub stands : IsTrue tells → StandsWith target (extent p.blocks.undo.region) (image p.blocks.undo.region) p.table rows
+  pub fresh : IsTrue tells → IsBlank (extent region) (image region) → IsFresh (extent region) target targets (region_content (extent region) (image p.blocks.undo.region))
+  pub rolled : IsTrue tells → (IsBlank (extent region) (image region) → ⊥) → image p.blocks.undo.region ≡ settled (extent region) (image region)
 
 -- its content is of the layout, and was made for so many targets
 pub record IsMadeFor (target size : ℕ) (f : Image) (found : ℕ) : Type 0 where
