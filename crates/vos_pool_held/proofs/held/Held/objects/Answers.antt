@@ -1,0 +1,7 @@
+use Rattle.std.proofs.Common.{◌≡◌, ◌∙◌, subst, sym}
+use Rattle.vos_pool_held.specs.Laws.{held_told}
+use Rattle.vos_store.specs.Answers.{objects_in}
+use Rattle.vos_pool_held.proofs.held.Held.objects.Goals as goal
+
+pub returns-in-Ok-clause-answer : goal.returns-in-Ok-clause-answer
+returns-in-Ok-clause-answer g c d is = subst (λ x. c.in-Ok.objects ≡ objects_in c.args.cont x) (held_told g.R.Region.count g.R.Region.burns g.R.Region.can_burn c.args.self.now (sym c.is_stopped.ensures ∙ c.if-is_stopped.false) d is) c.in-Ok.ensures
