@@ -1,0 +1,4 @@
+mod Header
+mod Fitting
+mod Standing
+mod Commits
