@@ -1,0 +1,3 @@
+pub mod Uncounted
+pub mod Clearing
+pub mod Tidied
