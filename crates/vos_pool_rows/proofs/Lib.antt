@@ -1,0 +1,3 @@
+pub mod Fused
+pub mod Keeping
+pub mod Written
