@@ -16,15 +16,16 @@ use Rattle.vos_levels.specs.Levels.{hung_root}
 use Rattle.vos_image.specs.Kept.{stored_owner}
 use Rattle.vos_image.specs.Laws.{IsOfBytes}
 use Rattle.vos_image.specs.Places.{is_bit_right}
+use Rattle.vos_image.proofs.Whole.{stands_read}
 use Rattle.vos_image.proofs.WholeStands.{read_stands}
-use Rattle.vos_check_places.proofs.vos_places.Writing.{places_stay}
+use Rattle.vos_check_places.proofs.vos_places.Writing.{places_stay, tables_read}
 use Rattle.vos_check_places.specs.vos_places.Laws.{IsRightBeyond}
-use Rattle.vos_check_places.specs.vos_places.Tables.{AreRoots}
+use Rattle.vos_check_places.specs.vos_places.Tables.{AreRoots, places_of}
 use Rattle.vos_standing.proofs.Beyond.{map_on, roots_taken}
 use Rattle.vos_standing.proofs.Standing.{fits_stay}
 use Rattle.vos_standing.specs.Standing.{content}
 use Rattle.vos_check_places.specs.Fixed.{table_of}
-use Rattle.vos_check_content.specs.Laws.{WhatIsFoundStands}
+use Rattle.vos_check_content.specs.Laws.{WhatIsFoundStands, WhatStandsIsFound}
 use Rattle.vos_check_content.specs.Region.{region_content}
 
 inside : (size : ℕ) (f : Image) (i : ℕ) → i < size → region_content size f i ≡ bytes_of f i
@@ -110,3 +111,30 @@ found_stands target size f x big low w =
         targets = sym (inside size f 13 (omega (arith, big)));
       }) s.fits;
     }
+
+-- ---- and what stands is found
+
+bits_come : (size : ℕ) (f : Image) → 323584 ≤ size → (q : ℕ) → q < 131072 → is_bit_right (content_of size (bytes_of f)) q ≡ true → is_bit_right (content_of size (region_content size f)) q ≡ true
+bits_come size f big q low h = let e = inside size f (307200 + q / 8) (omega (arith, low, big)) in subst (λ (n : ℕ). ((nat_le 1264 q && nat_lt q (min (size / 256) 131072)) || (bit_at n (q % 8) == 1)) ≡ true) (sym e) h
+
+pub stands_found : WhatStandsIsFound
+stands_found target size f t x big s =
+    let fc = region_content size f in
+    let same : shown (content_of size (bytes_of f)) ≡ shown (content_of size fc) = fun_ext (λ b. sym (same_shown size f b big)) in
+    let holds = subst (λ (m : Blocks). Holds stored_owner m x) same s.holds in
+    let roots = roots_taken (content_of size fc) x holds in
+    let beyond : IsRightBeyond size fc t.header = record {
+      map = map_on (content_of size (bytes_of f)) (content_of size fc) 0 16384 (omega arith) (bits_come size f big) s.table.map;
+      roots = subst (λ (n : ℕ). AreRoots (content_of size fc) n t.header.entries) (sym s.objects) (subst (λ (n : ℕ). AreRoots (content_of size fc) (hung_root x.0) n) (sym s.entries) roots);
+    } in
+    stands_read target size fc (places_of t) x (record {
+      places = tables_read target size fc t (places_stay target size (bytes_of f) fc t s.table (λ i below. inside size f i (omega (arith, below, big))) beyond);
+      holds = holds;
+      objects = s.objects;
+      entries = s.entries;
+      fits = fits_stay (content size f) (content_of size fc) x (record {
+        layout = ap layout_of (same_number size f 8 4 (omega (arith, big)));
+        covered = let e = same_number size f 32 8 (omega (arith, big)) in omega (arith, e);
+        targets = inside size f 13 (omega (arith, big));
+      }) s.fits;
+    })

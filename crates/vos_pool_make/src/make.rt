@@ -1,5 +1,5 @@
 // A region is opened as a pool.
-ghost use Rattle.std.specs.Prelude.{◌≡◌, ◌^◌, ◌<◌, ◌≤◌, false, IfErr, IfOk, IsTrue};
+ghost use Rattle.std.specs.Prelude.{◌≡◌, ◌^◌, ◌<◌, ◌≤◌, false, true, IfErr, IfOk, IsTrue};
 ghost use Rattle.vos_check_region.specs.Blank.{IsBlank};
 ghost use Rattle.vos_pool_make.specs.Attached.{CanBeHeld, IsFoundOf};
 ghost use Rattle.vos_pool_make.specs.Made.{IsFoundBack, IsFoundMade, IsFoundRefused, IsHandedOver, IsMade, IsRefused, LeavesUnopened};
@@ -26,12 +26,14 @@ fn open_found<R: Region>(
     kept: Kept<R>,
     target: TargetId,
     targets: u8,
+    blank: bool,
 ) -> Result<Attached<R>, OpenNo<R>>
     requires running { kept.undo.stopped ≡ false }
     requires found { IsTrue R.tells → IsFoundOf R.extent R.image target kept.undo kept.found }
     requires held { CanBeHeld R.extent target kept.undo kept.found }
     ensures made { IfOk result (λ a. IsFoundMade R.tells R.extent R.count R.burns R.image R.may_leave target targets kept.undo kept.found a.opened) }
     ensures entries { IfOk result (λ a. a.entries.items ≡ kept.found.entries.items) }
+    ensures told { IfOk result (λ a. a.blank ≡ blank) }
     ensures refused { IfErr result (λ e. IsFoundRefused targets kept.found e.cause) }
     ensures handed_back { IfErr result (λ e. IsFoundBack R.tells R.extent R.count R.burns R.may_leave kept.undo e.region e.cause) }
 {
@@ -45,7 +47,7 @@ fn open_found<R: Region>(
             },
         });
     }
-    match attach(kept, target) {
+    match attach(kept, target, blank) {
         Ok(attached) => Ok(attached),
         Err(no) => Err(OpenNo {
             region: no.region,
@@ -65,6 +67,7 @@ fn open_blank<R: Region>(
     requires small { R.extent region < 2 ^ 32 }
     requires blank { IsTrue R.tells → IsBlank (R.extent region) (R.image region) }
     ensures made { IfOk result (λ a. IsMade R.tells R.extent R.count R.burns R.image target targets region a.opened a.entries.items) }
+    ensures told { IfOk result (λ a. a.blank ≡ true) }
     ensures refused { IfErr result (λ e. IsTrue R.tells → IsRefused target targets (R.extent region) (R.image region) e.cause) }
     ensures handed_over { IfErr result (λ e. IsHandedOver R.extent R.count R.burns region e.region e.cause) }
     ensures left { IfErr result (λ e. IsTrue R.tells → LeavesUnopened R.extent R.image R.may_leave target targets region e.region) }
@@ -80,7 +83,7 @@ fn open_blank<R: Region>(
         }
     };
     match open_kept(alloc, formatted, target) {
-        Ok(kept) => open_found(kept, target, targets),
+        Ok(kept) => open_found(kept, target, targets, true),
         Err(no) => Err(OpenNo {
             region: no.region,
             cause: cause_of_check(no.cause),
@@ -105,13 +108,15 @@ pub fn open_region<R: Region>(
     requires big { 323584 ≤ R.extent region }
     requires small { R.extent region < 2 ^ 32 }
     ensures made { IfOk result (λ a. IsMade R.tells R.extent R.count R.burns R.image target targets region a.opened a.entries.items) }
+    ensures blank { IfOk result (λ a. IsTrue R.tells → a.blank ≡ true → IsBlank (R.extent region) (R.image region)) }
+    ensures written { IfOk result (λ a. IsTrue R.tells → a.blank ≡ false → IsBlank (R.extent region) (R.image region) → ⊥) }
     ensures refused { IfErr result (λ e. IsTrue R.tells → IsRefused target targets (R.extent region) (R.image region) e.cause) }
     ensures handed_over { IfErr result (λ e. IsHandedOver R.extent R.count R.burns region e.region e.cause) }
     ensures left { IfErr result (λ e. IsTrue R.tells → LeavesUnopened R.extent R.image R.may_leave target targets region e.region) }
 {
     match look(alloc, region, target) {
         Ok(Looked::Blank(blank)) => open_blank(alloc, blank, target, targets),
-        Ok(Looked::Kept(kept)) => open_found(kept, target, targets),
+        Ok(Looked::Kept(kept)) => open_found(kept, target, targets, false),
         Err(no) => Err(OpenNo {
             region: no.region,
             cause: cause_of_check(no.cause),
