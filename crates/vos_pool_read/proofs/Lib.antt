@@ -1,0 +1,4 @@
+mod Each
+mod Below
+mod Quiet
+mod AtRest
