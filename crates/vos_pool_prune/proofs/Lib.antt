@@ -1,4 +1,5 @@
 pub mod Lists
+pub mod Chosen
 pub mod Cutting
 pub mod Singles
 pub mod Partly

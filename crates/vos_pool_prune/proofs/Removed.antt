@@ -1,49 +1,23 @@
 -- Versions are removed one after another.
-use Rattle.std.proofs.Common.{◌≡◌, ℕ, ◌+◌, ◌≤◌, ◌<◌, ◌||◌, Bool, true, false, not, cond, List, [], ◌∷◌, ◌++◌, Ok, Err, Result, append-nil, append_assoc, drop, get_or, length, take, take-append-drop, refl, sym, ap, ◌∙◌, subst}
-use mathlib.Core.Bool.{beq}
-use Rattle.std.specs.Prelude.{OnOk, filter, if◌then◌else◌}
+use Rattle.std.proofs.Common.{◌≡◌, ℕ, ◌+◌, ◌≤◌, ◌<◌, ◌&&◌, ◌||◌, Bool, true, false, not, List, [], ◌∷◌, ◌++◌, Ok, Err, Result, append-nil, append_assoc, drop, get_or, length, take, refl, sym, ap, ◌∙◌, subst, arith}
+use Rattle.std.specs.Prelude.{OnOk, filter}
 use Rattle.std.specs.List.{list_any}
-use Rattle.std.proofs.lemmas.List.Elements.{filter-append, filter_more}
+use Rattle.std.proofs.lemmas.List.{take_all}
 use Rattle.base_outside.specs.Images.{Image}
 use Rattle.daos_model.specs.Changes.{with_versions}
 use Rattle.daos_model.specs.declared.durable.Durable.{Durable}
 use Rattle.daos_model.specs.declared.durable.Version.{Version}
-use Rattle.daos_model.specs.Prunes.{is_punch}
 use Rattle.pmem_alloc.specs.Blocks.{free_count}
 use Rattle.vos_pool_settle.specs.vos_pool_base.Pool.{OpenedState}
 use Rattle.vos_pool_prune.specs.Changing.{IsPartChange}
-use Rattle.vos_pool_prune.specs.Order.{is_of, those_of}
+use Rattle.vos_pool_prune.specs.Order.{chosen, is_of, those_of}
 use Rattle.vos_pool_prune.specs.Removals.{CutRemovals, without_versions}
+use Rattle.vos_pool_prune.proofs.Chosen.{those_all, those_before, those_more}
 use Rattle.vos_pool_prune.proofs.Joining.{part_as, part_of, part_stopped, part_then}
 use Rattle.vos_pool_settle.proofs.Leaving.{all_left, filter_both}
 use Rattle.vos_pool_settle.specs.Removing.{IsRemoval, goes_with, without_version}
 use Rattle.vos_pool_settle.specs.Settling.{OfItsKept}
 use Rattle.vos_store.specs.declared.refusal.Stopped.{Stopped}
-
--- ---- those of one kind
-
--- a version is of a kind where the test of both says so
-pub of_kind : (b p out : Bool) (v : Version) → p ≡ is_punch v.write → not (beq p b) ≡ out → is_of b v ≡ not out
-of_kind b p out v is test = by (is_punch v.write) b ∙ ap not (ap (λ (z : Bool). not (beq z b)) (sym is) ∙ test)
-  where
-    by : (x b : Bool) → (if b then x else not x) ≡ not (not (beq x b))
-    by true true = refl
-    by true false = refl
-    by false true = refl
-    by false false = refl
-
-pub those_more : (b : Bool) (us : List Version) (i : ℕ) (u : Version) → i < length us → u ≡ get_or us i u → is_of b u ≡ true → those_of b (take (i + 1) us) ≡ those_of b (take i us) ++ u ∷ []
-those_more b us i u low at is =
-    filter_more (is_of b) us i u low
-    ∙ (ap (λ v. those_of b (take i us) ++ cond (is_of b v) (v ∷ []) []) (sym at) ∙ ap (λ (t : Bool). those_of b (take i us) ++ cond t (u ∷ []) []) is)
-
-pub those_same : (b : Bool) (us : List Version) (i : ℕ) (u : Version) → i < length us → u ≡ get_or us i u → is_of b u ≡ false → those_of b (take (i + 1) us) ≡ those_of b (take i us)
-those_same b us i u low at is =
-    filter_more (is_of b) us i u low
-    ∙ (ap (λ v. those_of b (take i us) ++ cond (is_of b v) (v ∷ []) []) (sym at) ∙ (ap (λ (t : Bool). those_of b (take i us) ++ cond t (u ∷ []) []) is ∙ append-nil (those_of b (take i us))))
-
-pub those_all : (b : Bool) (us : List Version) (n : ℕ) → those_of b us ≡ those_of b (take n us) ++ those_of b (drop n us)
-those_all b us n = ap (those_of b) (sym (take-append-drop n us)) ∙ filter-append (is_of b) (take n us) (drop n us)
 
 -- ---- one after another
 
@@ -80,15 +54,22 @@ module _ {R : Type 0} (extent : R → ℕ) (tells : Bool) (image : R → Image) 
 
   -- ---- those of one kind
 
-  pub removed_next : (b : Bool) (us : List Version) (i : ℕ) (u : Version) (p q w : OpenedState R) (r : Result (Unit {0}) Stopped) → i < length us → u ≡ get_or us i u → is_of b u ≡ true → AreGone (those_of b (take i us)) p q (Ok (tt {0}))
-      → IsRemoval tells extent image may_leave count burns u q w r → OnOk r (OfItsKept tells extent image q (λ d. free_count q.blocks + length d.versions ≤ free_count w.blocks + length (without_version u d).versions)) → AreGone (those_of b (take (i + 1) us)) p w r
-  removed_next b us i u p q w r low at is k m gives = subst (λ (l : List Version). AreGone l p w r) (sym (those_more b us i u low at is)) (gone_then (those_of b (take i us)) (u ∷ []) p q w r k (one_gone u q w r m gives))
+  module _ (b : Bool) (ms : List Bool) (us : List Version) (i : ℕ) (each : length ms ≡ length us) where
+    pub removed_next : (u : Version) (p q w : OpenedState R) (r : Result (Unit {0}) Stopped) → i < length us → u ≡ get_or us i u → (get_or ms i false && is_of b u) ≡ true → AreGone (those_before b ms us i) p q (Ok (tt {0}))
+        → IsRemoval tells extent image may_leave count burns u q w r → OnOk r (OfItsKept tells extent image q (λ d. free_count q.blocks + length d.versions ≤ free_count w.blocks + length (without_version u d).versions)) → AreGone (those_before b ms us (i + 1)) p w r
+    removed_next u p q w r low at is k m gives = subst (λ (l : List Version). AreGone l p w r) (sym (those_more b ms us i each u true low at is)) (gone_then (those_before b ms us i) (u ∷ []) p q w r k (one_gone u q w r m gives))
 
-  pub passed_next : (b : Bool) (us : List Version) (i : ℕ) (u : Version) (p q : OpenedState R) (r : Result (Unit {0}) Stopped) → i < length us → u ≡ get_or us i u → is_of b u ≡ false → AreGone (those_of b (take i us)) p q r → AreGone (those_of b (take (i + 1) us)) p q r
-  passed_next b us i u p q r low at is k = subst (λ (l : List Version). AreGone l p q r) (sym (those_same b us i u low at is)) k
+    pub passed_next : (u : Version) (p q : OpenedState R) (r : Result (Unit {0}) Stopped) → i < length us → u ≡ get_or us i u → (get_or ms i false && is_of b u) ≡ false → AreGone (those_before b ms us i) p q r → AreGone (those_before b ms us (i + 1)) p q r
+    passed_next u p q r low at is k = subst (λ (l : List Version). AreGone l p q r) (sym (those_more b ms us i each u false low at is ∙ append-nil (those_before b ms us i))) k
 
-  pub stopped_any : (b : Bool) (us : List Version) (n : ℕ) (p w : OpenedState R) (r : Result (Unit {0}) Stopped) (z : Stopped) → r ≡ Err z → AreGone (those_of b (take n us)) p w r → AreGone (those_of b us) p w r
-  stopped_any b us n p w r z is k = gone_stopped (those_of b (take n us)) (those_of b us) (those_of b (drop n us)) p w r z is (those_all b us n) k
+    pub stopped_any : (p w : OpenedState R) (r : Result (Unit {0}) Stopped) (z : Stopped) → r ≡ Err z → AreGone (those_before b ms us i) p w r → AreGone (those_of b (chosen ms us)) p w r
+    stopped_any p w r z is k = gone_stopped (those_before b ms us i) (those_of b (chosen ms us)) (those_of b (chosen (drop i ms) (drop i us))) p w r z is (those_all b ms us i each) k
+
+    -- at the end they are all of that kind
+    pub gone_all : (p w : OpenedState R) (r : Result (Unit {0}) Stopped) → length us ≤ i → AreGone (those_before b ms us i) p w r → AreGone (those_of b (chosen ms us)) p w r
+    gone_all p w r end k =
+        subst (λ (l : List Version). AreGone (those_of b (chosen ms l)) p w r) (take_all i us end)
+        (subst (λ (l : List Bool). AreGone (those_of b (chosen l (take i us))) p w r) (take_all i ms (omega (arith, each, end))) k)
 
 -- ---- all at once
 

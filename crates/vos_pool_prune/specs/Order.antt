@@ -1,7 +1,13 @@
--- In which order versions go.
-use Rattle.std.specs.Prelude.{◌++◌, Bool, true, false, List, filter, not, if◌then◌else◌}
+-- Which versions go, and in which order.
+use Rattle.std.specs.Prelude.{◌++◌, Bool, true, false, List, [], ◌∷◌, filter, not, if◌then◌else◌}
 use Rattle.daos_model.specs.declared.durable.Version.{Version}
 use Rattle.daos_model.specs.Prunes.{is_punch}
+
+-- those whose mark is set
+abbrev pub chosen : {A : Type 0} → List Bool → List A → List A
+chosen [] xs = []
+chosen (m ∷ ms) [] = []
+chosen (m ∷ ms) (x ∷ xs) = if m then x ∷ chosen ms xs else chosen ms xs
 
 -- a version is a punch, or an update
 abbrev pub is_of : Bool → Version → Bool

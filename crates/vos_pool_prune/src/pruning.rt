@@ -1,10 +1,11 @@
 // A container of an open pool is pruned, or versions of it are discarded.
-ghost use Rattle.std.specs.Prelude.{◌≡◌, ◌≤◌, ◌+◌, true, All, OnOk, filter};
+ghost use Rattle.std.specs.Prelude.{◌≡◌, ◌≤◌, ◌+◌, true, All, OnOk, filter, length};
 ghost use Rattle.daos_model.specs.Changes.{discarded, is_in_range, pruned};
 ghost use Rattle.daos_model.specs.Prunes.{is_going};
 ghost use Rattle.pmem_alloc.specs.Blocks.{free_count};
 ghost use Rattle.vos_pool_settle.specs.vos_pool_base.Tidy.{IfTidy};
 ghost use Rattle.vos_pool_prune.specs.Changing.{IsPartChange};
+ghost use Rattle.vos_pool_prune.specs.Order.{chosen};
 ghost use Rattle.vos_pool_settle.specs.Settling.{OfItsKept};
 ghost use Rattle.vos_pool_settle.specs.vos_turns.Turns.{CanBeNamed};
 ghost use Rattle.vos_store.specs.Calls.{CutDiscard, CutPrune, going_count};
@@ -19,8 +20,8 @@ use daos_model::durable::Version;
 use vos_pool_settle::below::pool_base::opened::Opened;
 use vos_store::refusal::Stopped;
 
-/// Prunes a container up to an epoch, of which these are the versions that go. The first commit marks it, and then the
-/// versions go, each by a commit of its own, the updates before the punches.
+/// Prunes a container up to an epoch. The versions that go are those of these that are marked. The first commit notes the
+/// epoch, and then the versions go, each by a commit of its own, the updates before the punches.
 ///
 /// # Errors
 ///
@@ -32,11 +33,13 @@ pub fn prune<R: Region>(
     upto: Epoch,
     number: u32,
     versions: &[Version],
+    marks: &[bool],
 ) -> (Opened<R>, Result<(), Stopped>)
     requires named { All CanBeNamed versions.now }
+    requires each { length marks.now ≡ length versions.now }
     requires tidy { IfTidy R.tells R.extent R.image opened }
     requires here { OfItsKept R.tells R.extent R.image opened (CanPrune cont upto) }
-    requires all { OfItsKept R.tells R.extent R.image opened (λ d. versions.now ≡ filter (is_going cont upto d.versions d.snaps) d.versions) }
+    requires all { OfItsKept R.tells R.extent R.image opened (λ d. chosen marks.now versions.now ≡ filter (is_going cont upto d.versions d.snaps) d.versions) }
     ensures pruned { IsPartChange R.tells R.extent R.image R.may_leave R.count R.burns (pruned cont upto number) (CutPrune cont upto number) opened result.0 result.1 }
     ensures space { OnOk result.1 (OfItsKept R.tells R.extent R.image opened (λ d. free_count opened.blocks + going_count cont upto d ≤ free_count result.0.blocks)) }
 {
@@ -46,11 +49,11 @@ pub fn prune<R: Region>(
     if marked.is_err() {
         return (opened, marked);
     }
-    remove_versions(opened, versions)
+    remove_versions(opened, versions, marks)
 }
 
-/// Discards the versions of a container whose epochs lie in a range, which are these, and which are done. Each goes by a
-/// commit of its own, the updates before the punches.
+/// Discards the versions of a container whose epochs lie in a range: those of these that are marked, and that are done.
+/// Each goes by a commit of its own, the updates before the punches.
 ///
 /// # Errors
 ///
@@ -62,13 +65,15 @@ pub fn discard<R: Region>(
     lo: Epoch,
     hi: Epoch,
     versions: &[Version],
+    marks: &[bool],
 ) -> (Opened<R>, Result<(), Stopped>)
     requires named { All CanBeNamed versions.now }
+    requires each { length marks.now ≡ length versions.now }
     requires tidy { IfTidy R.tells R.extent R.image opened }
-    requires done { All (λ v. v.done ≡ true) versions.now }
-    requires all { OfItsKept R.tells R.extent R.image opened (λ d. versions.now ≡ filter (is_in_range cont lo hi) d.versions) }
+    requires done { All (λ v. v.done ≡ true) (chosen marks.now versions.now) }
+    requires all { OfItsKept R.tells R.extent R.image opened (λ d. chosen marks.now versions.now ≡ filter (is_in_range cont lo hi) d.versions) }
     ensures { IsPartChange R.tells R.extent R.image R.may_leave R.count R.burns (discarded cont lo hi) (CutDiscard cont lo hi) opened result.0 result.1 }
 {
     let _size = opened.blocks.size();
-    remove_versions(opened, versions)
+    remove_versions(opened, versions, marks)
 }

@@ -1,9 +1,9 @@
 // Versions go from an open pool, one after another.
-ghost use Rattle.std.specs.Prelude.{◌≡◌, false, All};
+ghost use Rattle.std.specs.Prelude.{◌≡◌, ◌&&◌, false, All, length};
 ghost use Rattle.daos_model.specs.Prunes.{is_punch};
 ghost use Rattle.vos_pool_settle.specs.vos_pool_base.Tidy.{IfTidy};
 ghost use Rattle.vos_pool_prune.specs.Changing.{IsPartChange};
-ghost use Rattle.vos_pool_prune.specs.Order.{in_turn, those_of};
+ghost use Rattle.vos_pool_prune.specs.Order.{chosen, in_turn, is_of, those_of};
 ghost use Rattle.vos_pool_prune.specs.Removals.{CutRemovals, without_versions};
 ghost use Rattle.vos_pool_settle.specs.vos_turns.Turns.{CanBeNamed};
 
@@ -24,20 +24,30 @@ fn is_punch(version: &Version) -> bool
     )
 }
 
-// Of some versions removes the punches, or the updates, each by a commit of its own.
+// Whether a version that is marked, or isn't, is one of the punches that go, or of the updates.
+fn is_one_of(version: &Version, marked: bool, punches: bool) -> bool
+    ensures { result ≡ (marked && is_of punches version.now) }
+{
+    marked && is_punch(version) == punches
+}
+
+// Of the versions that are marked removes the punches, or the updates, each by a commit of its own.
 fn remove_those<R: Region>(
     opened: Opened<R>,
     versions: &[Version],
+    marks: &[bool],
     punches: bool,
 ) -> (Opened<R>, Result<(), Stopped>)
     requires named { All CanBeNamed versions.now }
+    requires each { length marks.now ≡ length versions.now }
     requires tidy { IfTidy R.tells R.extent R.image opened }
     requires running { opened.blocks.undo.stopped ≡ false }
-    ensures { IsPartChange R.tells R.extent R.image R.may_leave R.count R.burns (without_versions (those_of punches versions.now)) (CutRemovals (those_of punches versions.now)) opened result.0 result.1 }
+    ensures { IsPartChange R.tells R.extent R.image R.may_leave R.count R.burns (without_versions (those_of punches (chosen marks.now versions.now))) (CutRemovals (those_of punches (chosen marks.now versions.now))) opened result.0 result.1 }
 {
     let mut opened = opened;
-    for version in versions {
-        if is_punch(version) != punches {
+    for i in 0..versions.len() {
+        let version = &versions[i];
+        if !is_one_of(version, marks[i], punches) {
             continue;
         }
         let (next, removed) = remove_version(opened, version);
@@ -49,8 +59,8 @@ fn remove_those<R: Region>(
     (opened, Ok(()))
 }
 
-/// Removes versions that are done, each by a commit of its own, which gives back a block at least. The updates go first,
-/// and then the punches, both in the order given. A version that isn't done stays.
+/// Removes the versions that are marked and done, each by a commit of its own, which gives back a block at least. The
+/// updates go first, and then the punches, both in the order given. A version that isn't done stays.
 ///
 /// # Errors
 ///
@@ -59,17 +69,19 @@ fn remove_those<R: Region>(
 pub fn remove_versions<R: Region>(
     opened: Opened<R>,
     versions: &[Version],
+    marks: &[bool],
 ) -> (Opened<R>, Result<(), Stopped>)
     requires named { All CanBeNamed versions.now }
+    requires each { length marks.now ≡ length versions.now }
     requires tidy { IfTidy R.tells R.extent R.image opened }
-    ensures { IsPartChange R.tells R.extent R.image R.may_leave R.count R.burns (without_versions (in_turn versions.now)) (CutRemovals (in_turn versions.now)) opened result.0 result.1 }
+    ensures { IsPartChange R.tells R.extent R.image R.may_leave R.count R.burns (without_versions (in_turn (chosen marks.now versions.now))) (CutRemovals (in_turn (chosen marks.now versions.now))) opened result.0 result.1 }
 {
     if opened.blocks.is_stopped() {
         return (opened, Err(Stopped));
     }
-    let (opened, updates) = remove_those(opened, versions, false);
+    let (opened, updates) = remove_those(opened, versions, marks, false);
     if updates.is_err() {
         return (opened, updates);
     }
-    remove_those(opened, versions, true)
+    remove_those(opened, versions, marks, true)
 }

@@ -1,6 +1,7 @@
 use Rattle.std.proofs.Common.{Result, subst}
 use Rattle.daos_model.specs.Changes.{marked}
 use Rattle.pmem_undo.specs.Undo.{IsUndo}
+use Rattle.vos_pool_prune.specs.Order.{chosen}
 use Rattle.vos_pool_prune.proofs.Pruned.{prune_space, prunes, stopped_mark}
 use Rattle.vos_pool_settle.proofs.Leaving.{was_err, was_ok}
 use Rattle.vos_pool_settle.specs.Changing.{IsTidyChange}
@@ -22,7 +23,7 @@ remove_versions-requires-clause-tidy g c =
 pub returns-clause-pruned : goal.returns-clause-pruned
 returns-clause-pruned g c =
     prunes g.R.Region.extent g.R.Region.tells g.R.Region.image g.R.Region.may_leave g.R.Region.count g.R.Region.burns c.args.opened c.requires.tidy (λ told. subst (λ p. IsUndo (g.R.Region.extent p.blocks.undo.region) g.R.Region.tells (g.R.Region.image p.blocks.undo.region) (g.R.Region.may_leave p.blocks.undo.region) p.blocks.undo.staged p.blocks.undo.stopped) c.opened.view_is c.size-size.ensures.undo_holds)
-    c.args.versions.now c.remove_versions.result.0 c.remove_versions.result.1 c.args.cont c.args.upto c.args.number c.mark-marked.new.opened c.requires.all
+    (chosen c.args.marks.now c.args.versions.now) c.remove_versions.result.0 c.remove_versions.result.1 c.args.cont c.args.upto c.args.number c.mark-marked.new.opened c.requires.all
     (subst (λ (r : Result (Unit {0}) Stopped). IsTidyChange g.R.Region.tells g.R.Region.extent g.R.Region.image g.R.Region.may_leave g.R.Region.count g.R.Region.burns (marked c.args.cont c.args.upto c.args.number) c.args.opened c.mark-marked.new.opened r) (was_ok c.mark-marked.result c.is_err.result c.is_err.ensures.value c.if-is_err.false) c.mark-marked.ensures.marked) c.mark-marked.ensures.free c.remove_versions.ensures
 
 pub returns-clause-space : goal.returns-clause-space
