@@ -18,7 +18,7 @@ module _ {R : Type 0} (extent : R → ℕ) (tells : Bool) (image : R → Image) 
   abbrev f : Image
   f = image p.blocks.undo.region
 
-  free_is : IsTrue tells → p.blocks.undo.stopped ≡ false → free_count p.blocks ≡ free_at size f
+  pub free_is : IsTrue tells → p.blocks.undo.stopped ≡ false → free_count p.blocks ≡ free_at size f
   free_is tell going =
       let here : free_of p.blocks.map ≡ free_blocks size f = held.stored tell going ∙ ap (λ (rs : List Range). free_blocks size (all_over rs f)) opened.unstaged in
       ap (λ (s : Set). count_below s p.blocks.map.end) here ∙ ap (λ (n : ℕ). count_below (free_blocks size f) n) held.end
