@@ -1,0 +1,5 @@
+mod Named
+mod Knowing
+mod After
+mod Preparing
+mod Going
