@@ -1,0 +1,4 @@
+// A closed pool is opened again.
+#![tactic(auto)]
+
+pub mod again;
