@@ -1,0 +1,4 @@
+pub mod Sites
+pub mod Fused
+pub mod Reopened
+pub mod Begun
