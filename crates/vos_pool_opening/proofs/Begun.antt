@@ -1,5 +1,5 @@
 -- What an opening comes to, by the pool that the region became.
-use Rattle.std.specs.Prelude.{◌≡◌, ◌⊎◌, ◌≤◌, ℕ, Bool, true, false, IfErr, IfOk, IsTrue, List, OnOk, Ok, Err, Option, Result, Some, None, cond}
+use Rattle.std.specs.Prelude.{◌≡◌, ◌⊎◌, ◌≤◌, ℕ, Bool, true, false, IfErr, IfOk, IsTrue, List, OnOk, Ok, Err, Result, Some, cond}
 use Rattle.std.specs.Option.{option_map}
 use Rattle.std.proofs.Common.{inl, inr, refl, sym, ap, subst, ◌∙◌, arith}
 use mathlib.Core.Path.{fun_ext}
@@ -8,23 +8,21 @@ use Rattle.base_outside.specs.Images.{Image}
 use Rattle.base_outside.specs.declared.region.Region.{Ghosts}
 use Rattle.daos_model.specs.BoolLaws.{clash}
 use Rattle.daos_model.specs.declared.durable.Durable.{Durable}
-use Rattle.daos_model.specs.Durables.{empty_durable}
 use Rattle.pmem_alloc.specs.Blocks.{free_count}
 use Rattle.pmem_undo.specs.Layout.{SameContent, gate, is_content}
 use Rattle.pmem_undo.specs.Settled.{IsAtRest, IsAttachable, settled}
 use Rattle.vos_check_entries.specs.declared.entry.EntryRow.{EntryRow}
 use Rattle.vos_check_region.specs.Blank.{IsBlank}
 use Rattle.vos_commits.specs.Kept.{content_of, kept_in}
-use Rattle.vos_pool_held.specs.State.{held_durable}
 use Rattle.vos_pool_held.specs.declared.held.Held.{Held}
-use Rattle.vos_pool_held.specs.vos_pool_base.Pool.{OpenedState, kept_by, kept_of, may_of}
+use Rattle.vos_pool_held.specs.vos_pool_base.Pool.{OpenedState, kept_by, kept_of}
 use Rattle.vos_pool_held.specs.vos_pool_base.vos_image.Kept.{kept}
-use Rattle.vos_pool_make.specs.Made.{IsHandedOver, IsMade, IsRefused, LeavesUnopened, RegionKeeps, StandsWith, has_stopped}
+use Rattle.vos_pool_make.specs.Made.{IsMade, IsRefused, LeavesUnopened, StandsWith, has_stopped}
 use Rattle.vos_pool_make.specs.declared.cause.OpenCause.{OpenCause}
 use Rattle.vos_pool_make.specs.declared.cause.OpenCause.TheVariants as cause
 use Rattle.vos_pool_opening.proofs.Ways.{rises-before, some-fewer}
 use Rattle.vos_pool_opening.specs.Beginning.{begun}
-use Rattle.vos_pool_opening.specs.Opening.{HasBegun, HasNotBegun, IsBackOf, IsBegunOf, IsGivenUp, IsLack, LeavesOn, StandsOn}
+use Rattle.vos_pool_opening.specs.Opening.{HasBegun, HasNotBegun, IsBackOf, IsBegunOf, IsGivenUp, IsLack, LeavesOn}
 use Rattle.vos_pool_held.specs.vos_pool_base.vos_standing.Standing.{Stand}
 use Rattle.vos_pool_opening.specs.Tidied.{StandsThere}
 use Rattle.vos_pool_opening.specs.Ways.{IsWay}

@@ -1,5 +1,5 @@
 -- The steps of an opening make its way.
-use Rattle.std.specs.Prelude.{◌≡◌, ◌⊎◌, ◌≤◌, ◌+◌, ℕ, Bool, true, false, IsTrue, Ok, Err, OnErr, OnOk, Result, Some, is_err}
+use Rattle.std.specs.Prelude.{◌≡◌, ◌⊎◌, ◌≤◌, ℕ, Bool, true, false, Ok, Err, OnErr, OnOk, Result, is_err}
 use Rattle.std.specs.Option.{option_map}
 use Rattle.std.proofs.Common.{inl, inr, refl, sym, ap, subst, ◌∙◌, arith}
 use Rattle.base_outside.specs.Causes.{Rose}

@@ -4,7 +4,6 @@ use Rattle.std.specs.Option.{option_map}
 use Rattle.base_outside.specs.Images.{Image}
 use Rattle.base_outside.specs.declared.region.Region.{Ghosts}
 use Rattle.base_types.specs.Epochs.{restart_floor}
-use Rattle.daos_model.specs.declared.durable.Durable.{Durable}
 use Rattle.daos_model.specs.Durables.{empty_durable}
 use Rattle.pmem_alloc.specs.Blocks.{free_count}
 use Rattle.pmem_alloc.specs.Map.{blocks_end, free_blocks}

@@ -1,5 +1,5 @@
 -- What an opening has made so far of an open pool.
-use Rattle.std.specs.Prelude.{◌≡◌, ◌⊎◌, ◌≤◌, ℕ, Bool, true, IsTrue, Some}
+use Rattle.std.specs.Prelude.{◌≡◌, ◌⊎◌, ◌≤◌, ℕ, Bool, true, Some}
 use Rattle.std.specs.Option.{option_map}
 use Rattle.base_outside.specs.Causes.{Rose}
 use Rattle.base_outside.specs.Images.{Image}

@@ -19,7 +19,6 @@ use Rattle.vos_turns.specs.declared.entries.EntryStep.{EntryStep}
 use Rattle.vos_turns.specs.vos_image.Places.{Places}
 use Rattle.vos_keeping.specs.vos_places.Tables.{Table}
 
-
 abbrev Rises : ℕ → ℕ → ℕ → ℕ → Type 0
 Rises faults faults' burns burns' = Rose faults faults' ⊎ Rose burns burns'
 

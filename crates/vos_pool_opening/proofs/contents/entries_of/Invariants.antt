@@ -1,4 +1,4 @@
-use Rattle.std.proofs.Common.{◌≡◌, ◌-◌, length}
+use Rattle.std.proofs.Common.{◌≡◌}
 use Rattle.std.specs.Prelude.{take}
 use Rattle.vos_counting.specs.Counting.{entries_of}
 use Rattle.vos_pool_opening.proofs.contents.entries_of.Given as goal

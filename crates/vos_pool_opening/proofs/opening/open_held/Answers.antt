@@ -1,5 +1,4 @@
-use Rattle.std.specs.Prelude.{IfErr}
-use Rattle.std.proofs.Common.{refl, sym, subst}
+use Rattle.std.proofs.Common.{sym, subst}
 use Rattle.vos_pool_opening.proofs.Begun.{begun-of, err-is, given-back, given-up-then, if-err, if-ok, ok-is, refused-leaves, stands-there}
 use Rattle.vos_pool_opening.specs.Opening.{IsLack}
 use Rattle.vos_pool_opening.proofs.opening.open_held.Goals as goal

@@ -1,5 +1,5 @@
 use Rattle.std.specs.Prelude.{Err}
-use Rattle.std.proofs.Common.{rules, ap, sym, ◌∙◌}
+use Rattle.std.proofs.Common.{rules, ap, ◌∙◌}
 use Rattle.vos_pool_opening.proofs.Begun.{ok-is, ok-was}
 use Rattle.vos_pool_opening.proofs.Finding.{found-in}
 use Rattle.vos_pool_steps.proofs.Steps.{quiet-follows}
